@@ -1,0 +1,55 @@
+-- The laws of normalising and of turns.
+-- `normal-step`, `normal-stop`, `normal-zero` one step of normalising · `turns-suc`, `turns-zero`, `turns-three` turns · `turn30-twice` the 30 degree rule twice.
+-- Assumes nothing.
+use mathlib.Core.Path.{_≡_, refl, _∙_}
+use mathlib.Core.Bool.{true, false, _&&_}
+use Prim.Native.Nat.{ℕ, zero, suc, _+_, _<_, _-_}
+use native.Mathlib.Omega.{arith}
+use lib.IntN.{ℤ, negℤ, pos, _+ℤ_, _*ℤ_, *ℤ-comm}
+use lib.Signed.{quotZ}
+use native.Mathlib.Numerals.{add-one}
+use Rattle.laws.specs.Linear.{same, ‵, _⊕_, _⊝_, ⊟, _⊗_}
+use Rattle.lattice.specs.Points.{pt, by3, normalOf, turn60Of, turn30Of, turns}
+use Rattle.lattice.specs.declared.points.Point.{Point}
+
+pub normal-step : (a b : ℤ) (d : ℕ) → 0 < d → by3 a && by3 b ≡ true → normalOf (quotZ a (pos 3)) (quotZ b (pos 3)) (d - 1) ≡ normalOf a b d
+unfolding normalOf
+normal-step a b zero h e = absurd (omega arith)
+normal-step a b (suc d) h e = let p : suc d - 1 ≡ d = omega arith in rw (p, e)
+
+pub normal-stop : (a b : ℤ) (d : ℕ) → by3 a && by3 b ≡ false → pt a b d ≡ normalOf a b d
+unfolding normalOf
+normal-stop a b zero e = refl
+normal-stop a b (suc d) e = rw e
+
+pub normal-zero : (a b : ℤ) → pt a b 0 ≡ normalOf a b 0
+unfolding normalOf
+normal-zero a b = refl
+
+pub turns-suc : (k : ℕ) (p : Point) → turn60Of (turns k p) ≡ turns (k + 1) p
+unfolding turns
+turns-suc k p = rw (add-one k)
+
+pub turns-zero : (p : Point) → p ≡ turns 0 p
+unfolding turns
+turns-zero p = refl
+
+-- three turns are a half turn
+pub turns-three : (p : Point) → turns 3 p ≡ pt (negℤ (p .a)) (negℤ (p .b)) (p .m .0)
+unfolding turns
+turns-three p =
+    let a = ‵ (p .a) in
+    let b = ‵ (p .b) in
+    let e₁ = ⊟ b in let f₁ = a ⊕ b in
+    let e₂ = ⊟ f₁ in let f₂ = e₁ ⊕ f₁ in
+    let e₃ = ⊟ f₂ in let f₃ = e₂ ⊕ f₂ in
+    λ i. pt (same e₃ (⊟ a) (omega arith) i) (same f₃ (⊟ b) (omega arith) i) (p .m .0)
+
+-- the 30 degree rule twice is a turn of 60 degrees, and a third
+pub turn30-twice : (p : Point) → turn30Of (turn30Of p) ≡ pt (negℤ (p .b) *ℤ pos 3) ((p .a +ℤ p .b) *ℤ pos 3) (p .m .0 + 1 + 1)
+turn30-twice p =
+    let a = ‵ (p .a) in
+    let b = ‵ (p .b) in
+    let e₁ = a ⊝ b in let f₁ = a ⊕ 2 ⊗ b in
+    let e₂ = e₁ ⊝ f₁ in let f₂ = e₁ ⊕ 2 ⊗ f₁ in
+    λ i. pt ((same e₂ (3 ⊗ ⊟ b) (omega arith) ∙ *ℤ-comm (pos 3) (negℤ (p .b))) i) ((same f₂ (3 ⊗ (a ⊕ b)) (omega arith) ∙ *ℤ-comm (pos 3) (p .a +ℤ p .b)) i) (p .m .0 + 1 + 1)

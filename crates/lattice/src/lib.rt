@@ -1,0 +1,16 @@
+// Exact points of the plane and the stars round them, usable without any mesh: document 01, "Points", "Records", "The twelve directions".
+//
+// Two public calls answer every input: `normalise` and `star`. The other functions serve the proved floors above and ask for bounds.
+// The promises cite specs/: Points, Records, Patterns, Stars, and Ranks for the model of grown meshes.
+mod points;
+mod records;
+
+pub use points::Depth;
+pub use points::Point;
+pub use points::normalise;
+pub use points::sum;
+pub use points::turn30;
+pub use points::turn60;
+pub use records::Level;
+pub use records::Record;
+pub use records::valid;

@@ -1,0 +1,130 @@
+// A point [a, b, m] is (a + bw)/3^m, where w turns by 60 degrees: whole numbers over a power of three.
+ghost use mathlib.Core.Path.{_≡_};
+ghost use mathlib.Core.Bool.{_&&_};
+ghost use Prim.Native.Nat.{_+_, _*_, _^_, _≤_, _<_, max};
+ghost use lib.IntN.{natAbs, _+ℤ_, _*ℤ_, pos};
+ghost use Rattle.lattice.specs.Points.{by3, normalOf, turn60Of, turn30Of, turns, sumOf};
+ghost use Rattle.lattice.specs.Bounds.{Small, Hex};
+
+// How often the denominator holds the factor 3. It belongs to a point and never changes.
+pub struct Depth(pub u8);
+
+pub struct Point {
+    pub a: i32,
+    pub b: i32,
+    pub m: Depth,
+}
+
+// 3 divides both.
+pub fn both3(x: i32, y: i32) -> bool
+    ensures { λ r. ⌜ r ≡ by3 x && by3 y ⌝ }
+{
+    x % 3 == 0 && y % 3 == 0
+}
+
+// The one written form of (a + bw)/3^m: of any numbers, the normalised point.
+pub fn normalise(a: i32, b: i32, m: u8) -> Point
+    ensures { λ r. ⌜ r ≡ normalOf a b m ⌝ }
+{
+    let mut x = a;
+    let mut y = b;
+    let mut d = m;
+    while 0 < d {
+        if both3(x, y) {
+            x = x / 3;
+            y = y / 3;
+            d = d - 1;
+        } else {
+            return Point {
+                a: x,
+                b: y,
+                m: Depth(d),
+            };
+        }
+    }
+    Point {
+        a: x,
+        b: y,
+        m: Depth(0),
+    }
+}
+
+// Turned by 60 degrees.
+pub fn turn60(p: Point) -> Point
+    requires { ⌜ (natAbs (p .a) ≤ 1000000) × (natAbs (p .b) ≤ 1000000) ⌝ }
+    ensures { λ r. ⌜ r ≡ turn60Of p ⌝ }
+{
+    let m = p.m;
+    Point {
+        a: -p.b,
+        b: p.a + p.b,
+        m,
+    }
+}
+
+// Turned by 30 degrees and shrunk by the square root of 3.
+pub fn turn30(p: Point) -> Point
+    requires { ⌜ (natAbs (p .a) ≤ 1000000) × ((natAbs (p .b) ≤ 1000000) × (p .m .0 < 255)) ⌝ }
+    ensures { λ r. ⌜ r ≡ turn30Of p ⌝ }
+{
+    let m = p.m.0;
+    Point {
+        a: p.a - p.b,
+        b: p.a + 2 * p.b,
+        m: Depth(m + 1),
+    }
+}
+
+// Turned by 60 degrees k times.
+pub fn turned(p: Point, k: u8) -> Point
+    requires { ⌜ Hex 10 p ⌝ }
+    ensures { λ r. ⌜ r ≡ turns k p ⌝ }
+{
+    let mut q = p;
+    let mut i: u8 = 0;
+    while i < k {
+        q = turn60(q);
+        i = i + 1;
+    }
+    q
+}
+
+const POWERS: [i32; 8] = [1, 3, 9, 27, 81, 243, 729, 2187];
+
+// 3 to the k.
+fn power(k: u8) -> i32
+    requires { ⌜ k < 8 ⌝ }
+    ensures { λ r. ⌜ r ≡ pos (3 ^ k) ⌝ }
+{
+    let i = k as usize;
+    POWERS[i]
+}
+
+fn deeper(m: u8, n: u8) -> u8
+    ensures { λ r. ⌜ r ≡ max m n ⌝ }
+{
+    if m < n { n } else { m }
+}
+
+// x times s, and y times t, together.
+fn mix(x: i32, s: i32, y: i32, t: i32) -> i32
+    requires { ⌜ natAbs x * natAbs s + natAbs y * natAbs t < 2147483648 ⌝ }
+    ensures { λ r. ⌜ r ≡ x *ℤ s +ℤ y *ℤ t ⌝ }
+{
+    x * s + y * t
+}
+
+// The sum of two points, normalised.
+pub fn sum(p: Point, q: Point) -> Point
+    requires { ⌜ Small p × Small q ⌝ }
+    ensures { λ r. ⌜ r ≡ sumOf p q ⌝ }
+{
+    let m = p.m.0;
+    let n = q.m.0;
+    let d = deeper(m, n);
+    let s = power(d - m);
+    let t = power(d - n);
+    let a = mix(p.a, s, q.a, t);
+    let b = mix(p.b, s, q.b, t);
+    normalise(a, b, d)
+}

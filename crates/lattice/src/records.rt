@@ -1,0 +1,103 @@
+// The six fields of a vertex, and which of them document 01 calls valid.
+ghost use mathlib.Core.Path.{_≡_};
+ghost use Prim.Native.Nat.{_≤_};
+ghost use lib.IntN.{natAbs};
+ghost use Rattle.lattice.specs.Points.{normalAt};
+ghost use Rattle.lattice.specs.Records.{within, orientationsOf, suitsOf, validAt, validOf};
+use crate::points::Point;
+use crate::points::both3;
+
+// The level of a star. It belongs to the star and may rise; a depth is no level.
+pub struct Level(pub u8);
+
+// A vertex: its point, degree, orientation and level. Degree 0 marks a boundary vertex.
+pub struct Record {
+    pub at: Point,
+    pub d: u8,
+    pub k: u8,
+    pub n: Level,
+}
+
+// The size of a number, without its sign: i64 holds that of the least i32 too.
+fn size(x: i32) -> u64
+    ensures { λ r. ⌜ r ≡ natAbs x ⌝ }
+{
+    let w = x as i64;
+    if w < 0 { (-w) as u64 } else { w as u64 }
+}
+
+// The most that a numerator may be, at each depth: 251 times a power of 3.
+const RANGE: [u64; 7] = [251, 753, 2259, 6777, 20331, 60993, 182979];
+
+// A numerator of depth m lies in a record's range.
+fn in_range(x: i32, m: u8) -> bool
+    requires { ⌜ m ≤ 6 ⌝ }
+    ensures { λ r. ⌜ r ≡ within x m ⌝ }
+{
+    let i = m as usize;
+    size(x) <= RANGE[i]
+}
+
+// [a, b, m] is normalised.
+fn is_normal(a: i32, b: i32, m: u8) -> bool
+    ensures { λ r. ⌜ r ≡ normalAt a b m ⌝ }
+{
+    if m == 0 {
+        return true;
+    }
+    !both3(a, b)
+}
+
+// How many orientations a degree has: none where no star has it.
+fn orientations(d: u8) -> u8
+    ensures { λ r. ⌜ r ≡ orientationsOf d ⌝ }
+{
+    match d {
+        3 => 4,
+        4 => 12,
+        5 => 12,
+        6 => 2,
+        _ => 0,
+    }
+}
+
+// Degree, orientation and level go together.
+fn suits(d: u8, k: u8, n: u8) -> bool
+    ensures { λ r. ⌜ r ≡ suitsOf d k n ⌝ }
+{
+    if d == 0 {
+        return k == 0 && n == 0;
+    }
+    if orientations(d) <= k {
+        return false;
+    }
+    if 12 < n {
+        return false;
+    }
+    k % 2 == n % 2
+}
+
+fn valid_at(a: i32, b: i32, m: u8, d: u8, k: u8, n: u8) -> bool
+    ensures { λ s. ⌜ s ≡ validAt a b m d k n ⌝ }
+{
+    if !is_normal(a, b, m) {
+        return false;
+    }
+    if 6 < m {
+        return false;
+    }
+    if !in_range(a, m) {
+        return false;
+    }
+    if !in_range(b, m) {
+        return false;
+    }
+    suits(d, k, n)
+}
+
+// Whether a record is valid.
+pub fn valid(r: Record) -> bool
+    ensures { λ s. ⌜ s ≡ validOf r ⌝ }
+{
+    valid_at(r.at.a, r.at.b, r.at.m.0, r.d, r.k, r.n.0)
+}

@@ -1,0 +1,1 @@
+// No function: laws that every floor cites. specs/Lib.antt is the index.
