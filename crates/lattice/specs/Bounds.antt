@@ -3,7 +3,7 @@
 -- near 0, are small.
 -- Assumes nothing.
 use mathlib.Core.Path.{_≡_, sym, _∙_, ap, subst}
-use Prim.Native.Nat.{ℕ, zero, suc, _+_, _*_, _≤_, _-_, _^_}
+use Prim.Native.Nat.{ℕ, zero, suc, _+_, _*_, _≤_, _-_, _^_, _/_}
 use native.Mathlib.Omega.{arith}
 use lib.IntN.{ℤ, pos, _+ℤ_, natAbs}
 use native.Mathlib.Nat.{mul-assoc, mul-one, le-trans, lt-of-le-of-lt, mul-le-mul, mul-le-mul-right, mul-le-mul-left, one-le-pow, pow-le-pow-right}
@@ -13,8 +13,9 @@ use lib.Dec.{lit≤, lit<}
 use lib.Pow.{pow-add}
 use Rattle.laws.specs.Sizes.{abs-add, abs-neg, abs-sub, fits}
 use Rattle.laws.specs.Linear.{same, ‵, _⊕_, _⊝_, ⊟, _⊗_}
-use Rattle.lattice.specs.Points.{turn60Of, turn30Of, turns}
+use Rattle.lattice.specs.Points.{turn60Of, turn30Of, turns, pt}
 use Rattle.lattice.specs.declared.points.Point.{Point}
+use Rattle.lattice.specs.declared.records.Level.{Level}
 
 -- a point whose numerators, brought to depth 7, are small enough that a sum of two fits
 pub record Small (p : Point) : Type 0 where
@@ -93,3 +94,11 @@ range-small n m d h =
 
 pub small-range : (p : Point) → p .m .0 ≤ 6 → natAbs (p .a) ≤ 251 * 3 ^ p .m .0 → natAbs (p .b) ≤ 251 * 3 ^ p .m .0 → Small p
 small-range p d a b = record { depth = omega arith; wide = range-small (natAbs (p .a)) (p .m .0) d a; high = range-small (natAbs (p .b)) (p .m .0) d b }
+
+-- a pattern point at a level, near enough to 0 that a step by it can be taken
+pub record Near (n : Level) (p : Point) : Type 0 where
+  pub hex : Hex 10 p
+  pub depth : p .m .0 + n .0 / 2 ≤ 7
+
+pub near-small : (n : Level) {p : Point} → Near n p → Small (pt (p .a) (p .b) (p .m .0 + n .0 / 2))
+near-small n {p} h = small-near _ (record { a = h .hex .a; b = h .hex .b; c = h .hex .c }) (h .depth)

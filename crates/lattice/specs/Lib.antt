@@ -1,5 +1,16 @@
--- Document 01 in antt: Points, Records. What their definitions obey: PointLaws, Bounds.
+-- Document 01 in antt: Points, Records, Patterns, Stars, Subdivision; Ranks is ours, for the model of grown meshes.
 pub mod Points
 pub mod Records
+pub mod Patterns
+pub mod Stars
+pub mod Subdivision
+pub mod Ranks
+pub mod Examples
+-- what they obey
 pub mod PointLaws
 pub mod Bounds
+pub mod RecordLaws
+pub mod Flat
+pub mod PatternLaws
+pub mod StarLaws
+pub mod Places

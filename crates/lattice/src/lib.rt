@@ -2,9 +2,12 @@
 //
 // Two public calls answer every input: `normalise` and `star`. The other functions serve the proved floors above and ask for bounds.
 // The promises cite specs/: Points, Records, Patterns, Stars, and Ranks for the model of grown meshes.
+mod patterns;
 mod points;
 mod records;
+mod stars;
 
+pub use patterns::Spot;
 pub use points::Depth;
 pub use points::Point;
 pub use points::normalise;
@@ -14,3 +17,10 @@ pub use points::turn60;
 pub use records::Level;
 pub use records::Record;
 pub use records::valid;
+pub use stars::Answer;
+pub use stars::adjacent_of;
+pub use stars::first_of;
+pub use stars::refuse;
+pub use stars::second_of;
+pub use stars::star;
+pub use stars::stepped;

@@ -81,3 +81,7 @@ mutual
 -- what a test says at each number below n, where antt finds it so: `rule n f tt k h`
 pub rule : (n : ℕ) (f : ℕ → Test) → T (upto n (λ k. run (f k))) → (k : ℕ) → k < n → Means (f k)
 rule n f t k h = sound (f k) (upto-at n (λ k. run (f k)) t k h)
+
+-- the same at each pair of numbers below m and n
+pub rule2 : (m n : ℕ) (f : ℕ → ℕ → Test) → T (upto m (λ j. upto n (λ k. run (f j k)))) → (j : ℕ) → j < m → (k : ℕ) → k < n → Means (f j k)
+rule2 m n f t j g k h = rule n (f j) (upto-at m (λ j. upto n (λ k. run (f j k))) t j g) k h
