@@ -1,5 +1,5 @@
 -- Document 01, "Subdivision of v (d 6, orientation k, level n)", record by record: what becomes of v, of its old adjacent vertices, and what enters.
--- No mesh is needed to say it; the floor `mesh` says where these records stand. `centreOf`, `newOf`, `backOf`, `updateOf` · `acceptsOf` the part of "Torn" that one record decides.
+-- No mesh is needed to say it; the floor `mesh` says where these records stand. `centreOf`, `bornOf`, `newOf`, `backOf`, `updateOf` · `acceptsOf` the part of "Torn" that one record decides.
 -- Assumes nothing.
 use mathlib.Core.Bool.{Bool, true, false, cond, _&&_, _||_}
 use Prim.Native.Nat.{ℕ, _+_, _*_, _%_}
@@ -11,9 +11,13 @@ use Rattle.lattice.specs.declared.records.Record.{Record}
 abbrev pub centreOf : Record → Record
 centreOf v = record { at = v .at; d = v .d; k = (v .k + 1) % 2; n = record { 0 = v .n .0 + 1 } }
 
+-- the vertex that place j of a degree 6 star starts with: "d 3, level n, orientation (6+2j+k) mod 4"
+abbrev pub bornOf : Record → ℕ → Record
+bornOf c j = record { at = adjacentAt c j; d = 3; k = (6 + 2 * j + c .k) % 4; n = c .n }
+
 -- "Six records enter, in the order of v's new star with that orientation q: the j-th has d 3, level n+1, orientation (6+2j+q) mod 4."
 abbrev pub newOf : Record → ℕ → Record
-newOf v j = record { at = adjacentAt (centreOf v) j; d = 3; k = (6 + 2 * j + centreOf v .k) % 4; n = centreOf v .n }
+newOf v j = bornOf (centreOf v) j
 
 -- "the old adjacent u at place j, with k' = (6+2j+k) mod 12"
 abbrev pub backOf : ℕ → ℕ → ℕ
@@ -35,13 +39,13 @@ updateOf k′ u =
     u))
 
 -- "an internal adjacent has d 6, .. or no rule above for its k' (d 3 needs k' mod 4 = k, d 5 needs k' = k)"
-abbrev pub hasRule : ℕ → Record → Bool
-hasRule k′ u =
-    cond (eqb (u .d) 3) (eqb (k′ % 4) (u .k))
-    (cond (eqb (u .d) 4) (eqb (u .k) k′ || eqb ((u .k + 4) % 12) k′)
-    (cond (eqb (u .d) 5) (eqb k′ (u .k))
+abbrev pub hasRule : ℕ → ℕ → ℕ → Bool
+hasRule k′ d k =
+    cond (eqb d 3) (eqb (k′ % 4) k)
+    (cond (eqb d 4) (eqb k k′ || eqb ((k + 4) % 12) k′)
+    (cond (eqb d 5) (eqb k′ k)
     false))
 
 -- an adjacent vertex that tears nothing: a boundary vertex, or an internal one of level n with a rule
 unfoldable pub acceptsOf : ℕ → ℕ → Record → Bool
-acceptsOf k′ n u = cond (eqb (u .d) 0) true (eqb (u .n .0) n && hasRule k′ u)
+acceptsOf k′ n u = cond (eqb (u .d) 0) true (eqb (u .n .0) n && hasRule k′ (u .d) (u .k))

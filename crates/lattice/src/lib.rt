@@ -4,8 +4,10 @@
 // The promises cite specs/: Points, Records, Patterns, Stars, and Ranks for the model of grown meshes.
 mod patterns;
 mod points;
+mod ranks;
 mod records;
 mod stars;
+mod updates;
 
 pub use patterns::Spot;
 pub use points::Depth;
@@ -14,6 +16,11 @@ pub use points::normalise;
 pub use points::sum;
 pub use points::turn30;
 pub use points::turn60;
+pub use ranks::birth;
+pub use ranks::class;
+pub use ranks::creator;
+pub use ranks::parent;
+pub use ranks::rank;
 pub use records::Level;
 pub use records::Record;
 pub use records::valid;
@@ -24,3 +31,8 @@ pub use stars::refuse;
 pub use stars::second_of;
 pub use stars::star;
 pub use stars::stepped;
+pub use updates::accepts;
+pub use updates::back;
+pub use updates::born;
+pub use updates::centre;
+pub use updates::updated;

@@ -1,5 +1,6 @@
 -- A machine's tests of signed numbers: an equality compares bits, a remainder has the dividend's sign.
--- `bits-eq` equal bits are equal numbers · `rem-is-0`, `rem-not-0`, `rem-test` what `x % k == 0` says · `quot-fits`, `quot-back` the needs and the value of `x / k`.
+-- `bits-eq` equal bits are equal numbers · `rem-is-0`, `rem-not-0`, `rem-test` what `x % k == 0` says · `quot-fits`, `quot-back`, `rem-back` the needs and the value of `x / k`
+-- and `x % k`.
 -- Assumes nothing.
 use mathlib.Core.Path.{_≡_, sym, _∙_, subst, ap}
 use Prim.Native.Nat.{ℕ, _%_}
@@ -49,3 +50,8 @@ quot-fits {w} {x} k f = rw (toZ-ofZ w x f) (fits-quot w x k f)
 
 pub quot-back : (w : Width) (x : ℤ) (k : ℕ) → SFits w x → toZ w (ofZ w (quotZ (toZ w (ofZ w x)) (pos k))) ≡ quotZ x (pos k)
 quot-back w x k f = toZ-ofZ w _ (quot-fits k f) ∙ ap (λ (z : ℤ). quotZ z (pos k)) (toZ-ofZ w x f)
+
+pub rem-back : (w : Width) (x : ℤ) (k : ℕ) → SFits w x → toZ w (ofZ w (remZ (toZ w (ofZ w x)) (pos k))) ≡ remZ x (pos k)
+rem-back w x k f =
+    let e : remZ (toZ w (ofZ w x)) (pos k) ≡ remZ x (pos k) = ap (λ (z : ℤ). remZ z (pos k)) (toZ-ofZ w x f) in
+    ap (λ (z : ℤ). toZ w (ofZ w z)) e ∙ toZ-ofZ w (remZ x (pos k)) (fits-rem w x k f)

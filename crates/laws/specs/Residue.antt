@@ -1,20 +1,23 @@
 -- The remainder on division that is never negative, `modZ`, and how it is had from the machine's, whose sign is the dividend's.
+-- `mod-below` · `rem-neg`, `rem-pos` from the machine's remainder · `rem-asked`, `sum-cast`, `sum-is`, `rem-cast`, `rem-is` the same at 64 bits · `left3-minus` a difference by 3.
 -- Assumes nothing.
 use mathlib.Core.Path.{_≡_, refl, sym, _∙_, subst, ap}
 use mathlib.Core.Logic.{_⊎_, inl, inr, ⊎-elim}
 use mathlib.Core.Bool.{true, false}
-use Prim.Native.Nat.{ℕ, zero, suc, _%_, _≤_, _<_, _-_, _^_}
+use Prim.Native.Nat.{ℕ, zero, suc, _%_, _≤_, _<_, _-_, _^_, _+_, _*_, _/_}
 use native.Mathlib.Omega.{arith}
 use borrow.Author.Tests.{ltb-true, le-ltb}
-use lib.IntN.{ℤ, negℤ, pos, negsuc, _+ℤ_, subℕ, natAbs}
+use lib.IntN.{ℤ, negℤ, pos, negsuc, _+ℤ_, subℕ, natAbs, _-ℤ_}
 use lib.Signed.{quotZ, remZ, ltZ, nonNeg, mag-rem}
-use native.Mathlib.Nat.{mod-lt, mod-eq-of-lt, suc-mod, mod-self}
+use native.Mathlib.Nat.{mod-lt, mod-eq-of-lt, suc-mod, mod-self, mul-mod-right}
 use mir.Val.{SFits, toZ, ofZ, Fits}
 use mir.Facts.{toZ-ofZ, toZ-pos}
 use mir.Syntax.{w64}
 use lib.Dec.{T}
 use native.Mathlib.Decide.{decLt}
+use mathlib.Core.Option.{none}
 use Rattle.laws.specs.Sizes.{fits, mag-quot}
+use Rattle.laws.specs.Parts.{up, dn, minus-is}
 
 -- what z leaves on division by n: never negative
 abbrev pub modZ : ℤ → ℕ → ℕ
@@ -37,7 +40,7 @@ suc-rem a n h = go (decLt (suc (a % n)) n)
 sub-pos : (a b : ℕ) → b ≤ a → subℕ a b ≡ pos (a - b)
 sub-pos a b h = rw (le-ltb a b h)
 
-rem-neg : (s : ℤ) (n : ℕ) → 0 < n → ltZ (remZ s (pos n)) (pos 0) ≡ true → remZ s (pos n) +ℤ pos n ≡ pos (modZ s n)
+pub rem-neg : (s : ℤ) (n : ℕ) → 0 < n → ltZ (remZ s (pos n)) (pos 0) ≡ true → remZ s (pos n) +ℤ pos n ≡ pos (modZ s n)
 rem-neg (pos a) n h t = absurd (omega (arith, ltb-true (a % n) 0 t))
 rem-neg (negsuc a) n h t = go (suc a % n) refl t
   where
@@ -50,7 +53,7 @@ rem-neg (negsuc a) n h t = go (suc a % n) refl t
         (λ u. absurd (omega (arith, u .0)))
         (suc-rem a n h)
 
-rem-pos : (s : ℤ) (n : ℕ) → 0 < n → ltZ (remZ s (pos n)) (pos 0) ≡ false → remZ s (pos n) ≡ pos (modZ s n)
+pub rem-pos : (s : ℤ) (n : ℕ) → 0 < n → ltZ (remZ s (pos n)) (pos 0) ≡ false → remZ s (pos n) ≡ pos (modZ s n)
 rem-pos (pos a) n h t = refl
 rem-pos (negsuc a) n h t = go (suc a % n) refl t
   where
@@ -112,3 +115,20 @@ module _ (s : ℤ) (n : ℕ) (f : SFits w64 s) (h : 0 < n) (m : n ≤ 65536) whe
 
     pub rem-is : natAbs R′ ≡ modZ s n
     rem-is = ap natAbs erem
+
+-- ---- division by 3, as `omega` reads it
+left3-parts : (z : ℤ) → modZ z 3 ≡ (up z + 2 * dn z) % 3
+left3-parts (pos x) = omega arith
+left3-parts (negsuc x) = go (x % 3) refl
+  where
+    go : (k : ℕ) → x % 3 ≡ k → 3 - 1 - x % 3 ≡ (0 + 2 * suc x) % 3
+    go zero e = omega arith
+    go (suc zero) e = omega arith
+    go (suc (suc k)) e =
+        let two : 0 + 2 * suc x ≡ 3 * (2 * (x / 3) + 2) = omega arith in
+        let none : (0 + 2 * suc x) % 3 ≡ 0 = ap (λ (n : ℕ). n % 3) two ∙ mul-mod-right 3 (2 * (x / 3) + 2) in
+        omega arith
+
+-- what a difference leaves
+pub left3-minus : (x y : ℤ) → modZ (x -ℤ y) 3 ≡ (modZ x 3 + 3 - modZ y 3) % 3
+left3-minus x y = omega (arith, minus-is x y, left3-parts x, left3-parts y, left3-parts (x -ℤ y))

@@ -1,0 +1,101 @@
+// Ranks of points and their parents, by their numbers: what the check of a grown mesh asks. Ours; document 01 has none of it.
+ghost use mathlib.Core.Path.{_≡_};
+ghost use Prim.Native.Nat.{_+_, _%_, _≤_, _<_};
+ghost use Rattle.laws.specs.Residue.{modZ};
+ghost use Rattle.lattice.specs.Bounds.{Small};
+ghost use Rattle.lattice.specs.Ranks.{classOf, rankOf, birthOf, moveOf, parentOf, creatorOf};
+use crate::patterns::adjacent;
+use crate::points::Point;
+use crate::records::Level;
+use crate::stars::stepped;
+
+// What a number leaves on division by 3, never negative.
+fn left3(x: i32) -> u8
+    ensures { λ r. ⌜ r ≡ modZ x 3 ⌝ }
+{
+    let r = x % 3;
+    if r < 0 { (r + 3) as u8 } else { r as u8 }
+}
+
+// What a - b leaves on division by 3.
+pub fn class(p: Point) -> u8
+    ensures { λ r. ⌜ r ≡ classOf p ⌝ }
+{
+    (left3(p.a) + 3 - left3(p.b)) % 3
+}
+
+// The least level at which the point can be subdivided.
+pub fn rank(p: Point) -> u8
+    requires { ⌜ p .m .0 ≤ 7 ⌝ }
+    ensures { λ r. ⌜ r ≡ rankOf p ⌝ }
+{
+    let m = p.m.0;
+    let c = class(p);
+    if m == 0 {
+        if c == 1 {
+            return 0;
+        }
+        return 1;
+    }
+    if c == 0 {
+        return 2 * m;
+    }
+    2 * m + 1
+}
+
+// The orientation of the point when it enters a mesh.
+pub fn birth(p: Point) -> u8
+    ensures { λ r. ⌜ r ≡ birthOf p ⌝ }
+{
+    let m = p.m.0;
+    let c = class(p);
+    if m == 0 {
+        if c == 2 {
+            return 2;
+        }
+        return 0;
+    }
+    if c == 0 {
+        if left3(p.a) == 1 {
+            return 3;
+        }
+        return 1;
+    }
+    if c == 1 {
+        return 2;
+    }
+    0
+}
+
+// From p, the step of level i in direction e.
+fn moved(p: Point, e: u8, i: u8) -> Point
+    requires { ⌜ Small p × ((e < 12) × ((i ≤ 12) × (e % 2 ≡ i % 2))) ⌝ }
+    ensures { λ r. ⌜ r ≡ moveOf p e i ⌝ }
+{
+    stepped(p, Level(i), adjacent(6, e % 2, e / 2))
+}
+
+// Parent t of a point that has parents.
+pub fn parent(p: Point, t: u8) -> Point
+    requires { ⌜ Small p × ((p .m .0 ≤ 6) × ((0 < rankOf p) × (t < 3))) ⌝ }
+    ensures { λ r. ⌜ r ≡ parentOf p t ⌝ }
+{
+    moved(p, birth(p) + 4 * t, rank(p) - 1)
+}
+
+// The parent whose subdivision enters the point.
+pub fn creator(p: Point) -> Point
+    requires { ⌜ Small p × ((p .m .0 ≤ 6) × (0 < rankOf p)) ⌝ }
+    ensures { λ r. ⌜ r ≡ creatorOf p ⌝ }
+{
+    let i = rank(p) - 1;
+    let q = parent(p, 0);
+    if rank(q) < i {
+        return q;
+    }
+    let s = parent(p, 1);
+    if rank(s) < i {
+        return s;
+    }
+    parent(p, 2)
+}
