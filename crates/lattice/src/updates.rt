@@ -64,6 +64,7 @@ pub fn updated(back: u8, u: Record) -> Record
 {
     let at = u.at;
     let n = u.n;
+    let up = Level(u.n.0 + 1);
     let d = u.d;
     if d == 3 {
         return Record {
@@ -82,7 +83,6 @@ pub fn updated(back: u8, u: Record) -> Record
         };
     }
     if d == 5 {
-        let up = Level(u.n.0 + 1);
         return Record {
             at,
             d: 6,
