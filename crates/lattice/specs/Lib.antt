@@ -14,3 +14,4 @@ pub mod Flat
 pub mod PatternLaws
 pub mod StarLaws
 pub mod Places
+pub mod GeometryLaws
