@@ -15,3 +15,4 @@ pub mod PatternLaws
 pub mod StarLaws
 pub mod Places
 pub mod RankLaws
+pub mod GeometryLaws

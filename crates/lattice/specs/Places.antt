@@ -54,7 +54,7 @@ normal-place a b (suc m) D h =
     go false e r = (refl, refl)
 
 -- raised from depth m to d and then to D
-lift-lift : (x : ℤ) (m d D : ℕ) → m ≤ d → d ≤ D → lift (lift x m d) d D ≡ lift x m D
+pub lift-lift : (x : ℤ) (m d D : ℕ) → m ≤ d → d ≤ D → lift (lift x m d) d D ≡ lift x m D
 lift-lift x m d D h k =
     let e : d - m + (D - d) ≡ D - m = omega arith in
     mul-mul x (3 ^ (d - m)) (3 ^ (D - d)) ∙ ap (λ (n : ℕ). x *ℤ pos n) (sym (pow-add 3 (d - m) (D - d)) ∙ ap (λ (n : ℕ). 3 ^ n) e)
@@ -82,7 +82,7 @@ sum-high p q D h k =
 pub record Low (p : Point) : Type 0 where
   pub low : 0 < p .m .0 → by3 (p .a) && by3 (p .b) ≡ false
 
-pow-over : (k : ℕ) → 0 < 3 ^ k
+pub pow-over : (k : ℕ) → 0 < 3 ^ k
 pow-over k = one-le-pow k 3 (lit< tt)
 
 -- a place at a lesser depth is a multiple of 3 at the greater
