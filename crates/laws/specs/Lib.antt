@@ -9,9 +9,10 @@ pub mod Residue
 pub mod Machine
 pub mod Flags
 pub mod Signs
--- computed tables: Rules
+-- truth values, computed tables: Bools, Rules, Each
 pub mod Bools
 pub mod Rules
+pub mod Each
 -- lists and bytes: Sets, Words
 pub mod Sets
 pub mod Words

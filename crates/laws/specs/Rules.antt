@@ -59,7 +59,7 @@ Means (x ≡ᶻ? y) = x ≡ y
 Means (s & t) = Means s × Means t
 Means (s ⇒ t) = Means s → Means t
 
-eqZ-refl : (x : ℤ) → T (eqZ x x)
+pub eqZ-refl : (x : ℤ) → T (eqZ x x)
 eqZ-refl (pos a) = eqb-refl a
 eqZ-refl (negsuc a) = eqb-refl a
 

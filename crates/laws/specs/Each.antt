@@ -1,0 +1,66 @@
+-- A test of each number below n, as an equation of truth values: `upto` of Rules.
+-- `upto-more`, `upto-fails` a loop's one step · `upto-each`, `each-upto` what it says · `both-left`, `both-right`, `and-false` conjunctions · `not-both` true is not
+-- false · `true-fact`, `fact-true` the same as `T` · `same-test` two tests that pass together are one.
+-- Assumes nothing.
+use mathlib.Core.Path.{_≡_, refl, sym, _∙_, ap}
+use mathlib.Core.Bool.{Bool, true, false, _&&_}
+use Prim.Native.Nat.{ℕ, zero, suc, _+_, _<_}
+use native.Mathlib.Omega.{arith}
+use native.Mathlib.Decide.{decLt}
+use lib.Dec.{T}
+use Rattle.laws.specs.Rules.{upto}
+
+pub not-both : {b : Bool} → b ≡ true → b ≡ false → ⊥
+not-both h k = let q : _≡_ {A = ℕ} 0 1 = cc in omega arith
+
+pub both-left : (a b : Bool) → a && b ≡ true → a ≡ true
+both-left true b h = refl
+both-left false b h = h
+
+pub both-right : (a b : Bool) → a && b ≡ true → b ≡ true
+both-right true b h = h
+both-right false b h = absurd (not-both h refl)
+
+pub and-false : (b : Bool) → b && false ≡ false
+and-false true = refl
+and-false false = refl
+
+pub upto-more : (P : ℕ → Bool) (i : ℕ) → upto i P ≡ true → P i ≡ true → upto (i + 1) P ≡ true
+upto-more P i a b = let e : i + 1 ≡ suc i = omega arith in ap (λ (k : ℕ). upto k P) e ∙ rw (a, b)
+
+pub upto-fails : (P : ℕ → Bool) (i n : ℕ) → i < n → P i ≡ false → upto n P ≡ false
+upto-fails P i zero h e = absurd (omega arith)
+upto-fails P i (suc n) h e = go (λ l. upto-fails P i n l e) (decLt i n)
+  where
+    go : (i < n → upto n P ≡ false) → Dec (i < n) → P n && upto n P ≡ false
+    go ih (yes l) = rw (ih l) (and-false (P n))
+    go ih (no l) = let q : n ≡ i = omega arith in ap (λ (k : ℕ). P k && upto n P) q ∙ ap (λ (b : Bool). b && upto n P) e
+
+pub upto-each : (P : ℕ → Bool) (n i : ℕ) → upto n P ≡ true → i < n → P i ≡ true
+upto-each P zero i a h = absurd (omega arith)
+upto-each P (suc n) i a h = go (λ l. upto-each P n i (both-right (P n) (upto n P) a) l) (decLt i n)
+  where
+    go : (i < n → P i ≡ true) → Dec (i < n) → P i ≡ true
+    go ih (yes l) = ih l
+    go ih (no l) = let q : i ≡ n = omega arith in ap P q ∙ both-left (P n) (upto n P) a
+
+pub each-upto : (P : ℕ → Bool) (n : ℕ) → ((i : ℕ) → i < n → P i ≡ true) → upto n P ≡ true
+each-upto P zero h = refl
+each-upto P (suc n) h =
+    let a = each-upto P n (λ i l. h i (omega arith)) in
+    let b : n < suc n = omega arith in
+    ap (λ (x : Bool). x && upto n P) (h n b) ∙ a
+
+-- the same as a fact, `T` of lib.Dec
+pub true-fact : (b : Bool) → b ≡ true → T b
+true-fact b h = rw h tt
+
+pub fact-true : (b : Bool) → T b → b ≡ true
+fact-true true h = refl
+fact-true false h = absurd h
+
+-- two tests that pass together are one
+pub same-test : (a b : Bool) → (a ≡ true → b ≡ true) → (b ≡ true → a ≡ true) → a ≡ b
+same-test true b f g = sym (f refl)
+same-test false true f g = g refl
+same-test false false f g = refl

@@ -1,0 +1,14 @@
+-- Document 01, "Table in memory", in antt: Slots, Search, Order, Entries, and examples that compute.
+pub mod Slots
+pub mod Search
+pub mod Order
+pub mod Entries
+pub mod Ranges
+pub mod Examples
+-- what the promises of the functions below cite besides
+pub mod Reading
+-- their laws, each file over the one before
+pub mod SlotLaws
+pub mod SearchLaws
+pub mod OrderLaws
+pub mod EntryLaws

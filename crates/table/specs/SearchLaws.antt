@@ -1,0 +1,215 @@
+-- The laws of a search.
+-- `search-none`, `search-meets` one turn of the loop · `walk n i k` the slot k steps after slot i, `walk-steps`, `steps-walk` its inverse · `search-found`, `search-full` where a search
+-- ends · `End`, `ends` how it can end · `same-refl`, `same-true` the test of two points · `Kind`, `kind`, `own-hit` what a slot is to a search.
+-- Assumes nothing.
+use mathlib.Core.Path.{_≡_, refl, sym, ap, _∙_}
+use mathlib.Core.Bool.{Bool, true, false, cond, _&&_}
+use Prim.Native.Nat.{ℕ, zero, suc, _+_, _-_, _≤_, _<_}
+use native.Mathlib.Omega.{arith}
+use native.Mathlib.Decide.{decLt}
+use lib.Dec.{eqb, leb, ltb}
+use borrow.Author.Tests.{lt-ltb, le-ltb, le-leb, lt-leb, eq-eqb, ne-eqb, eqb-true, eqb-false}
+use Rattle.laws.specs.Rules.{eqZ, eqZ→eq, eqZ-refl}
+use Rattle.laws.specs.Each.{both-left, both-right, true-fact, fact-true, not-both}
+use Rattle.lattice.specs.Points.{pt}
+use Rattle.lattice.specs.declared.points.Point.{Point}
+use Rattle.lattice.specs.declared.records.Record.{Record}
+use Rattle.table.specs.Search.{samePoint, meets, next, settle, searchFrom}
+use Rattle.table.specs.Order.{steps}
+use Rattle.table.specs.declared.slots.Slot.{Slot}
+use Rattle.table.specs.declared.slots.Slot.the-variants.{Free, Holds}
+use Rattle.table.specs.declared.probe.Meet.{Meet}
+use Rattle.table.specs.declared.probe.Meet.the-variants.{Hit, Gap, Other}
+use Rattle.table.specs.declared.probe.Found.{Found}
+use Rattle.table.specs.declared.probe.Found.the-variants as found
+
+-- the slot k steps after slot i, wrapping, for k at most n
+abbrev pub walk : ℕ → ℕ → ℕ → ℕ
+walk n i k = cond (ltb (i + k) n) (i + k) (i + k - n)
+
+-- one turn of a search, at a number of slots left that is not 0
+pub search-turn : (look : ℕ → Meet) (n i left : ℕ) → 0 < left → searchFrom look n i left ≡ settle (look i) i (searchFrom look n (next n i) (left - 1))
+unfolding searchFrom
+search-turn look n i zero h = absurd (omega arith)
+search-turn look n i (suc left) h =
+    let e : left ≡ suc left - 1 = omega arith in
+    ap (λ (l : ℕ). settle (look i) i (searchFrom look n (next n i) l)) e
+
+module _ (look : ℕ → Meet) (n i left : ℕ) where
+  pub search-none : left ≡ 0 → found.Full ≡ searchFrom look n i left
+  unfolding searchFrom
+  search-none e = rw e
+
+  pub search-meets : (left ≡ 0 → ⊥) → (m : Meet) → m ≡ look i → searchFrom look n i left ≡ settle m i (searchFrom look n (next n i) (left - 1))
+  search-meets h m e =
+      let more : 0 < left = omega arith in
+      search-turn look n i left more ∙ ap (λ (x : Meet). settle x i (searchFrom look n (next n i) (left - 1))) (sym e)
+
+pub next-below : (n i : ℕ) → i < n → next n i < n
+next-below n i h = go (eqb (i + 1) n) refl
+  where
+    go : (b : Bool) → eqb (i + 1) n ≡ b → cond b 0 (i + 1) < n
+    go true e = omega arith
+    go false e = let ne = eqb-false (i + 1) n e in omega arith
+
+-- ---- steps round the ring
+
+by-lt {ℓ} : {P : Type ℓ} (a b : ℕ) → (a < b → P) → (b ≤ a → P) → P
+by-lt {P} a b f g = go (decLt a b)
+  where
+    go : Dec (a < b) → P
+    go (yes l) = f l
+    go (no l) = g (omega arith)
+
+module _ (n i k : ℕ) where
+  pub walk-lo : i + k < n → walk n i k ≡ i + k
+  walk-lo h = rw (lt-ltb (i + k) n h)
+
+  pub walk-hi : n ≤ i + k → walk n i k ≡ i + k - n
+  walk-hi h = rw (le-ltb (i + k) n h)
+
+  pub steps-lo : i ≤ k → steps n i k ≡ k - i
+  steps-lo h = rw (le-leb i k h)
+
+  pub steps-hi : k < i → steps n i k ≡ k + n - i
+  steps-hi h = rw (lt-leb i k h)
+
+  pub next-lo : i + 1 < n → next n i ≡ i + 1
+  next-lo h = let e : i + 1 ≡ n → ⊥ = omega arith in rw (ne-eqb (i + 1) n e)
+
+  pub next-hi : i + 1 ≡ n → next n i ≡ 0
+  next-hi h = rw (eq-eqb (i + 1) n h)
+
+module _ (n i : ℕ) (hi : i < n) where
+  pub walk-zero : walk n i 0 ≡ i
+  walk-zero = let l : i + 0 < n = omega arith in omega (arith, walk-lo n i 0 l)
+
+  pub walk-below : (k : ℕ) → k < n → walk n i k < n
+  walk-below k h = by-lt (i + k) n (λ l. omega (arith, walk-lo n i k l)) (λ l. omega (arith, walk-hi n i k l))
+
+  pub steps-below : (j : ℕ) → j < n → steps n i j < n
+  steps-below j h = by-lt j i (λ l. omega (arith, steps-hi n i j l)) (λ l. omega (arith, steps-lo n i j l))
+
+  pub walk-next : (k : ℕ) → k + 1 < n → walk n (next n i) k ≡ walk n i (k + 1)
+  walk-next k h = by-lt (i + 1) n
+      (λ l. ap (λ (x : ℕ). walk n x k) (next-lo n i k l) ∙
+      by-lt (i + 1 + k) n
+      (λ m. let m′ : i + (k + 1) < n = omega arith in omega (arith, walk-lo n (i + 1) k m, walk-lo n i (k + 1) m′))
+      (λ m. let m′ : n ≤ i + (k + 1) = omega arith in omega (arith, walk-hi n (i + 1) k m, walk-hi n i (k + 1) m′)))
+      (λ l. let e : i + 1 ≡ n = omega arith in
+      let a : 0 + k < n = omega arith in
+      let b : n ≤ i + (k + 1) = omega arith in
+      ap (λ (x : ℕ). walk n x k) (next-hi n i k e) ∙ omega (arith, walk-lo n 0 k a, walk-hi n i (k + 1) b))
+
+  pub steps-walk : (k : ℕ) → k < n → steps n i (walk n i k) ≡ k
+  steps-walk k h = by-lt (i + k) n
+      (λ l. let m : i ≤ i + k = omega arith in ap (steps n i) (walk-lo n i k l) ∙ omega (arith, steps-lo n i (i + k) m))
+      (λ l. let m : i + k - n < i = omega arith in ap (steps n i) (walk-hi n i k l) ∙ omega (arith, steps-hi n i (i + k - n) m))
+
+  pub walk-steps : (j : ℕ) → j < n → walk n i (steps n i j) ≡ j
+  walk-steps j h = by-lt j i
+      (λ l. let m : n ≤ i + (j + n - i) = omega arith in ap (walk n i) (steps-hi n i j l) ∙ omega (arith, walk-hi n i (j + n - i) m))
+      (λ l. let m : i + (j - i) < n = omega arith in ap (walk n i) (steps-lo n i j l) ∙ omega (arith, walk-lo n i (j - i) m))
+
+-- ---- where a search ends
+
+-- k steps of others
+abbrev pub Others : (ℕ → Meet) → ℕ → ℕ → ℕ → Type 0
+Others look n i k = (j : ℕ) → j < k → look (walk n i j) ≡ Other
+
+others-next : (look : ℕ → Meet) (n i k : ℕ) → i < n → k + 1 ≤ n → Others look n i (k + 1) → Others look n (next n i) k
+others-next look n i k hi hk o j hj =
+    let b : j + 1 < k + 1 = omega arith in
+    let b′ : j + 1 < n = omega arith in
+    ap look (walk-next n i hi j b′) ∙ o (j + 1) b
+
+pub search-found : (look : ℕ → Meet) (n k i left : ℕ) (o : Found) → i < n → k < left → left ≤ n → Others look n i k
+    → ((r : Found) → settle (look (walk n i k)) (walk n i k) r ≡ o) → searchFrom look n i left ≡ o
+search-found look n zero i left o hi hk hl os e =
+    let more : 0 < left = omega arith in
+    search-turn look n i left more ∙ ap (λ (x : ℕ). settle (look x) x (searchFrom look n (next n i) (left - 1))) (sym (walk-zero n i hi)) ∙ e (searchFrom look n (next n i) (left - 1))
+search-found look n (suc k) i left o hi hk hl os e =
+    let more : 0 < left = omega arith in
+    let here : look i ≡ Other = ap look (sym (walk-zero n i hi)) ∙ os 0 (omega arith) in
+    let k1 : k + 1 ≡ suc k = omega arith in
+    let room : k + 1 < n = omega arith in
+    let step : walk n (next n i) k ≡ walk n i (suc k) = walk-next n i hi k room ∙ ap (walk n i) k1 in
+    search-turn look n i left more ∙ ap (λ (m : Meet). settle m i (searchFrom look n (next n i) (left - 1))) here
+    ∙ search-found look n k (next n i) (left - 1) o (next-below n i hi) (omega arith) (omega arith)
+    (others-next look n i k hi (omega arith) (λ j hj. os j (omega arith)))
+    (λ r. ap (λ (x : ℕ). settle (look x) x r) step ∙ e r)
+
+pub search-full : (look : ℕ → Meet) (n left i : ℕ) → i < n → left ≤ n → Others look n i left → searchFrom look n i left ≡ found.Full
+search-full look n zero i hi hl os = sym (search-none look n i 0 refl)
+search-full look n (suc left) i hi hl os =
+    let here : look i ≡ Other = ap look (sym (walk-zero n i hi)) ∙ os 0 (omega arith) in
+    let e : suc left - 1 ≡ left = omega arith in
+    search-turn look n i (suc left) (omega arith) ∙ ap (λ (m : Meet). settle m i (searchFrom look n (next n i) (suc left - 1))) here
+    ∙ ap (searchFrom look n (next n i)) e
+    ∙ search-full look n left (next n i) (next-below n i hi) (omega arith) (others-next look n i left hi (omega arith) (λ j hj. os j (omega arith)))
+
+-- ---- the test of two points
+
+pub same-refl : (p : Point) → samePoint p p ≡ true
+unfolding samePoint
+same-refl p = rw (fact-true (eqZ (p .a) (p .a)) (eqZ-refl (p .a)), fact-true (eqZ (p .b) (p .b)) (eqZ-refl (p .b)), eq-eqb (p .m .0) (p .m .0) refl)
+
+pub same-true : (p q : Point) → samePoint p q ≡ true → p ≡ q
+unfolding samePoint
+same-true p q h =
+    let ab = both-left (eqZ (p .a) (q .a) && eqZ (p .b) (q .b)) (eqb (p .m .0) (q .m .0)) h in
+    let ea : p .a ≡ q .a = eqZ→eq (p .a) (q .a) (true-fact (eqZ (p .a) (q .a)) (both-left (eqZ (p .a) (q .a)) (eqZ (p .b) (q .b)) ab)) in
+    let eb : p .b ≡ q .b = eqZ→eq (p .b) (q .b) (true-fact (eqZ (p .b) (q .b)) (both-right (eqZ (p .a) (q .a)) (eqZ (p .b) (q .b)) ab)) in
+    let em : p .m .0 ≡ q .m .0 = eqb-true (p .m .0) (q .m .0) (both-right (eqZ (p .a) (q .a) && eqZ (p .b) (q .b)) (eqb (p .m .0) (q .m .0)) h) in
+    λ i. pt (ea i) (eb i) (em i)
+
+-- two points are the same, or not
+pub same-or-not : (p q : Point) → Dec (p ≡ q)
+same-or-not p q = go (samePoint p q) refl
+  where
+    go : (b : Bool) → samePoint p q ≡ b → Dec (p ≡ q)
+    go true e = yes (same-true p q e)
+    go false e = no (λ x. not-both (ap (samePoint p) (sym x) ∙ same-refl p) e)
+
+-- ---- what a slot is to a search for p
+
+pub data Kind (c : Slot) (p : Point) : Type 0 where
+  free : c ≡ Free → meets c p ≡ Gap → Kind c p
+  own : (r : Record) → c ≡ Holds r → r .at ≡ p → meets c p ≡ Hit → Kind c p
+  alien : (r : Record) → c ≡ Holds r → meets c p ≡ Other → Kind c p
+
+pub kind : (c : Slot) (p : Point) → Kind c p
+kind Free p = free refl refl
+kind (Holds r) p = go (samePoint (r .at) p) refl
+  where
+    go : (b : Bool) → samePoint (r .at) p ≡ b → Kind (Holds r) p
+    go true e = own r refl (same-true (r .at) p e) (ap (λ (x : Bool). cond x Hit Other) e)
+    go false e = alien r refl (ap (λ (x : Bool). cond x Hit Other) e)
+
+pub own-hit : (c : Slot) (r : Record) → c ≡ Holds r → meets c (r .at) ≡ Hit
+own-hit c r e = ap (λ (x : Slot). meets x (r .at)) e ∙ ap (λ (b : Bool). cond b Hit Other) (same-refl (r .at))
+
+-- ---- how a search ends
+
+pub data End (look : ℕ → Meet) (n i left : ℕ) : Type 0 where
+  hits : (k : ℕ) → k < left → Others look n i k → look (walk n i k) ≡ Hit → End look n i left
+  gaps : (k : ℕ) → k < left → Others look n i k → look (walk n i k) ≡ Gap → End look n i left
+  full : Others look n i left → End look n i left
+
+one-more : (look : ℕ → Meet) (n i left : ℕ) → Others look n i left → (m : Meet) → look (walk n i left) ≡ m → End look n i (suc left)
+one-more look n i left os Hit e = hits left (omega arith) os e
+one-more look n i left os Gap e = gaps left (omega arith) os e
+one-more look n i left os Other e = full (λ j h. go j h (decLt j left))
+  where
+    go : (j : ℕ) → j < suc left → Dec (j < left) → look (walk n i j) ≡ Other
+    go j h (yes l) = os j l
+    go j h (no l) = let q : j ≡ left = omega arith in ap (λ (x : ℕ). look (walk n i x)) q ∙ e
+
+pub ends : (look : ℕ → Meet) (n i left : ℕ) → End look n i left
+ends look n i zero = full (λ j h. absurd (omega arith))
+ends look n i (suc left) = go (ends look n i left)
+  where
+    go : End look n i left → End look n i (suc left)
+    go (hits k l os e) = hits k (omega arith) os e
+    go (gaps k l os e) = gaps k (omega arith) os e
+    go (full os) = one-more look n i left os (look (walk n i left)) refl

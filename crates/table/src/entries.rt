@@ -1,0 +1,89 @@
+// The table as a map from points to records: looked up, entered, replaced.
+ghost use mathlib.Core.Path.{_≡_};
+ghost use Prim.Native.Nat.{_<_};
+ghost use Rattle.lattice.specs.Points.{normalOf};
+ghost use Rattle.table.specs.Slots.{Table};
+ghost use Rattle.table.specs.Search.{findOf};
+ghost use Rattle.table.specs.Entries.{heldIn, lookUp, enterOf, replaceOf};
+use crate::probe::Found;
+use crate::probe::find;
+use crate::slots::Slot;
+use crate::slots::read_slot;
+use crate::slots::write_slot;
+use lattice::Point;
+use lattice::Record;
+use lattice::normalise;
+
+// What a table holds at a point.
+pub enum Looked {
+    Absent,
+    Held(Record),
+}
+
+// The record that a slot holds, if any.
+fn held_in(s: Slot) -> Looked
+    ensures { λ r. ⌜ r ≡ heldIn s ⌝ }
+{
+    match s {
+        Slot::Free => Looked::Absent,
+        Slot::Holds(r) => Looked::Held(r),
+    }
+}
+
+// The record at a point.
+pub fn look_up(t: &[u8], p: Point, n: usize) -> Looked
+    requires { ⌜ Table (now t) n ⌝ }
+    ensures { λ r. ⌜ r ≡ lookUp (now (t .entry)) p ⌝ }
+{
+    let f = find(t, p, n);
+    match f {
+        Found::At(i) => held_in(read_slot(t, i)),
+        Found::Free(_) => Looked::Absent,
+        Found::Full => Looked::Absent,
+    }
+}
+
+// The record at a point as a request gives it: any numbers, normalised before they are looked up. A point outside a record's ranges is not found.
+pub fn look_up_request(t: &[u8], a: i32, b: i32, m: u8, n: usize) -> Looked
+    requires { ⌜ Table (now t) n ⌝ }
+    ensures { λ r. ⌜ r ≡ lookUp (now (t .entry)) (normalOf a b m) ⌝ }
+{
+    let p = normalise(a, b, m);
+    look_up(t, p, n)
+}
+
+// Enters a record at the first free slot that the search for its point meets. Where the point is there already, or no slot is free, nothing changes.
+pub fn enter(t: &mut [u8], r: Record, n: usize) -> Found
+    requires { ⌜ Table (now t) n ⌝ }
+    ensures { λ f. ⌜ f ≡ findOf (now (t .entry)) (r .at) ⌝ }
+    ensures { λ f. ⌜ now (t .exit) ≡ enterOf (now (t .entry)) r ⌝ }
+{
+    let q = r.at;
+    let f = find(t, q, n);
+    match f {
+        Found::At(i) => Found::At(i),
+        Found::Free(i) => {
+            write_slot(t, i, r);
+            Found::Free(i)
+        }
+        Found::Full => Found::Full,
+    }
+}
+
+// Puts a record in place of the one at its point. Where there is none, nothing changes.
+pub fn replace(t: &mut [u8], r: Record, n: usize) -> Found
+    requires { ⌜ Table (now t) n ⌝ }
+    ensures { λ f. ⌜ f ≡ findOf (now (t .entry)) (r .at) ⌝ }
+    ensures { λ f. ⌜ now (t .exit) ≡ replaceOf (now (t .entry)) r ⌝ }
+{
+    let q = r.at;
+    let f = find(t, q, n);
+    match f {
+        Found::At(i) => {
+            write_slot(t, i, r);
+            Found::At(i)
+        }
+        Found::Free(i) => Found::Free(i),
+        Found::Full => Found::Full,
+    }
+}

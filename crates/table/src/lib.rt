@@ -1,0 +1,27 @@
+// The table in memory: document 01, "Table in memory", over lent bytes.
+//
+// A caller asks `slots_of` once for the number of slots, or `in_order` for all that the document asks of a table, and hands the number on.
+// `find`, `look_up` and `look_up_request` read, `enter`, `replace`, `write_slot` and `clear` write, `read_slot` and `free_slots` go through the slots.
+// The promises cite specs/: Slots, Search, Order, Entries. What follows from them, for whoever stands above, is specs/MapLaws.
+mod bytes;
+mod entries;
+mod home;
+mod order;
+mod probe;
+mod slots;
+
+pub use entries::Looked;
+pub use entries::enter;
+pub use entries::look_up;
+pub use entries::look_up_request;
+pub use entries::replace;
+pub use order::in_order;
+pub use probe::Found;
+pub use probe::find;
+pub use probe::same_point;
+pub use slots::Slot;
+pub use slots::clear;
+pub use slots::free_slots;
+pub use slots::read_slot;
+pub use slots::slots_of;
+pub use slots::write_slot;

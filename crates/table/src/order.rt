@@ -1,0 +1,69 @@
+// Whether a table is in order.
+ghost use mathlib.Core.Path.{_≡_};
+ghost use Prim.Native.Nat.{_<_};
+ghost use Rattle.table.specs.Slots.{Table};
+ghost use Rattle.table.specs.Order.{isAt, placedAt, allPlaced, inOrderOf};
+use crate::probe::Found;
+use crate::probe::find;
+use crate::slots::Slot;
+use crate::slots::read_slot;
+use crate::slots::slots_of;
+use lattice::valid;
+
+// The search ended at slot i.
+fn is_at(f: Found, i: usize) -> bool
+    ensures { λ v. ⌜ v ≡ isAt f i ⌝ }
+{
+    match f {
+        Found::At(j) => j == i,
+        Found::Free(_) => false,
+        Found::Full => false,
+    }
+}
+
+// Slot i is free, or holds a valid record that the search for its point finds there.
+fn placed(t: &[u8], i: usize, n: usize) -> bool
+    requires { ⌜ Table (now t) n × (i < n) ⌝ }
+    ensures { λ v. ⌜ v ≡ placedAt (now (t .entry)) i ⌝ }
+{
+    let s = read_slot(t, i);
+    match s {
+        Slot::Free => true,
+        Slot::Holds(r) => {
+            if valid(r) {
+                let q = r.at;
+                is_at(find(t, q, n), i)
+            } else {
+                false
+            }
+        }
+    }
+}
+
+// Every slot is placed so.
+fn all_placed(t: &[u8], n: usize) -> bool
+    requires { ⌜ Table (now t) n ⌝ }
+    ensures { λ v. ⌜ v ≡ allPlaced (now (t .entry)) n ⌝ }
+{
+    let mut i = 0;
+    while i < n {
+        if placed(t, i, n) {
+            i += 1;
+        } else {
+            return false;
+        }
+    }
+    true
+}
+
+// Whether any bytes are a table in order. As long as the searches are short this takes a time linear in the slots; records made to
+// share one home make it quadratic.
+pub fn in_order(t: &[u8]) -> bool
+    ensures { λ v. ⌜ v ≡ inOrderOf (now (t .entry)) ⌝ }
+{
+    let n = slots_of(t);
+    if n == 0 {
+        return false;
+    }
+    all_placed(t, n)
+}
