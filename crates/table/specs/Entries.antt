@@ -1,6 +1,7 @@
 -- The table as a map from points to records. Document 01: "A new record takes the first free slot so met."
--- `lookUp` the record at a point · `enterOf` a record entered · `replaceOf` one put in place of that at its point · `recordsOf` all of them.
+-- `lookUp` the record at a point · `enterOf` a record entered · `replaceOf` one put in place of that at its point · `recordsOf` all of them · `holds` a point is there.
 -- Assumes nothing.
+use mathlib.Core.Bool.{Bool, true, false}
 use mathlib.Core.List.{List, [], _∷_, _++_}
 use Prim.Native.Nat.{ℕ, zero, suc}
 use Rattle.lattice.specs.declared.points.Point.{Point}
@@ -59,3 +60,11 @@ recordsBelow t (suc k) = recordsBelow t k ++ listed (slotAt t k)
 
 abbrev pub recordsOf : List ℕ → List Record
 recordsOf t = recordsBelow t (slotsOf t)
+
+-- a point is in the table
+abbrev pub isHeld : Looked → Bool
+isHeld Absent = false
+isHeld (Held r) = true
+
+abbrev pub holds : List ℕ → Point → Bool
+holds t p = isHeld (lookUp t p)

@@ -1,0 +1,3 @@
+-- Document 01, "Base", in antt.
+pub mod Base
+pub mod Examples

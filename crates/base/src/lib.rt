@@ -1,0 +1,1 @@
+// Hexagons laid over the blade.

@@ -1,0 +1,2 @@
+-- Document 01, "Subdivision of v", in antt.
+pub mod Subdivide

@@ -1,0 +1,90 @@
+-- Document 01, "Subdivision of v": when it is refused and what the table holds after. What the promises cite: `subdivideOf`, `subdivideAllOf`.
+-- `adjacentFits`, `newFits`, `torn`, `tooDeep` the conditions of 7 and 6 · `renewedTo`, `enteredTo`, `subdivided` the table after · `Outcome` number and table.
+-- Record by record the rules are the lattice's: Subdivision. Assumes nothing.
+use mathlib.Core.Bool.{Bool, false, cond, _&&_, not}
+use mathlib.Core.List.{List}
+use Prim.Native.Nat.{ℕ, zero, suc}
+use lib.Dec.{eqb, ltb, leb}
+use lib.IntN.{ℤ}
+use Rattle.laws.specs.Rules.{upto}
+use Rattle.lattice.specs.Stars.{adjacentAt}
+use Rattle.lattice.specs.Subdivision.{centreOf, newOf, backOf, updateOf, acceptsOf}
+use Rattle.lattice.specs.Points.{normalOf}
+use Rattle.table.specs.Entries.{lookUp, enterOf, replaceOf, holds}
+use Rattle.table.specs.Order.{inOrderOf}
+use Rattle.table.specs.Slots.{freeSlots}
+use Rattle.lattice.specs.declared.records.Record.{Record}
+use Rattle.table.specs.declared.entries.Looked.{Looked}
+use Rattle.table.specs.declared.entries.Looked.the-variants.{Absent, Held}
+
+-- "an adjacent is absent; or an internal adjacent has d 6, or a level other than n, or no rule above for its k'"
+abbrev pub fitsAt : Record → ℕ → Looked → Bool
+fitsAt v j Absent = false
+fitsAt v j (Held u) = acceptsOf (backOf (v .k) j) (v .n .0) u
+
+abbrev pub adjacentFits : List ℕ → Record → ℕ → Bool
+adjacentFits t v j = fitsAt v j (lookUp t (adjacentAt v j))
+
+-- "or a new point is already there"
+abbrev pub newFits : List ℕ → Record → ℕ → Bool
+newFits t v j = not (holds t (newOf v j .at))
+
+-- "Torn, subdivision"
+unfoldable pub torn : List ℕ → Record → Bool
+torn t v = not (upto 6 (adjacentFits t v) && upto 6 (newFits t v))
+
+-- "a new point would have depth over 6"
+unfoldable pub tooDeep : Record → Bool
+tooDeep v = not (upto 6 (λ j. leb (newOf v j .at .m .0) 6))
+
+-- ---- the table after
+-- the old adjacent vertex at place j after its rule
+abbrev pub renewAt : List ℕ → Record → ℕ → Looked → List ℕ
+renewAt t v j Absent = t
+renewAt t v j (Held u) = replaceOf t (updateOf (backOf (v .k) j) u)
+
+abbrev pub renewOf : List ℕ → Record → ℕ → List ℕ
+renewOf t v j = renewAt t v j (lookUp t (adjacentAt v j))
+
+-- the first j old adjacent vertices
+unfoldable pub renewedTo : List ℕ → Record → ℕ → List ℕ
+renewedTo t v zero = t
+renewedTo t v (suc j) = renewOf (renewedTo t v j) v j
+
+-- "Six records enter, in the order of v's new star": the first j of them
+unfoldable pub enteredTo : List ℕ → Record → ℕ → List ℕ
+enteredTo t v zero = t
+enteredTo t v (suc j) = enterOf (enteredTo t v j) (newOf v j)
+
+-- v, its old adjacent vertices, its new ones; "All else is untouched."
+unfoldable pub subdivided : List ℕ → Record → List ℕ
+unfolding renewedTo enteredTo
+subdivided t v = enteredTo (renewedTo (replaceOf t (centreOf v)) v 6) v 6
+
+-- ---- the call
+pub record Outcome : Type 0 where
+  pub number : ℕ
+  pub bytes : List ℕ
+
+abbrev pub outcome : ℕ → List ℕ → Outcome
+outcome n t = record { number = n; bytes = t }
+
+-- "Order: subdivision 1, 3, 4, 5, 6, 7, 8 (fewer than six free)": from 4 on, of the record at the point
+abbrev pub subdivideVertex : List ℕ → Record → Outcome
+subdivideVertex t v =
+    cond (eqb (v .d) 6)
+    (cond (eqb (v .n .0) 12) (outcome 5 t)
+    (cond (tooDeep v) (outcome 6 t)
+    (cond (torn t v) (outcome 7 t)
+    (cond (ltb (freeSlots t) 6) (outcome 8 t)
+    (outcome 0 (subdivided t v))))))
+    (outcome 4 t)
+
+abbrev pub subdivideLooked : List ℕ → Looked → Outcome
+subdivideLooked t Absent = outcome 3 t
+subdivideLooked t (Held v) = subdivideVertex t v
+
+-- "Every point in a request is normalised before it is looked up"
+unfoldable pub subdivideOf : List ℕ → ℤ → ℤ → ℕ → Outcome
+unfolding subdivided torn tooDeep
+subdivideOf t a b m = cond (inOrderOf t) (subdivideLooked t (lookUp t (normalOf a b m))) (outcome 1 t)

@@ -1,0 +1,2 @@
+-- Document 01's queries, neighbours and faces, in antt.
+pub mod Queries
