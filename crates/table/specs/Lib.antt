@@ -12,3 +12,5 @@ pub mod SlotLaws
 pub mod SearchLaws
 pub mod OrderLaws
 pub mod EntryLaws
+pub mod ChangeLaws
+pub mod MapLaws

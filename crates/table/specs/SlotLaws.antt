@@ -184,11 +184,11 @@ slot-same t u i h =
       h (12 * i + 4 + 3) (omega arith) (omega arith),
     )
 
-module _ (t : List ℕ) (i : ℕ) (r : Record) (room : slotWidth * i + slotWidth ≤ length t) where
-  pub put-length : length (putSlot t i r) ≡ length t
-  unfolding putSlot
-  put-length = length-sets t (12 * i) (recordBytes r)
+pub put-length : (t : List ℕ) (i : ℕ) (r : Record) → length (putSlot t i r) ≡ length t
+unfolding putSlot
+put-length t i r = length-sets t (12 * i) (recordBytes r)
 
+module _ (t : List ℕ) (i : ℕ) (r : Record) (room : slotWidth * i + slotWidth ≤ length t) where
   pub put-other : (j : ℕ) → (j ≡ i → ⊥) → slotAt (putSlot t i r) j ≡ slotAt t j
   unfolding putSlot recordBytes
   put-other j ne = slot-same (putSlot t i r) t j (λ x lo hi. go x lo hi (decLt j i))
