@@ -4,8 +4,7 @@
 -- Why entering keeps order: the search for the new point passed other points' records only, so no slot on its way is free; the slots of old records stay taken, and fewer are free.
 -- Assumes nothing.
 use mathlib.Core.Path.{_≡_, refl, sym, ap, _∙_, subst, fun-ext}
-use mathlib.Core.Bool.{Bool, true, cond}
-use mathlib.Core.Logic.{_⊎_, inl, inr}
+use mathlib.Core.Bool.{true, cond}
 use Prim.Native.Nat.{ℕ, zero, suc, _+_, _≤_, _<_}
 use native.Mathlib.Omega.{arith}
 use native.Mathlib.Decide.{decLt, ℕ-discrete}
@@ -15,7 +14,7 @@ use Rattle.lattice.specs.declared.records.Record.{Record}
 use Rattle.table.specs.Slots.{isFree, freeBelow}
 use Rattle.table.specs.Search.{homeOf, samePoint, meets, searchFrom, seek}
 use Rattle.table.specs.Order.{steps, EachValid, NoneTwice}
-use Rattle.table.specs.OrderLaws.{Hits, Gaps, found-at, free-at, free-far, Ordered, Far, far, nearer, present}
+use Rattle.table.specs.OrderLaws.{Gaps, free-at, free-far, Ordered, Far, far, nearer, present}
 use Rattle.table.specs.declared.slots.Slot.{Slot}
 use Rattle.table.specs.declared.slots.Slot.the-variants.{Free, Holds}
 use Rattle.table.specs.declared.probe.Meet.{Meet}

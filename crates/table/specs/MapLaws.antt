@@ -7,44 +7,43 @@
 -- Replacing         `replace-order`, `replace-finds`, `replace-keeps`, `replace-free`, `replace-records`, `replace-find` · `replace-absent` nothing changes · `replace-length`, `replace-table` · `put-replace`
 -- Clearing          `clear-order`, `clear-absent`, `clear-free`, `clear-length`, `clear-table` · `empty-absent` a table whose slots are all free
 -- All records       `records-none`, `records-more` one slot more · `records-looked`, `looked-records` they are what is found · `records-apart` no point twice · `records-count`
--- A table           `table-of`, `order-table` · of SlotLaws: `slots-table`, `table-slots`, `table-same` · of OrderLaws: `order-test`, `test-order`
+-- A table           `table-of`, `order-table` · `slots-table`, `table-slots`, `table-same` the number of slots · `order-test`, `test-order` the test and the four conditions
+-- Points            `same-or-not`, `same-refl`, `same-true`
 -- Assumes nothing.
 use mathlib.Core.Path.{_≡_, refl, sym, ap, _∙_, subst}
-use mathlib.Core.Bool.{Bool, true, false}
-use mathlib.Core.Logic.{_⊎_, inl, inr}
-use mathlib.Core.List.{List, [], _∷_, _++_, append-nil, List·Memᴰ, Memᴰ·append-left, Memᴰ·append-right, List·Memᴰ·head, List·Memᴰ·tail, List·Memᴰ·append-cases, List·Memᴰ·eq-of-singleton, List·Memᴰ·not-nil, List·Memᴰ·cases-cons}
-use Prim.Native.Nat.{ℕ, zero, suc, _+_, _*_, _≤_, _<_}
+use mathlib.Core.Bool.{true, false}
+use mathlib.Core.List.{List, [], _∷_, _++_, List·Memᴰ, List·Memᴰ·not-nil}
+use Prim.Native.Nat.{ℕ, suc, _+_, _≤_, _<_}
 use native.Mathlib.Omega.{arith}
-use native.Mathlib.Decide.{decLt, ℕ-discrete}
-use lib.ListN.{length, replicate, length-replicate, length-append}
+use lib.ListN.{length, length-replicate}
 use Rattle.laws.specs.Each.{not-both}
 use Rattle.lattice.specs.Records.{validOf}
 use Rattle.lattice.specs.declared.points.Point.{Point}
 use Rattle.lattice.specs.declared.records.Record.{Record}
-use Rattle.table.specs.Slots.{slotWidth, Table, slotsIn, slotsOf, slotAt, putSlot, clearedOf, isFree, freeBelow, freeSlots}
-use Rattle.table.specs.Search.{meets, seek, findOf}
+use Rattle.table.specs.Slots.{Table, slotsIn, slotsOf, slotAt, putSlot, clearedOf, freeSlots}
+use Rattle.table.specs.Search.{meets, findOf}
 use Rattle.table.specs.Order.{InOrder}
-use Rattle.table.specs.Ranges.{inRanges, valid-inside, Writes, inside-fits}
+use Rattle.table.specs.Ranges.{inRanges, valid-inside}
 use Rattle.table.specs.Entries.{heldIn, lookedAt, lookUp, enterAt, enterOf, replaceAt, replaceOf, listed, recordsBelow, recordsOf}
-use Rattle.table.specs.SlotLaws.{table-slots, table-same, put-same, put-other, put-length, cleared-free}
-use Rattle.table.specs.OrderLaws.{slots-some, Ordered, order-slots, slots-order, Result, result, at, gap, none, present}
-use Rattle.table.specs.ChangeLaws.{Stands, enter-ordered, enter-new, enter-stands, enter-old, replace-ordered, replace-seek, replace-new, replace-stands, replace-old, count-change, count-all, free-one, some-free, none-free}
+use Rattle.table.specs.SlotLaws.{put-length, cleared-free}
+use Rattle.table.specs.OrderLaws.{slots-some, order-slots, Result, result, at, gap, none, present}
+use Rattle.table.specs.ChangeLaws.{count-all, free-one, none-free}
 use Rattle.table.specs.declared.slots.Slot.{Slot}
 use Rattle.table.specs.declared.slots.Slot.the-variants.{Free, Holds}
 use Rattle.table.specs.declared.probe.Meet.the-variants.{Gap, Other}
 use Rattle.table.specs.declared.probe.Found.{Found}
-use Rattle.table.specs.declared.probe.Found.the-variants as found
 use Rattle.table.specs.declared.entries.Looked.{Looked}
 use Rattle.table.specs.declared.entries.Looked.the-variants.{Absent, Held}
-
--- record r stands in a slot of t
-abbrev pub StandsIn : List ℕ → Record → Type 0
-StandsIn t r = Stands (slotsOf t) (slotAt t) r
+pub use Rattle.table.specs.SearchLaws.{same-or-not, same-refl, same-true}
+pub use Rattle.table.specs.SlotLaws.{slots-table, table-slots, table-same}
+pub use Rattle.table.specs.OrderLaws.{order-test, test-order}
+pub use Rattle.table.specs.WriteLaws.{StandsIn, table-of}
+pub use Rattle.table.specs.RecordLaws.{Apart}
+use Rattle.table.specs.WriteLaws.{entered-order, entered-new, entered-stands, entered-old, entered-free, replaced-order, replaced-find, replaced-new, replaced-stands, replaced-old, replaced-free}
+use Rattle.table.specs.RecordLaws.{listed-stands, stands-listed, counted-below, apart-below}
+use Rattle.table.specs.declared.probe.Found.the-variants as found
 
 -- ---- a table
-
-pub table-of : (t : List ℕ) (n : ℕ) → Table t n → Table t (slotsOf t)
-table-of t n w = subst (Table t) (sym (table-slots t n w)) w
 
 pub order-table : (t : List ℕ) → InOrder t → Table t (slotsOf t)
 order-table t o = o .fits
@@ -234,86 +233,6 @@ replace-absent t w r h = go (searched t w (r .at))
     go (room i e l s a k) = remains t r (found.Free i) e refl
     go (full e a k) = remains t r found.Full e refl
 
--- ---- slot j of a table in order written, with a valid record
-
-module _ (t : List ℕ) (o : InOrder t) (r : Record) (ok : validOf r ≡ true) (j : ℕ) (here : j < slotsOf t) where
-  abbrev written : List ℕ
-  written = putSlot t j r
-
-  in-table : slotWidth * j + slotWidth ≤ length t
-  in-table = omega (arith, o .fits .long)
-
-  slots-kept : slotsOf written ≡ slotsOf t
-  slots-kept = ap slotsIn (put-length t j r)
-
-  now-held : slotAt written j ≡ Holds r
-  now-held = put-same t j r in-table (inside-fits (r .at) (valid-inside r ok))
-
-  others-kept : (i : ℕ) → (i ≡ j → ⊥) → slotAt written i ≡ slotAt t i
-  others-kept = put-other t j r in-table
-
-  in-order : Ordered (slotsOf t) (slotAt written) → InOrder written
-  in-order h = slots-order written (table-of written (slotsOf t) (table-same t written (slotsOf t) (put-length t j r) (o .fits))) (subst (λ (k : ℕ). Ordered k (slotAt written)) (sym slots-kept) h)
-
-  to-written : (q : Record) → Stands (slotsOf t) (slotAt written) q → StandsIn written q
-  to-written q = subst (λ (k : ℕ). Stands k (slotAt written) q) (sym slots-kept)
-
-  of-written : (q : Record) → StandsIn written q → Stands (slotsOf t) (slotAt written) q
-  of-written q = subst (λ (k : ℕ). Stands k (slotAt written) q) slots-kept
-
-  counted : freeSlots written + isFree (slotAt t j) ≡ freeSlots t + isFree (slotAt written j)
-  counted = ap (λ (k : ℕ). freeBelow (slotAt written) k + isFree (slotAt t j)) slots-kept ∙ count-change (slotAt t) (slotAt written) j others-kept (slotsOf t) here
-
-  -- a record entered: slot j is where the search ended, and free
-  module _ (gap : findOf t (r .at) ≡ found.Free j) where
-    found-gap : seek (slotsOf t) (slotAt t) (r .at) ≡ found.Free j
-    unfolding findOf
-    found-gap = gap
-
-    entered-order : InOrder written
-    entered-order = in-order (enter-ordered (slotsOf t) (slots-some t (slotsOf t) (o .fits)) (slotAt t) (slotAt written) j others-kept r now-held (order-slots t o) found-gap ok)
-
-    entered-finds : lookUp written (r .at) ≡ Held r
-    entered-finds = lookup-complete written entered-order r (to-written r (enter-new (slotsOf t) (slots-some t (slotsOf t) (o .fits)) (slotAt t) (slotAt written) j others-kept r now-held (order-slots t o) found-gap))
-
-    entered-keeps : (q : Point) → (q ≡ r .at → ⊥) → lookUp written q ≡ lookUp t q
-    entered-keeps q ne =
-        lookup-same t written o entered-order q
-        (λ x e s. to-written x (enter-stands (slotsOf t) (slots-some t (slotsOf t) (o .fits)) (slotAt t) (slotAt written) j others-kept r now-held (order-slots t o) found-gap x s))
-        (λ x e s. enter-old (slotsOf t) (slots-some t (slotsOf t) (o .fits)) (slotAt t) (slotAt written) j others-kept r now-held (order-slots t o) found-gap x (λ h. ne (sym e ∙ h)) (of-written x s))
-
-    entered-free : slotAt t j ≡ Free → freeSlots written + 1 ≡ freeSlots t
-    entered-free fr =
-        let a : isFree (slotAt t j) ≡ 1 = ap isFree fr in
-        let b : isFree (slotAt written j) ≡ 0 = ap isFree now-held in
-        let c = counted in
-        omega arith
-
-  -- a record replaced: slot j holds one of the same point
-  module _ (was : Record) (held : slotAt t j ≡ Holds was) (same : r .at ≡ was .at) where
-    replaced-order : InOrder written
-    replaced-order = in-order (replace-ordered (slotsOf t) (slots-some t (slotsOf t) (o .fits)) (slotAt t) (slotAt written) j others-kept r now-held was held same here (order-slots t o) ok)
-
-    replaced-find : (p : Point) → findOf written p ≡ findOf t p
-    unfolding findOf
-    replaced-find p = ap (λ (k : ℕ). seek k (slotAt written) p) slots-kept ∙ replace-seek (slotsOf t) (slots-some t (slotsOf t) (o .fits)) (slotAt t) (slotAt written) j others-kept r now-held was held same here p
-
-    replaced-finds : lookUp written (r .at) ≡ Held r
-    replaced-finds = lookup-complete written replaced-order r (to-written r (replace-new (slotsOf t) (slots-some t (slotsOf t) (o .fits)) (slotAt t) (slotAt written) j others-kept r now-held was held same here))
-
-    replaced-keeps : (q : Point) → (q ≡ r .at → ⊥) → lookUp written q ≡ lookUp t q
-    replaced-keeps q ne =
-        lookup-same t written o replaced-order q
-        (λ x e s. to-written x (replace-stands (slotsOf t) (slots-some t (slotsOf t) (o .fits)) (slotAt t) (slotAt written) j others-kept r now-held was held same here x (λ h. ne (sym e ∙ h)) s))
-        (λ x e s. replace-old (slotsOf t) (slots-some t (slotsOf t) (o .fits)) (slotAt t) (slotAt written) j others-kept r now-held was held same here x (λ h. ne (sym e ∙ h)) (of-written x s))
-
-    replaced-free : freeSlots written ≡ freeSlots t
-    replaced-free =
-        let a : isFree (slotAt t j) ≡ 0 = ap isFree held in
-        let b : isFree (slotAt written j) ≡ 0 = ap isFree now-held in
-        let c = counted in
-        omega arith
-
 -- ---- a valid record entered into, or put into, a table in order
 
 module _ (t : List ℕ) (o : InOrder t) (r : Record) (ok : validOf r ≡ true) where
@@ -328,14 +247,15 @@ module _ (t : List ℕ) (o : InOrder t) (r : Record) (ok : validOf r ≡ true) w
   pub enter-finds : lookUp t (r .at) ≡ Absent → 0 < freeSlots t → lookUp (enterOf t r) (r .at) ≡ Held r
   enter-finds h f =
       let x = find-free t (o .fits) (r .at) h f in
-      ap (λ (u : List ℕ). lookUp u (r .at)) (sym (put-enter t r (x .0) (x .1))) ∙ entered-finds t o r ok (x .0) (x .2) (x .1)
+      ap (λ (u : List ℕ). lookUp u (r .at)) (sym (put-enter t r (x .0) (x .1))) ∙ lookup-complete (putSlot t (x .0) r) (entered-order t o r ok (x .0) (x .2) (x .1)) r (entered-new t o r ok (x .0) (x .2) (x .1))
 
   pub enter-keeps : (q : Point) → (q ≡ r .at → ⊥) → lookUp (enterOf t r) q ≡ lookUp t q
   enter-keeps q ne = go (searched t (o .fits) (r .at))
     where
       go : Searched t (r .at) → lookUp (enterOf t r) q ≡ lookUp t q
       go (there i x e l s a k) = ap (λ (u : List ℕ). lookUp u q) (stays t r (found.At i) e refl)
-      go (room i e l s a k) = ap (λ (u : List ℕ). lookUp u q) (sym (put-enter t r i e)) ∙ entered-keeps t o r ok i l e q ne
+      go (room i e l s a k) = ap (λ (u : List ℕ). lookUp u q) (sym (put-enter t r i e))
+          ∙ lookup-same t (putSlot t i r) o (entered-order t o r ok i l e) q (λ x h z. entered-stands t o r ok i l e x z) (λ x h z. entered-old t o r ok i l e x (λ y. ne (sym h ∙ y)) z)
       go (full e a k) = ap (λ (u : List ℕ). lookUp u q) (stays t r found.Full e refl)
 
   -- one free slot less
@@ -359,7 +279,8 @@ module _ (t : List ℕ) (o : InOrder t) (r : Record) (ok : validOf r ≡ true) w
   replace-finds q h = go (searched t (o .fits) (r .at))
     where
       go : Searched t (r .at) → lookUp (replaceOf t r) (r .at) ≡ Held r
-      go (there i x e l s a k) = ap (λ (u : List ℕ). lookUp u (r .at)) (sym (put-replace t r i e)) ∙ replaced-finds t o r ok i l x s (sym a)
+      go (there i x e l s a k) = ap (λ (u : List ℕ). lookUp u (r .at)) (sym (put-replace t r i e))
+          ∙ lookup-complete (putSlot t i r) (replaced-order t o r ok i l x s (sym a)) r (replaced-new t o r ok i l x s (sym a))
       go (room i e l s a k) = held-not-absent q h a
       go (full e a k) = held-not-absent q h a
 
@@ -367,7 +288,10 @@ module _ (t : List ℕ) (o : InOrder t) (r : Record) (ok : validOf r ≡ true) w
   replace-keeps q ne = go (searched t (o .fits) (r .at))
     where
       go : Searched t (r .at) → lookUp (replaceOf t r) q ≡ lookUp t q
-      go (there i x e l s a k) = ap (λ (u : List ℕ). lookUp u q) (sym (put-replace t r i e)) ∙ replaced-keeps t o r ok i l x s (sym a) q ne
+      go (there i x e l s a k) = ap (λ (u : List ℕ). lookUp u q) (sym (put-replace t r i e))
+          ∙ lookup-same t (putSlot t i r) o (replaced-order t o r ok i l x s (sym a)) q
+          (λ y h z. replaced-stands t o r ok i l x s (sym a) y (λ u. ne (sym h ∙ u)) z)
+          (λ y h z. replaced-old t o r ok i l x s (sym a) y (λ u. ne (sym h ∙ u)) z)
       go (room i e l s a k) = ap (λ (u : List ℕ). lookUp u q) (remains t r (found.Free i) e refl)
       go (full e a k) = ap (λ (u : List ℕ). lookUp u q) (remains t r found.Full e refl)
 
@@ -445,82 +369,21 @@ pub records-more : (t : List ℕ) (i : ℕ) → recordsBelow t (i + 1) ≡ recor
 unfolding recordsBelow
 records-more t i = let e : i + 1 ≡ suc i = omega arith in ap (recordsBelow t) e
 
--- no two records of a list have one point
-abbrev pub Apart : List Record → Type 0
-Apart [] = Unit
-Apart (r ∷ rs) = ((q : Record) → List·Memᴰ q rs → q .at ≡ r .at → ⊥) × Apart rs
-
-apart-more : (rs : List Record) (q : Record) → Apart rs → ((x : Record) → List·Memᴰ x rs → x .at ≡ q .at → ⊥) → Apart (rs ++ (q ∷ []))
-apart-more [] q a h = (λ x m e. absurd (List·Memᴰ·not-nil m), tt)
-apart-more (r ∷ rs) q a h = (λ x m e. go x e (List·Memᴰ·append-cases rs m), apart-more rs q (a .1) (λ x m. h x (List·Memᴰ·tail m)))
-  where
-    go : (x : Record) → x .at ≡ r .at → List·Memᴰ x rs ⊎ List·Memᴰ x (q ∷ []) → ⊥
-    go x e (inl m) = a .0 x m e
-    go x e (inr m) = h r (List·Memᴰ·head refl) (sym e ∙ ap (λ (u : Record). u .at) (List·Memᴰ·eq-of-singleton m))
-
 module _ (t : List ℕ) where
-  -- what is listed of the first k slots stands in one of them, and what stands there is listed
-  listed-stands : (k : ℕ) (r : Record) → List·Memᴰ r (recordsBelow t k) → Stands k (slotAt t) r
-  unfolding recordsBelow
-  listed-stands zero r m = absurd (List·Memᴰ·not-nil m)
-  listed-stands (suc k) r m = go (slotAt t k) refl (List·Memᴰ·append-cases (recordsBelow t k) m) (λ l. listed-stands k r l)
-    where
-      go : (s : Slot) → slotAt t k ≡ s → List·Memᴰ r (recordsBelow t k) ⊎ List·Memᴰ r (listed (slotAt t k)) → (List·Memᴰ r (recordsBelow t k) → Stands k (slotAt t) r) → Stands (suc k) (slotAt t) r
-      go s e (inl l) ih = let x = ih l in record { slot = x .slot; below = omega (arith, x .below); holds = x .holds }
-      go Free e (inr l) ih = absurd (List·Memᴰ·not-nil (subst (λ (s : Slot). List·Memᴰ r (listed s)) e l))
-      go (Holds q) e (inr l) ih = record { slot = k; below = omega arith; holds = e ∙ ap Holds (sym (List·Memᴰ·eq-of-singleton (subst (λ (s : Slot). List·Memᴰ r (listed s)) e l))) }
-
-  stands-listed : (k : ℕ) (r : Record) → Stands k (slotAt t) r → List·Memᴰ r (recordsBelow t k)
-  unfolding recordsBelow
-  stands-listed zero r s = absurd (omega (arith, s .below))
-  stands-listed (suc k) r s = go (ℕ-discrete (s .slot) k) (λ x. stands-listed k r x)
-    where
-      go : Dec (s .slot ≡ k) → (Stands k (slotAt t) r → List·Memᴰ r (recordsBelow t k)) → List·Memᴰ r (recordsBelow t k ++ listed (slotAt t k))
-      go (yes e) ih = Memᴰ·append-right (recordsBelow t k) (subst (λ (x : Slot). List·Memᴰ r (listed x)) (sym (ap (slotAt t) (sym e) ∙ s .holds)) (List·Memᴰ·head refl))
-      go (no e) ih = Memᴰ·append-left (listed (slotAt t k)) (ih (record { slot = s .slot; below = omega (arith, s .below); holds = s .holds }))
-
-  counted-below : (k : ℕ) → length (recordsBelow t k) + freeBelow (slotAt t) k ≡ k
-  unfolding recordsBelow freeBelow
-  counted-below zero = refl
-  counted-below (suc k) =
-      let a = counted-below k in
-      let b = length-append (recordsBelow t k) (listed (slotAt t k)) in
-      let c = one (slotAt t k) in
-      omega arith
-    where
-      one : (s : Slot) → length (listed s) + isFree s ≡ 1
-      one Free = refl
-      one (Holds r) = refl
-
   -- the records and the free slots make up the table
   pub records-count : length (recordsOf t) + freeSlots t ≡ slotsOf t
-  records-count = counted-below (slotsOf t)
+  records-count = counted-below t (slotsOf t)
 
   -- the records listed are those found by their points
   pub records-looked : InOrder t → (r : Record) → List·Memᴰ r (recordsOf t) → lookUp t (r .at) ≡ Held r
-  records-looked o r m = lookup-complete t o r (listed-stands (slotsOf t) r m)
+  records-looked o r m = lookup-complete t o r (listed-stands t (slotsOf t) r m)
 
   pub looked-records : InOrder t → (p : Point) (r : Record) → lookUp t p ≡ Held r → List·Memᴰ r (recordsOf t)
-  looked-records o p r h = stands-listed (slotsOf t) r (lookup-stands t o p r h)
-
-  apart-below : InOrder t → (k : ℕ) → k ≤ slotsOf t → Apart (recordsBelow t k)
-  unfolding recordsBelow
-  apart-below o zero l = tt
-  apart-below o (suc k) l = go (slotAt t k) refl (apart-below o k (omega arith))
-    where
-      go : (s : Slot) → slotAt t k ≡ s → Apart (recordsBelow t k) → Apart (recordsBelow t k ++ listed (slotAt t k))
-      go Free e a = subst Apart (sym (ap (λ (s : Slot). recordsBelow t k ++ listed s) e ∙ append-nil (recordsBelow t k))) a
-      go (Holds q) e a =
-          subst Apart (sym (ap (λ (s : Slot). recordsBelow t k ++ listed s) e))
-          (apart-more (recordsBelow t k) q a (λ x m h.
-          let s = listed-stands k x m in
-          let b : s .slot < slotsOf t = omega (arith, s .below) in
-          let c : s .slot ≡ k = o .once (s .slot) k x q b (omega arith) (s .holds) e h in
-          omega (arith, s .below)))
+  looked-records o p r h = stands-listed t (slotsOf t) r (lookup-stands t o p r h)
 
   -- no two of them have one point
   pub records-apart : InOrder t → Apart (recordsOf t)
-  records-apart o = apart-below o (slotsOf t) (let l : slotsOf t ≤ slotsOf t = omega arith in l)
+  records-apart o = apart-below t o (slotsOf t) (let l : slotsOf t ≤ slotsOf t = omega arith in l)
 
   -- a table all of whose slots are free holds nothing
   pub empty-absent : InOrder t → freeSlots t ≡ slotsOf t → (p : Point) → lookUp t p ≡ Absent
