@@ -9,9 +9,11 @@ pub mod Residue
 pub mod Machine
 pub mod Flags
 pub mod Signs
--- computed tables: Rules
+-- computed tables: Bools, Truths, Rules
 pub mod Bools
+pub mod Truths
 pub mod Rules
--- lists and bytes: Sets, Words
+-- lists and bytes: Sets, Stores, Words
 pub mod Sets
+pub mod Stores
 pub mod Words
