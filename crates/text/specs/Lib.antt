@@ -2,9 +2,12 @@
 pub mod Decimal
 pub mod Reading
 pub mod Line
--- what they obey
+-- what they obey: numbers
 pub mod DecimalLaws
 pub mod ReadingLaws
+-- lines
+pub mod Near
+pub mod LineLengths
 pub mod LineLaws
 -- examples, computed
 pub mod Examples

@@ -7,14 +7,14 @@ use Prim.Native.Nat.{ℕ, zero, suc, _+_, _*_, _-_}
 use lib.Dec.{eqb, ltb, leb}
 use lib.IntN.{pos, negsuc}
 use lib.ListN.{length, getD, drop}
-use Rattle.text.specs.Decimal.{minus}
+use Rattle.text.specs.Decimal.{minus, digit}
 use Rattle.text.specs.declared.decimal.Number.{Number}
 use Rattle.text.specs.declared.decimal.Number.the-variants.{Natural, NoNumber}
 use Rattle.text.specs.declared.decimal.Signed.{Signed}
 use Rattle.text.specs.declared.decimal.Signed.the-variants.{Whole, NoWhole}
 
 abbrev pub isDigit : ℕ → Bool
-isDigit c = leb 48 c && leb c 57
+isDigit c = leb (digit 0) c && leb c (digit 9)
 
 -- the digits that bytes begin with, up to the first byte that is none
 unfoldable pub run : List ℕ → List ℕ
@@ -24,11 +24,11 @@ run (c ∷ xs) = let rest = run xs in cond (isDigit c) (c ∷ rest) []
 -- what digits count, after v
 unfoldable pub value : ℕ → List ℕ → ℕ
 value v [] = v
-value v (c ∷ xs) = value (v * 10 + (c - 48)) xs
+value v (c ∷ xs) = value (v * 10 + (c - digit 0)) xs
 
 -- "no leading zero": a 0 stands alone; and there is a digit
 abbrev pub plainly : ℕ → ℕ → Bool
-plainly first n = cond (eqb first 48) (eqb n 1) (ltb 0 n)
+plainly first n = cond (eqb first (digit 0)) (eqb n 1) (ltb 0 n)
 
 abbrev pub plain : List ℕ → Bool
 plain s = plainly (getD s 0 0) (length s)

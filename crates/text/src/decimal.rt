@@ -25,7 +25,7 @@ pub enum Signed {
 fn is_digit(c: u8) -> bool
     ensures { λ r. ⌜ r ≡ isDigit c ⌝ }
 {
-    (48 <= c) & (c <= 57)
+    (b'0' <= c) & (c <= b'9')
 }
 
 // What a digit's byte counts.
@@ -33,14 +33,14 @@ fn worth(c: u8) -> u64
     requires { ⌜ (48 ≤ c) × (c ≤ 57) ⌝ }
     ensures { λ r. ⌜ (r ≡ c - 48) × (r < 10) ⌝ }
 {
-    (c - 48) as u64
+    (c - b'0') as u64
 }
 
 // n digits with this first one are a number: at least one, and no leading zero.
 fn is_plain(first: u8, n: usize) -> bool
     ensures { λ r. ⌜ r ≡ plainly first n ⌝ }
 {
-    if first == 48 { n == 1 } else { 0 < n }
+    if first == b'0' { n == 1 } else { 0 < n }
 }
 
 // The number at a position, of at most `most`, ended by the byte `stop`. A longer one is refused at the first digit that takes it above `most`.
@@ -72,7 +72,7 @@ pub fn read_number(t: &[u8], at: usize, most: u32, stop: u8) -> Number
 fn is_minus(t: &[u8], at: usize) -> bool
     ensures { λ r. ⌜ r ≡ begins minus (drop at (now (t .entry))) ⌝ }
 {
-    if at < t.len() { t[at] == 45 } else { false }
+    if at < t.len() { t[at] == b'-' } else { false }
 }
 
 // The number below zero of this size.
@@ -133,7 +133,7 @@ fn write_digits(out: &mut [u8], at: usize, n: u32) -> usize
     let mut v = n;
     while at < i {
         i -= 1;
-        out[i] = 48 + (v % 10) as u8;
+        out[i] = b'0' + (v % 10) as u8;
         v = v / 10;
     }
     end
@@ -164,7 +164,7 @@ pub fn write_signed(out: &mut [u8], at: usize, z: i32, stop: u8) -> usize
 {
     let n = size(z);
     if z < 0 {
-        out[at] = 45;
+        out[at] = b'-';
         return write_number(out, at + 1, n, stop);
     }
     write_number(out, at, n, stop)

@@ -8,7 +8,7 @@ use mir.Syntax.{w32}
 use mir.Val.{SFits}
 use mir.Facts.{toZ-ofZ}
 use Rattle.text.specs.Decimal.{numeral}
-use Rattle.text.specs.LineLaws.{line-long}
+use Rattle.text.specs.LineLengths.{line-long}
 use Rattle.text.proofs.line.line_length.Statement.{statement}
 use Rattle.text.proofs.line.line_length.Tie as tie
 

@@ -3,7 +3,7 @@ use borrow.Author.Needs.{needs}
 use native.Mathlib.Omega.{arith}
 use Rattle.laws.specs.Stores.{wrote-then}
 use Rattle.text.specs.Line.{lineOf}
-use Rattle.text.specs.LineLaws.{line-halves}
+use Rattle.text.specs.LineLengths.{line-halves}
 use Rattle.text.proofs.line.write_line.Statement.{statement}
 use Rattle.text.proofs.line.write_line.Tie as tie
 

@@ -12,7 +12,7 @@ use mir.Facts.{toZ-ofZ}
 use Rattle.laws.specs.Stores.{Wrote, wrote-then}
 use Rattle.text.specs.Decimal.{numeral, ended, tab}
 use Rattle.text.specs.Line.{pointText}
-use Rattle.text.specs.LineLaws.{point-length}
+use Rattle.text.specs.LineLengths.{point-length}
 use Rattle.text.proofs.line.write_point.Statement.{statement}
 use Rattle.text.proofs.line.write_point.Tie as tie
 

@@ -3,7 +3,7 @@ use borrow.Author.Needs.{needs}
 use native.Mathlib.Omega.{arith}
 use Rattle.laws.specs.Stores.{wrote-then}
 use Rattle.text.specs.Line.{starText}
-use Rattle.text.specs.LineLaws.{star-length}
+use Rattle.text.specs.LineLengths.{star-length}
 use Rattle.text.proofs.line.write_star.Statement.{statement}
 use Rattle.text.proofs.line.write_star.Tie as tie
 
