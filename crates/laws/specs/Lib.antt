@@ -9,10 +9,12 @@ pub mod Residue
 pub mod Machine
 pub mod Flags
 pub mod Signs
--- truth values, computed tables: Bools, Rules, Each
+-- truth values, computed tables: Bools, Truths, Rules, Each
 pub mod Bools
+pub mod Truths
 pub mod Rules
 pub mod Each
--- lists and bytes: Sets, Words
+-- lists and bytes: Sets, Stores, Words
 pub mod Sets
+pub mod Stores
 pub mod Words

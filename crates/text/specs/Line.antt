@@ -1,0 +1,94 @@
+-- Document 01, "Files": a record's line. What the promises cite: `lineOf` the line of a record, `lines` those of several, `lineAt` the line at a position of any bytes.
+-- `pointText`, `starText` its halves, as written · `placeAt`, `starAt`, `spelledAt` the same as read, valid or not.
+-- Assumes nothing.
+use mathlib.Core.Bool.{cond}
+use mathlib.Core.List.{List, [], _∷_, _++_}
+use Prim.Native.Nat.{ℕ}
+use lib.Dec.{leb}
+use lib.IntN.{ℤ}
+use lib.ListN.{length}
+use Rattle.lattice.specs.Points.{pt}
+use Rattle.lattice.specs.Records.{validOf}
+use Rattle.lattice.specs.declared.points.Point.{Point}
+use Rattle.lattice.specs.declared.records.Record.{Record}
+use Rattle.text.specs.Decimal.{digits, numeral, ended, tab, feed}
+use Rattle.text.specs.Reading.{numberAt, signedAt}
+use Rattle.text.specs.declared.decimal.Number.{Number}
+use Rattle.text.specs.declared.decimal.Number.the-variants.{Natural, NoNumber}
+use Rattle.text.specs.declared.decimal.Signed.{Signed}
+use Rattle.text.specs.declared.decimal.Signed.the-variants.{Whole, NoWhole}
+use Rattle.text.specs.declared.line.Place.{Place}
+use Rattle.text.specs.declared.line.Place.the-variants.{At, Nowhere}
+use Rattle.text.specs.declared.line.Line.{Line}
+use Rattle.text.specs.declared.line.Line.the-variants.{Good, Bad, End}
+
+-- ---- written
+
+-- a, b, m, each with a tab after it
+unfoldable pub pointText : Point → List ℕ
+pointText p = ended (numeral (p .a)) tab ++ (ended (numeral (p .b)) tab ++ ended (digits (p .m .0)) tab)
+
+-- d and k, each with a tab after it, and n with the line feed
+unfoldable pub starText : ℕ → ℕ → ℕ → List ℕ
+starText d k n = ended (digits d) tab ++ (ended (digits k) tab ++ ended (digits n) feed)
+
+-- "One record a line: a, b, m, d, k, n in decimal, parted by single tabs, ended by a line feed."
+unfoldable pub lineOf : Record → List ℕ
+lineOf r = pointText (r .at) ++ starText (r .d) (r .k) (r .n .0)
+
+-- the lines of several records
+unfoldable pub lines : List Record → List ℕ
+lines [] = []
+lines (r ∷ rs) = lineOf r ++ lines rs
+
+-- ---- read
+
+-- the most that a numerator, and any other field, is read as
+abbrev pub far : ℕ
+far = 9999999
+
+abbrev pub near : ℕ
+near = 255
+
+-- what is made of a field and the position past it, where there is one
+abbrev pub onNumber : {X : Type 0} → X → (ℕ → ℕ → X) → Number → X
+onNumber none f NoNumber = none
+onNumber none f (Natural n q) = f n q
+
+abbrev pub onSigned : {X : Type 0} → X → (ℤ → ℕ → X) → Signed → X
+onSigned none f NoWhole = none
+onSigned none f (Whole z q) = f z q
+
+abbrev pub onPlace : {X : Type 0} → X → (Point → ℕ → X) → Place → X
+onPlace none f Nowhere = none
+onPlace none f (At p q) = f p q
+
+unfoldable pub placeAt : List ℕ → ℕ → Place
+placeAt t p =
+    onSigned Nowhere (λ a past-a.
+    onSigned Nowhere (λ b past-b.
+    onNumber Nowhere (λ m past-m. At (pt a b m) past-m)
+    (numberAt t past-b near tab)) (signedAt t past-a far tab)) (signedAt t p far tab)
+
+abbrev pub rec : Point → ℕ → ℕ → ℕ → Record
+rec p d k n = record { at = p; d = d; k = k; n = record { 0 = n } }
+
+unfoldable pub starAt : List ℕ → ℕ → Point → Line
+starAt t q p =
+    onNumber Bad (λ d past-d.
+    onNumber Bad (λ k past-k.
+    onNumber Bad (λ n next. Good (rec p d k n) next)
+    (numberAt t past-k near feed)) (numberAt t past-d near tab)) (numberAt t q near tab)
+
+-- the line at p, its record valid or not
+unfoldable pub spelledAt : List ℕ → ℕ → Line
+spelledAt t p = cond (leb (length t) p) End (onPlace Bad (λ at past-m. starAt t past-m at) (placeAt t p))
+
+abbrev pub judged : Line → Line
+judged End = End
+judged Bad = Bad
+judged (Good r next) = cond (validOf r) (Good r next) Bad
+
+-- the line of a valid record at p: "line malformed or record not valid" is Bad
+unfoldable pub lineAt : List ℕ → ℕ → Line
+lineAt t p = judged (spelledAt t p)
