@@ -15,3 +15,5 @@ pub mod PatternLaws
 pub mod StarLaws
 pub mod Places
 pub mod GeometryLaws
+pub mod SideLaws
+pub mod SubdivisionLaws

@@ -11,6 +11,7 @@ pub mod Flags
 pub mod Signs
 -- computed tables: Rules
 pub mod Bools
+pub mod Choices
 pub mod Rules
 -- lists and bytes: Sets, Words
 pub mod Sets
