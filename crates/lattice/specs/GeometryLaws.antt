@@ -102,7 +102,7 @@ same-down d D p q h hp hq s = record { across = one (p .a) (q .a) (s .across); u
     one x y e = cancel (lift x (p .m .0) d) (lift y (q .m .0) d) (3 ^ (D - d)) (pow-over (D - d)) (lift-lift x (p .m .0) d D hp h ∙ e ∙ sym (lift-lift y (q .m .0) d D hq h))
 
 -- the step's length only scales what is stepped by
-scale-lift : (x : ℤ) (m h D : ℕ) → lift x (m + h) (D + h) ≡ lift x m D
+pub scale-lift : (x : ℤ) (m h D : ℕ) → lift x (m + h) (D + h) ≡ lift x m D
 scale-lift x m h D = let e : D + h - (m + h) ≡ D - m = omega arith in ap (λ (k : ℕ). x *ℤ pos (3 ^ k)) e
 
 same-scale : (n : Level) (D : ℕ) (p q : Point) → Same (D + n .0 / 2) (scaleOf n p) (scaleOf n q) → Same D p q

@@ -16,3 +16,5 @@ pub mod StarLaws
 pub mod Places
 pub mod RankLaws
 pub mod GeometryLaws
+pub mod SideLaws
+pub mod SubdivisionLaws

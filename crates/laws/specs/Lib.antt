@@ -9,9 +9,10 @@ pub mod Residue
 pub mod Machine
 pub mod Flags
 pub mod Signs
--- truth values, computed tables: Bools, Truths, Rules, Each
+-- truth values, computed tables: Bools, Truths, Choices, Rules, Each
 pub mod Bools
 pub mod Truths
+pub mod Choices
 pub mod Rules
 pub mod Each
 -- lists and bytes: Sets, Stores, Words
