@@ -1,12 +1,13 @@
--- What a valid record has: `Inner` of degree 3 to 6, and `inner`, which reads it off validity; `inner-small` it can be stepped from.
+-- What a valid record has: `Inner` of degree 3 to 6, and `inner`, which reads it off validity; `inner-small` it can be stepped from · `valid-turn`, `valid-level` the
+-- most that orientation and level are, boundary vertices included.
 -- Assumes nothing.
 use mathlib.Core.Path.{_≡_}
 use Prim.Native.Nat.{ℕ, _*_, _%_, _≤_, _<_, _^_}
 use native.Mathlib.Omega.{arith}
-use native.Mathlib.Decide.{decLe}
-use mathlib.Core.Bool.{_&&_}
-use lib.Dec.{ltb, leb, T, ltb→lt, eqb→eq, leb→le}
-use borrow.Author.Tests.{ne-eqb}
+use native.Mathlib.Decide.{decLe, ℕ-discrete}
+use mathlib.Core.Bool.{_&&_, Bool, true, false, cond}
+use lib.Dec.{ltb, leb, T, ltb→lt, eqb→eq, leb→le, eqb, lit≤}
+use borrow.Author.Tests.{ne-eqb, eq-eqb}
 use lib.IntN.{natAbs}
 use Rattle.laws.specs.Bools.{and-left, and-right}
 use Rattle.lattice.specs.Records.{within, orientationsOf, sameParity, suitsOf, validOf}
@@ -65,3 +66,39 @@ inner r t n =
 
 pub inner-small : {r : Record} → Inner r → Small (r .at)
 inner-small {r} i = small-range (r .at) (i .depth) (i .wide) (i .high)
+
+orientations-most : (d : ℕ) → orientationsOf d ≤ 12
+orientations-most d = go (eqb d 3) (eqb d 4) (eqb d 5) (eqb d 6)
+  where
+    go : (a b c e : Bool) → cond a 4 (cond b 12 (cond c 12 (cond e 2 0))) ≤ 12
+    go true b c e = lit≤ tt
+    go false true c e = lit≤ tt
+    go false false true e = lit≤ tt
+    go false false false true = lit≤ tt
+    go false false false false = lit≤ tt
+
+-- a valid boundary vertex has orientation and level 0
+pub boundary-zero : (r : Record) → T (validOf r) → r .d ≡ 0 → (r .k ≡ 0) × (r .n .0 ≡ 0)
+boundary-zero r t e =
+    let m = r .at .m .0 in
+    let s = suitsOf (r .d) (r .k) (r .n .0) in
+    let t₁ = and-right (isNormal (r .at)) (leb m 6 && (within (r .at .a) m && (within (r .at .b) m && s))) t in
+    let t₂ = and-right (leb m 6) (within (r .at .a) m && (within (r .at .b) m && s)) t₁ in
+    let t₃ = and-right (within (r .at .a) m) (within (r .at .b) m && s) t₂ in
+    let u : T (eqb (r .k) 0 && eqb (r .n .0) 0) = rw (eq-eqb (r .d) 0 e) at (and-right (within (r .at .b) m) s t₃) in
+    (eqb→eq (r .k) 0 (and-left (eqb (r .k) 0) (eqb (r .n .0) 0) u), eqb→eq (r .n .0) 0 (and-right (eqb (r .k) 0) (eqb (r .n .0) 0) u))
+
+-- no valid record has a greater orientation than 11
+pub valid-turn : (r : Record) → T (validOf r) → r .k < 12
+valid-turn r t = go (ℕ-discrete (r .d) 0)
+  where
+    go : Dec (r .d ≡ 0) → r .k < 12
+    go (yes e) = omega (arith, boundary-zero r t e .0)
+    go (no e) = let i = inner r t e in omega (arith, i .turn, orientations-most (r .d))
+
+pub valid-level : (r : Record) → T (validOf r) → r .n .0 ≤ 12
+valid-level r t = go (ℕ-discrete (r .d) 0)
+  where
+    go : Dec (r .d ≡ 0) → r .n .0 ≤ 12
+    go (yes e) = omega (arith, boundary-zero r t e .1)
+    go (no e) = inner r t e .level

@@ -1,2 +1,3 @@
 -- Document 01, "Subdivision of v", in antt.
 pub mod Subdivide
+pub mod SubdivideLaws

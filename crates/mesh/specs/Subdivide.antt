@@ -1,14 +1,16 @@
 -- Document 01, "Subdivision of v": when it is refused and what the table holds after. What the promises cite: `subdivideOf`, `subdivideAllOf`.
--- `adjacentFits`, `newFits`, `torn`, `tooDeep` the conditions of 7 and 6 · `renewedTo`, `enteredTo`, `subdivided` the table after · `Outcome` number and table.
+-- `adjacentFits`, `newFits`, `torn`, `tooDeep` the conditions of 7 and 6 · `renewedTo`, `enteredTo`, `subdivided` the table after · `Outcome` number and table ·
+-- `Many` the same of a list.
 -- Record by record the rules are the lattice's: Subdivision. Assumes nothing.
 use mathlib.Core.Bool.{Bool, false, cond, _&&_, not}
 use mathlib.Core.List.{List}
-use Prim.Native.Nat.{ℕ, zero, suc}
+use Prim.Native.Nat.{ℕ, zero, suc, _+_, _*_, _/_}
 use lib.Dec.{eqb, ltb, leb}
-use lib.IntN.{ℤ}
+use lib.IntN.{ℤ, pos, negsuc, natAbs}
+use lib.ListN.{length, getD}
 use Rattle.laws.specs.Rules.{upto}
 use Rattle.lattice.specs.Stars.{adjacentAt}
-use Rattle.lattice.specs.Subdivision.{centreOf, newOf, backOf, updateOf, acceptsOf}
+use Rattle.lattice.specs.Subdivision.{centreOf, newOf, backOf, updateOf, acceptsOf, bornOf}
 use Rattle.lattice.specs.Points.{normalOf}
 use Rattle.table.specs.Entries.{lookUp, enterOf, replaceOf, holds}
 use Rattle.table.specs.Order.{inOrderOf}
@@ -51,15 +53,15 @@ unfoldable pub renewedTo : List ℕ → Record → ℕ → List ℕ
 renewedTo t v zero = t
 renewedTo t v (suc j) = renewOf (renewedTo t v j) v j
 
--- "Six records enter, in the order of v's new star": the first j of them
+-- "Six records enter, in the order of v's new star": the first j of those round c, which is v with its new star
 unfoldable pub enteredTo : List ℕ → Record → ℕ → List ℕ
-enteredTo t v zero = t
-enteredTo t v (suc j) = enterOf (enteredTo t v j) (newOf v j)
+enteredTo t c zero = t
+enteredTo t c (suc j) = enterOf (enteredTo t c j) (bornOf c j)
 
 -- v, its old adjacent vertices, its new ones; "All else is untouched."
 unfoldable pub subdivided : List ℕ → Record → List ℕ
 unfolding renewedTo enteredTo
-subdivided t v = enteredTo (renewedTo (replaceOf t (centreOf v)) v 6) v 6
+subdivided t v = enteredTo (renewedTo (replaceOf t (centreOf v)) v 6) (centreOf v) 6
 
 -- ---- the call
 pub record Outcome : Type 0 where
@@ -88,3 +90,38 @@ subdivideLooked t (Held v) = subdivideVertex t v
 unfoldable pub subdivideOf : List ℕ → ℤ → ℤ → ℕ → Outcome
 unfolding subdivided torn tooDeep
 subdivideOf t a b m = cond (inOrderOf t) (subdivideLooked t (lookUp t (normalOf a b m))) (outcome 1 t)
+
+-- ---- many at once, ours: "one in-order test, then each point subdivided in turn as `subdivide` would"
+pub record Many : Type 0 where
+  pub number : ℕ
+  pub done : ℕ
+  pub bytes : List ℕ
+
+-- "a list of points [a, b, m, a, b, m, ..]": how many whole triples it has
+abbrev pub triplesIn : List ℤ → ℕ
+triplesIn ps = length ps / 3
+
+-- a triple's m is a byte
+abbrev pub isByte : ℤ → Bool
+isByte (pos m) = ltb m 256
+isByte (negsuc m) = false
+
+-- triple i, as `subdivide` answers it; 3 where its m is not in 0..255
+unfoldable pub subdivideTriple : List ℕ → List ℤ → ℕ → Outcome
+unfolding subdivideOf
+subdivideTriple t ps i =
+    cond (isByte (getD ps (3 * i + 2) (pos 0)))
+    (subdivideOf t (getD ps (3 * i) (pos 0)) (getD ps (3 * i + 1) (pos 0)) (natAbs (getD ps (3 * i + 2) (pos 0))))
+    (outcome 3 t)
+
+-- "it stops at the first refusal and says how many were made; those before stand": from triple i on, of which so many are left
+unfoldable pub subdivideFrom : List ℕ → List ℤ → ℕ → ℕ → Many
+unfolding subdivideTriple
+subdivideFrom t ps i zero = record { number = 0; done = i; bytes = t }
+subdivideFrom t ps i (suc left) =
+    let o = subdivideTriple t ps i in
+    cond (eqb (o .number) 0) (subdivideFrom (o .bytes) ps (i + 1) left) (record { number = o .number; done = i; bytes = t })
+
+unfoldable pub subdivideAllOf : List ℕ → List ℤ → Many
+unfolding subdivideFrom
+subdivideAllOf t ps = cond (inOrderOf t) (subdivideFrom t ps 0 (triplesIn ps)) (record { number = 1; done = 0; bytes = t })

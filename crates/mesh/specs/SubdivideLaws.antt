@@ -1,0 +1,455 @@
+-- What a subdivision does to a table in order: it stays in order, and each point's record is known.
+-- The argument goes write by write. v's record is replaced; then each old adjacent vertex's, in turn: they are different points, and none is v, since v's own degree has no rule; so each
+-- is still as it was when its turn comes, and its rule makes a valid record. Then the new ones enter: they were absent, they are different points, and six slots were free.
+-- `Ready` a vertex that may be subdivided · `Whole` one whose subdivision is not torn and has room · `subdivided-order`, `subdivided-free` · `subdivided-centre`, `subdivided-new`,
+-- `subdivided-old`, `subdivided-rest` the records after · `renewed-order`, `renewed-next`, `entered-order` what the code needs on the way.
+-- Assumes nothing.
+use mathlib.Core.Path.{_≡_, refl, sym, _∙_, ap, subst}
+use mathlib.Core.Bool.{Bool, true, false, cond, _&&_}
+use mathlib.Core.List.{List}
+use Prim.Native.Nat.{ℕ, suc, _+_, _%_, _≤_, _<_, zero, _*_}
+use native.Mathlib.Omega.{arith}
+use native.Mathlib.Decide.{ℕ-discrete}
+use lib.Dec.{eqb, T}
+use lib.ListN.{length}
+use Rattle.laws.specs.Each.{not-both, and-false}
+use Rattle.lattice.specs.Stars.{adjacentAt}
+use Rattle.lattice.specs.Subdivision.{centreOf, newOf, backOf, fourTurn, updateOf, acceptsOf, bornOf}
+use Rattle.lattice.specs.GeometryLaws.{star-distinct}
+use Rattle.lattice.specs.Records.{validOf}
+use Rattle.lattice.specs.SubdivisionLaws.{Sited, sited, centre-valid, update-valid, new-valid}
+use Rattle.table.specs.Entries.{lookUp, replaceOf, enterOf}
+use Rattle.table.specs.MapLaws.{there, room, full, lookup-point, lookup-valid, replace-order, replace-finds, replace-keeps, replace-free, enter-order, enter-finds, enter-keeps, enter-free, Searched, searched, replace-length, put-replace, enter-length}
+use Rattle.table.specs.Order.{InOrder}
+use Rattle.table.specs.Slots.{freeSlots, slotAt, putSlot, slotWidth, slotsOf, Table}
+use Rattle.lattice.specs.declared.points.Point.{Point}
+use Rattle.lattice.specs.declared.records.Record.{Record}
+use Rattle.table.specs.declared.entries.Looked.{Looked}
+use Rattle.table.specs.declared.entries.Looked.the-variants.{Absent, Held}
+use Rattle.laws.specs.Choices.{is-true, of-true}
+use Rattle.laws.specs.Linear.{same}
+use Rattle.lattice.specs.RecordLaws.{Inner, inner, valid-turn, valid-level}
+use Rattle.table.specs.declared.slots.Slot.{Slot}
+use Rattle.table.specs.declared.slots.Slot.the-variants.{Free, Holds}
+use Rattle.table.specs.Search.{findOf}
+use Rattle.table.specs.SlotLaws.{table-same}
+use Rattle.mesh.specs.Subdivide.{fitsAt, adjacentFits, renewAt, renewedTo, enteredTo, subdivided, renewOf}
+use Rattle.table.specs.declared.probe.Found.the-variants as found
+
+pub record Ready (t : List ℕ) (v : Record) : Type 0 where
+  pub order : InOrder t
+  pub held : lookUp t (v .at) ≡ Held v
+  pub six : v .d ≡ 6
+  pub below : v .n .0 < 12
+
+pub record Whole (t : List ℕ) (v : Record) : Type 0 where
+  pub ready : Ready t v
+  pub fits : (j : ℕ) → j < 6 → adjacentFits t v j ≡ true
+  pub fresh : (j : ℕ) → j < 6 → lookUp t (newOf v j .at) ≡ Absent
+  pub room : 6 ≤ freeSlots t
+
+-- ---- records
+pub update-at : (k′ : ℕ) (u : Record) → updateOf k′ u .at ≡ u .at
+unfolding updateOf
+update-at k′ u = go (eqb (u .d) 3) (eqb (u .d) 4) (eqb (u .d) 5)
+  where
+    go : (a b c : Bool) →
+        cond a (record { at = u .at; d = 4; k = (k′ + 4) % 12; n = u .n })
+        (cond b (record { at = u .at; d = 5; k = fourTurn k′ (u .k); n = u .n })
+        (cond c (record { at = u .at; d = 6; k = (k′ + 1) % 2; n = record { 0 = u .n .0 + 1 } })
+        u)) .at ≡ u .at
+    go true b c = refl
+    go false true c = refl
+    go false false true = refl
+    go false false false = refl
+
+-- no rule takes a vertex of degree 6 on
+six-torn : (k′ n : ℕ) (u : Record) → u .d ≡ 6 → acceptsOf k′ n u ≡ true → ⊥
+unfolding acceptsOf
+six-torn k′ n u six h = let z : eqb (u .n .0) n && false ≡ true = rw six at h in not-both z (and-false (eqb (u .n .0) n))
+
+-- ---- what is looked up at an old place that fits
+held-same : {a b : Record} → Held a ≡ Held b → a ≡ b
+held-same {a} {b} e = cc
+
+held-fits : (v : Record) (j : ℕ) (l : Looked) → fitsAt v j l ≡ true → (u : Record) × (l ≡ Held u) × (acceptsOf (backOf (v .k) j) (v .n .0) u ≡ true)
+held-fits v j Absent h = absurd (not-both h refl)
+held-fits v j (Held u) h = (u, refl, h)
+
+module _ (t : List ℕ) (v : Record) (w : Whole t v) where
+  abbrev o : InOrder t
+  o = w .ready .order
+
+  pub vertex-valid : validOf v ≡ true
+  vertex-valid = lookup-valid t o (v .at) v (w .ready .held)
+
+  sound : T (validOf v)
+  sound = of-true vertex-valid
+
+  -- the old adjacent vertex at place j
+  pub old : (j : ℕ) → j < 6 → (u : Record) × (lookUp t (adjacentAt v j) ≡ Held u) × (acceptsOf (backOf (v .k) j) (v .n .0) u ≡ true)
+  old j h = held-fits v j (lookUp t (adjacentAt v j)) (w .fits j h)
+
+  old-point : (j : ℕ) (h : j < 6) → old j h .0 .at ≡ adjacentAt v j
+  old-point j h = lookup-point t o (adjacentAt v j) (old j h .0) (old j h .1)
+
+  old-valid : (j : ℕ) (h : j < 6) → validOf (old j h .0) ≡ true
+  old-valid j h = lookup-valid t o (adjacentAt v j) (old j h .0) (old j h .1)
+
+  -- and what becomes of it
+  abbrev pub renewal : (j : ℕ) → j < 6 → Record
+  renewal j h = updateOf (backOf (v .k) j) (old j h .0)
+
+  renewal-at : (j : ℕ) (h : j < 6) → renewal j h .at ≡ adjacentAt v j
+  renewal-at j h = update-at (backOf (v .k) j) (old j h .0) ∙ old-point j h
+
+  renewal-valid : (j : ℕ) (h : j < 6) → validOf (renewal j h) ≡ true
+  renewal-valid j h = is-true (validOf (renewal j h)) (update-valid (backOf (v .k) j) (v .n .0) (old j h .0) (w .ready .below) (of-true (old-valid j h)) (of-true (old j h .2)))
+
+  pub centre-good : validOf (centreOf v) ≡ true
+  centre-good = is-true (validOf (centreOf v)) (centre-valid v sound (w .ready .six) (w .ready .below))
+
+  old-sited : (j : ℕ) → j < 6 → Sited (adjacentAt v j)
+  old-sited j h = subst Sited (old-point j h) (sited (old j h .0) (of-true (old-valid j h)))
+
+  pub new-good : (j : ℕ) → j < 6 → validOf (newOf v j) ≡ true
+  new-good j h = is-true (validOf (newOf v j)) (new-valid v sound (w .ready .six) (w .ready .below) j h old-sited)
+
+  -- ---- different points
+  adjacent-centre : (j : ℕ) → j < 6 → adjacentAt v j ≡ v .at → ⊥
+  adjacent-centre j h e =
+      let (u, l, a) = old j h in
+      let x : u ≡ v = held-same (sym l ∙ ap (lookUp t) e ∙ w .ready .held) in
+      six-torn (backOf (v .k) j) (v .n .0) v (w .ready .six) (subst (λ (r : Record). acceptsOf (backOf (v .k) j) (v .n .0) r ≡ true) x a)
+
+  adjacent-apart : (i j : ℕ) → i < 6 → j < 6 → (i ≡ j → ⊥) → adjacentAt v i ≡ adjacentAt v j → ⊥
+  adjacent-apart i j hi hj n e =
+      let s = w .ready .six in
+      n (star-distinct v i j (omega arith) (omega arith) (omega arith) (omega arith) e)
+
+  new-apart : (i j : ℕ) → i < 6 → j < 6 → (i ≡ j → ⊥) → newOf v i .at ≡ newOf v j .at → ⊥
+  new-apart i j hi hj n e =
+      let s = w .ready .six in
+      n (star-distinct (centreOf v) i j (omega arith) (omega arith) (omega arith) (omega arith) e)
+
+  -- ---- v's record replaced
+  abbrev pub t₁ : List ℕ
+  t₁ = replaceOf t (centreOf v)
+
+  pub centred-order : InOrder t₁
+  centred-order = replace-order t o (centreOf v) centre-good
+
+  -- ---- the old adjacent vertices, the first j
+  pub record Renewed (j : ℕ) : Type 0 where
+    pub order : InOrder (renewedTo t₁ v j)
+    pub later : (i : ℕ) → j ≤ i → i < 6 → lookUp (renewedTo t₁ v j) (adjacentAt v i) ≡ lookUp t (adjacentAt v i)
+    pub done : (i : ℕ) → i < j → (u : Record) → lookUp t (adjacentAt v i) ≡ Held u → lookUp (renewedTo t₁ v j) (adjacentAt v i) ≡ Held (updateOf (backOf (v .k) i) u)
+    pub rest : (p : Point) → ((i : ℕ) → i < j → p ≡ adjacentAt v i → ⊥) → lookUp (renewedTo t₁ v j) p ≡ lookUp t₁ p
+    pub free : freeSlots (renewedTo t₁ v j) ≡ freeSlots t
+
+  -- one more: it is the record put in place
+  renew-put : (j : ℕ) (h : j < 6) → Renewed j → renewedTo t₁ v (suc j) ≡ replaceOf (renewedTo t₁ v j) (renewal j h)
+  unfolding renewedTo
+  renew-put j h r = let n : j ≤ j = omega arith in ap (renewAt (renewedTo t₁ v j) v j) (r .later j n h ∙ old j h .1)
+
+  renew-none : renewedTo t₁ v 0 ≡ t₁
+  unfolding renewedTo
+  renew-none = refl
+
+  start : Renewed 0
+  start =
+      record {
+        order = subst InOrder (sym renew-none) centred-order;
+        later = λ i l h. ap (λ (u : List ℕ). lookUp u (adjacentAt v i)) renew-none ∙ replace-keeps t o (centreOf v) centre-good (adjacentAt v i) (adjacent-centre i h);
+        done = λ i l u q. absurd (omega arith);
+        rest = λ p f. ap (λ (u : List ℕ). lookUp u p) renew-none;
+        free = ap freeSlots renew-none ∙ replace-free t o (centreOf v) centre-good;
+      }
+
+  more : (j : ℕ) → j < 6 → Renewed j → Renewed (suc j)
+  more j h r =
+      let u = renewedTo t₁ v j in
+      let x = renewal j h in
+      let g = renewal-valid j h in
+      let e = renew-put j h r in
+      let n : j ≤ j = omega arith in
+      let was : lookUp u (x .at) ≡ Held (old j h .0) = ap (lookUp u) (renewal-at j h) ∙ r .later j n h ∙ old j h .1 in
+      let kept : (p : Point) → (p ≡ adjacentAt v j → ⊥) → lookUp (renewedTo t₁ v (suc j)) p ≡ lookUp u p =
+      λ p f. ap (λ (s : List ℕ). lookUp s p) e ∙ replace-keeps u (r .order) x g p (λ q. f (q ∙ renewal-at j h)) in
+      record {
+        order = subst InOrder (sym e) (replace-order u (r .order) x g);
+        later = λ i l k. kept (adjacentAt v i) (adjacent-apart i j k h (omega arith)) ∙ r .later i (omega arith) k;
+        done = λ i l y q. finished i l y q (ℕ-discrete i j) kept;
+        rest = λ p f. kept p (f j (omega arith)) ∙ r .rest p (λ i l. f i (omega arith));
+        free = ap freeSlots e ∙ replace-free u (r .order) x g ∙ r .free;
+      }
+    where
+      this : (y : Record) → lookUp t (adjacentAt v j) ≡ Held y → lookUp (renewedTo t₁ v (suc j)) (adjacentAt v j) ≡ Held (updateOf (backOf (v .k) j) y)
+      this y q =
+          let u = renewedTo t₁ v j in
+          let x = renewal j h in
+          let n : j ≤ j = omega arith in
+          let same : old j h .0 ≡ y = held-same (sym (old j h .1) ∙ q) in
+          ap (λ (s : List ℕ). lookUp s (adjacentAt v j)) (renew-put j h r)
+          ∙ ap (lookUp (replaceOf u x)) (sym (renewal-at j h))
+          ∙ replace-finds u (r .order) x (renewal-valid j h) (old j h .0) (ap (lookUp u) (renewal-at j h) ∙ r .later j n h ∙ old j h .1)
+          ∙ ap (λ (z : Record). Held (updateOf (backOf (v .k) j) z)) same
+
+      finished : (i : ℕ) → i < suc j → (y : Record) → lookUp t (adjacentAt v i) ≡ Held y → Dec (i ≡ j) → ((p : Point) → (p ≡ adjacentAt v j → ⊥) → lookUp (renewedTo t₁ v (suc j)) p ≡ lookUp (renewedTo t₁ v j) p)
+          → lookUp (renewedTo t₁ v (suc j)) (adjacentAt v i) ≡ Held (updateOf (backOf (v .k) i) y)
+      finished i l y q (yes e) kept = subst (λ (m : ℕ). (y : Record) → lookUp t (adjacentAt v m) ≡ Held y → lookUp (renewedTo t₁ v (suc j)) (adjacentAt v m) ≡ Held (updateOf (backOf (v .k) m) y)) (sym e) this y q
+      finished i l y q (no n) kept = kept (adjacentAt v i) (adjacent-apart i j (omega arith) h n) ∙ r .done i (omega arith) y q
+
+  pub renewed : (j : ℕ) → j ≤ 6 → Renewed j
+  renewed zero l = start
+  renewed (suc j) l = more j (omega arith) (renewed j (omega arith))
+
+  -- what the code finds when it comes to place j
+  pub renewed-next : (j : ℕ) (h : j < 6) → lookUp (renewedTo t₁ v j) (adjacentAt v j) ≡ Held (old j h .0)
+  renewed-next j h = let n : j ≤ j = omega arith in renewed j (omega arith) .later j n h ∙ old j h .1
+
+  -- ---- the new vertices, the first j
+  abbrev pub t₂ : List ℕ
+  t₂ = renewedTo t₁ v 6
+
+  -- a new point is none of the old
+  new-old : (j : ℕ) → j < 6 → (p : Point) (u : Record) → lookUp t p ≡ Held u → newOf v j .at ≡ p → ⊥
+  new-old j h p u l e = let x : Absent ≡ Held u = sym (w .fresh j h) ∙ ap (lookUp t) e ∙ l in let z : _≡_ {A = ℕ} 0 1 = cc in omega arith
+
+  new-absent : (j : ℕ) → j < 6 → lookUp t₂ (newOf v j .at) ≡ Absent
+  new-absent j h =
+      let r = renewed 6 (omega arith) in
+      r .rest (newOf v j .at) (λ i l e. new-old j h (adjacentAt v i) (old i l .0) (old i l .1) e)
+      ∙ replace-keeps t o (centreOf v) centre-good (newOf v j .at) (λ e. new-old j h (v .at) v (w .ready .held) e)
+      ∙ w .fresh j h
+
+  pub record Entered (j : ℕ) : Type 0 where
+    pub order : InOrder (enteredTo t₂ (centreOf v) j)
+    pub later : (i : ℕ) → j ≤ i → i < 6 → lookUp (enteredTo t₂ (centreOf v) j) (newOf v i .at) ≡ Absent
+    pub done : (i : ℕ) → i < j → lookUp (enteredTo t₂ (centreOf v) j) (newOf v i .at) ≡ Held (newOf v i)
+    pub rest : (p : Point) → ((i : ℕ) → i < j → p ≡ newOf v i .at → ⊥) → lookUp (enteredTo t₂ (centreOf v) j) p ≡ lookUp t₂ p
+    pub free : freeSlots (enteredTo t₂ (centreOf v) j) + j ≡ freeSlots t
+
+  enter-next : (j : ℕ) → enteredTo t₂ (centreOf v) (suc j) ≡ enterOf (enteredTo t₂ (centreOf v) j) (newOf v j)
+  unfolding enteredTo
+  enter-next j = refl
+
+  enter-none : enteredTo t₂ (centreOf v) 0 ≡ t₂
+  unfolding enteredTo
+  enter-none = refl
+
+  begin : Entered 0
+  begin =
+      let r = renewed 6 (omega arith) in
+      record {
+        order = subst InOrder (sym enter-none) (r .order);
+        later = λ i l h. ap (λ (u : List ℕ). lookUp u (newOf v i .at)) enter-none ∙ new-absent i h;
+        done = λ i l. absurd (omega arith);
+        rest = λ p f. ap (λ (u : List ℕ). lookUp u p) enter-none;
+        free = omega (arith, r .free, ap freeSlots enter-none);
+      }
+
+  again : (j : ℕ) → j < 6 → Entered j → Entered (suc j)
+  again j h r =
+      let u = enteredTo t₂ (centreOf v) j in
+      let g = new-good j h in
+      let e = enter-next j in
+      let n : j ≤ j = omega arith in
+      let room : 0 < freeSlots u = omega (arith, r .free, w .room) in
+      let gone = r .later j n h in
+      let kept : (p : Point) → (p ≡ newOf v j .at → ⊥) → lookUp (enteredTo t₂ (centreOf v) (suc j)) p ≡ lookUp u p =
+      λ p f. ap (λ (s : List ℕ). lookUp s p) e ∙ enter-keeps u (r .order) (newOf v j) g p f in
+      record {
+        order = subst InOrder (sym e) (enter-order u (r .order) (newOf v j) g);
+        later = λ i l k. kept (newOf v i .at) (new-apart i j k h (omega arith)) ∙ r .later i (omega arith) k;
+        done = λ i l. finished i l (ℕ-discrete i j) kept (ap (λ (s : List ℕ). lookUp s (newOf v j .at)) e ∙ enter-finds u (r .order) (newOf v j) g gone room);
+        rest = λ p f. kept p (f j (omega arith)) ∙ r .rest p (λ i l. f i (omega arith));
+        free = omega (arith, ap freeSlots e, enter-free u (r .order) (newOf v j) g gone room, r .free);
+      }
+    where
+      finished : (i : ℕ) → i < suc j → Dec (i ≡ j) → ((p : Point) → (p ≡ newOf v j .at → ⊥) → lookUp (enteredTo t₂ (centreOf v) (suc j)) p ≡ lookUp (enteredTo t₂ (centreOf v) j) p) → lookUp (enteredTo t₂ (centreOf v) (suc j)) (newOf v j .at) ≡ Held (newOf v j) → lookUp (enteredTo t₂ (centreOf v) (suc j)) (newOf v i .at) ≡ Held (newOf v i)
+      finished i l (yes e) kept this = subst (λ (m : ℕ). lookUp (enteredTo t₂ (centreOf v) (suc j)) (newOf v m .at) ≡ Held (newOf v m)) (sym e) this
+      finished i l (no n) kept this = kept (newOf v i .at) (new-apart i j (omega arith) h n) ∙ r .done i (omega arith)
+
+  pub entered : (j : ℕ) → j ≤ 6 → Entered j
+  entered zero l = begin
+  entered (suc j) l = again j (omega arith) (entered j (omega arith))
+
+  -- ---- all of it
+  whole : subdivided t v ≡ enteredTo t₂ (centreOf v) 6
+  unfolding subdivided
+  whole = refl
+
+  at-end : (p : Point) → lookUp (subdivided t v) p ≡ lookUp (enteredTo t₂ (centreOf v) 6) p
+  at-end p = ap (λ (u : List ℕ). lookUp u p) whole
+
+  pub subdivided-order : InOrder (subdivided t v)
+  subdivided-order = subst InOrder (sym whole) (entered 6 (omega arith) .order)
+
+  pub subdivided-free : freeSlots (subdivided t v) + 6 ≡ freeSlots t
+  subdivided-free = omega (arith, ap freeSlots whole, entered 6 (omega arith) .free)
+
+  -- an old point is as it was before the new ones entered
+  before-new : (p : Point) (u : Record) → lookUp t p ≡ Held u → lookUp (subdivided t v) p ≡ lookUp t₂ p
+  before-new p u l = at-end p ∙ entered 6 (omega arith) .rest p (λ i h e. new-old i h p u l (sym e))
+
+  pub subdivided-centre : lookUp (subdivided t v) (v .at) ≡ Held (centreOf v)
+  subdivided-centre =
+      before-new (v .at) v (w .ready .held)
+      ∙ renewed 6 (omega arith) .rest (v .at) (λ i h e. adjacent-centre i h (sym e))
+      ∙ replace-finds t o (centreOf v) centre-good v (w .ready .held)
+
+  pub subdivided-new : (j : ℕ) → j < 6 → lookUp (subdivided t v) (newOf v j .at) ≡ Held (newOf v j)
+  subdivided-new j h = at-end (newOf v j .at) ∙ entered 6 (omega arith) .done j h
+
+  pub subdivided-old : (j : ℕ) → j < 6 → (u : Record) → lookUp t (adjacentAt v j) ≡ Held u → lookUp (subdivided t v) (adjacentAt v j) ≡ Held (updateOf (backOf (v .k) j) u)
+  subdivided-old j h u l = before-new (adjacentAt v j) u l ∙ renewed 6 (omega arith) .done j h u l
+
+  pub subdivided-rest : (p : Point) → (p ≡ v .at → ⊥) → ((j : ℕ) → j < 6 → p ≡ newOf v j .at → ⊥) → ((j : ℕ) → j < 6 → p ≡ adjacentAt v j → ⊥) → lookUp (subdivided t v) p ≡ lookUp t p
+  subdivided-rest p c n a =
+      at-end p
+      ∙ entered 6 (omega arith) .rest p n
+      ∙ renewed 6 (omega arith) .rest p a
+      ∙ replace-keeps t o (centreOf v) centre-good p c
+
+-- ---- what the code asks for on the way
+-- the tables while the old adjacent vertices are written
+pub record Renewable (t : List ℕ) (v : Record) : Type 0 where
+  pub inner : Inner v
+  pub six : v .d ≡ 6
+  pub order : (j : ℕ) → j ≤ 6 → InOrder (renewedTo t v j)
+
+pub ready-inner : {t : List ℕ} {v : Record} → Ready t v → Inner v
+ready-inner {t} {v} r = let s = r .six in inner v (of-true (lookup-valid t (r .order) (v .at) v (r .held))) (omega arith)
+
+pub whole-renewable : {t : List ℕ} {v : Record} → Whole t v → Renewable (replaceOf t (centreOf v)) v
+whole-renewable {t} {v} w = record { inner = ready-inner (w .ready); six = w .ready .six; order = λ j h. renewed t v w j h .order }
+
+-- a slot whose vertex, if it has one, has a level that can rise
+abbrev pub Low : List ℕ → ℕ → Type 0
+Low t i = (u : Record) → slotAt t i ≡ Holds u → u .n .0 < 255
+
+-- the slot i after its vertex's rule
+abbrev pub renewHeld : List ℕ → ℕ → ℕ → Slot → List ℕ
+renewHeld t i k′ Free = t
+renewHeld t i k′ (Holds u) = putSlot t i (updateOf k′ u)
+
+abbrev pub renewSlot : List ℕ → ℕ → ℕ → List ℕ
+renewSlot t i k′ = renewHeld t i k′ (slotAt t i)
+
+-- a vertex as it stands in a table in order
+pub record Standing (t : List ℕ) (v : Record) : Type 0 where
+  pub order : InOrder t
+  pub held : lookUp t (v .at) ≡ Held v
+
+pub ready-turn : {t : List ℕ} {v : Record} → Ready t v → v .k < 12
+ready-turn {t} {v} r = valid-turn v (of-true (lookup-valid t (r .order) (v .at) v (r .held)))
+
+pub six-low : {v : Record} → Inner v → v .d ≡ 6 → v .k < 12
+six-low {v} i s = let o = i .turn in let l : v .k < 2 = rw s at o in omega arith
+
+-- ---- an old adjacent vertex as the search for it finds it
+module _ (t : List ℕ) (o : InOrder t) (p : Point) where
+  at-same : {i j : ℕ} → found.At i ≡ found.At j → i ≡ j
+  at-same {i} {j} e = cc
+
+  at-free : {i j : ℕ} → found.At i ≡ found.Free j → ⊥
+  at-free {i} {j} e = let z : _≡_ {A = ℕ} 0 1 = cc in omega arith
+
+  at-full : {i : ℕ} → found.At i ≡ found.Full → ⊥
+  at-full {i} e = let z : _≡_ {A = ℕ} 0 1 = cc in omega arith
+
+  -- the slot where it ended is one of the table's, holds the vertex, and its record can rise
+  pub record Ended (i : ℕ) : Type 0 where
+    pub slot : i < slotsOf t
+    pub vertex : Record
+    pub holds : slotAt t i ≡ Holds vertex
+    pub point : vertex .at ≡ p
+    pub looked : lookUp t p ≡ Held vertex
+
+  pub ended : (i : ℕ) → findOf t p ≡ found.At i → Ended i
+  ended i e = go (searched t (o .fits) p)
+    where
+      go : Searched t p → Ended i
+      go (there j r f l s a k) =
+          let q : j ≡ i = at-same (sym f ∙ e) in
+          record { slot = omega arith; vertex = r; holds = ap (slotAt t) (sym q) ∙ s; point = a; looked = k }
+      go (room j f l s a k) = absurd (at-free (sym e ∙ f))
+      go (full f a k) = absurd (at-full (sym e ∙ f))
+
+  pub ended-low : (i : ℕ) → findOf t p ≡ found.At i → Low t i
+  ended-low i e u h = let l = valid-level u (of-true (o .valid i u (ended i e .slot) h)) in omega arith
+
+  pub ended-room : (i : ℕ) → findOf t p ≡ found.At i → slotWidth * i + slotWidth ≤ length t
+  ended-room i e = let s = ended i e .slot in let l = o .fits .long in omega arith
+
+  module _ (v : Record) (j : ℕ) (q : p ≡ adjacentAt v j) where
+    renew-looked : (l : Looked) → lookUp t p ≡ l → renewAt t v j l ≡ renewOf t v j
+    renew-looked l e = ap (renewAt t v j) (sym e ∙ ap (lookUp t) q)
+
+    pub renew-found : (i : ℕ) → findOf t p ≡ found.At i → renewSlot t i (backOf (v .k) j) ≡ renewOf t v j
+    renew-found i e =
+        let x = ended i e in
+        let u = updateOf (backOf (v .k) j) (x .vertex) in
+        ap (renewHeld t i (backOf (v .k) j)) (x .holds)
+        ∙ put-replace t u i (ap (findOf t) (update-at (backOf (v .k) j) (x .vertex) ∙ x .point) ∙ e)
+        ∙ renew-looked (Held (x .vertex)) (x .looked)
+
+    pub renew-gone : lookUp t p ≡ Absent → t ≡ renewOf t v j
+    renew-gone e = renew-looked Absent e
+
+  pub free-absent : (i : ℕ) → findOf t p ≡ found.Free i → lookUp t p ≡ Absent
+  free-absent i e = go (searched t (o .fits) p)
+    where
+      go : Searched t p → lookUp t p ≡ Absent
+      go (there j r f l s a k) = absurd (at-free (sym f ∙ e))
+      go (room j f l s a k) = a
+      go (full f a k) = a
+
+  pub full-absent : findOf t p ≡ found.Full → lookUp t p ≡ Absent
+  full-absent e = go (searched t (o .fits) p)
+    where
+      go : Searched t p → lookUp t p ≡ Absent
+      go (there j r f l s a k) = absurd (at-full (sym f ∙ e))
+      go (room j f l s a k) = a
+      go (full f a k) = a
+
+-- ---- one more vertex written, as the loops count
+pub renewed-more : (t : List ℕ) (v : Record) (j : ℕ) → renewOf (renewedTo t v j) v j ≡ renewedTo t v (j + 1)
+unfolding renewedTo
+renewed-more t v j = let e : j + 1 ≡ suc j = omega arith in ap (renewedTo t v) (sym e)
+
+pub renewed-none : (t : List ℕ) (v : Record) → t ≡ renewedTo t v 0
+unfolding renewedTo
+renewed-none t v = refl
+
+pub entered-more : (t : List ℕ) (c : Record) (j : ℕ) → enterOf (enteredTo t c j) (bornOf c j) ≡ enteredTo t c (j + 1)
+unfolding enteredTo
+entered-more t c j = let e : j + 1 ≡ suc j = omega arith in ap (enteredTo t c) (sym e)
+
+pub entered-none : (t : List ℕ) (c : Record) → t ≡ enteredTo t c 0
+unfolding enteredTo
+entered-none t c = refl
+
+pub renew-length : (t : List ℕ) (v : Record) (j : ℕ) → length (renewOf t v j) ≡ length t
+renew-length t v j = go (lookUp t (adjacentAt v j))
+  where
+    go : (l : Looked) → length (renewAt t v j l) ≡ length t
+    go Absent = refl
+    go (Held u) = replace-length t (updateOf (backOf (v .k) j) u)
+
+pub renewed-length : (t : List ℕ) (v : Record) (j : ℕ) → length (renewedTo t v j) ≡ length t
+unfolding renewedTo
+renewed-length t v zero = refl
+renewed-length t v (suc j) = renew-length (renewedTo t v j) v j ∙ renewed-length t v j
+
+pub entered-length : (t : List ℕ) (c : Record) (j : ℕ) → length (enteredTo t c j) ≡ length t
+unfolding enteredTo
+entered-length t c zero = refl
+entered-length t c (suc j) = enter-length (enteredTo t c j) (bornOf c j) ∙ entered-length t c j
+
+pub renewed-table : (t : List ℕ) (v : Record) (j n : ℕ) → Table t n → Table (renewedTo t v j) n
+renewed-table t v j n w = table-same t (renewedTo t v j) n (renewed-length t v j) w
+
+pub entered-table : (t : List ℕ) (c : Record) (j n : ℕ) → Table t n → Table (enteredTo t c j) n
+entered-table t c j n w = table-same t (enteredTo t c j) n (entered-length t c j) w

@@ -1,0 +1,93 @@
+// Whether a subdivision would tear the mesh, or make a point too deep.
+ghost use mathlib.Core.Path.{_≡_};
+ghost use mathlib.Core.Bool.{not};
+ghost use Prim.Native.Nat.{_≤_, _<_};
+ghost use lib.Dec.{leb};
+ghost use Rattle.laws.specs.Rules.{upto};
+ghost use Rattle.lattice.specs.RecordLaws.{Inner};
+ghost use Rattle.lattice.specs.Stars.{adjacentAt};
+ghost use Rattle.table.specs.Slots.{Table};
+ghost use Rattle.table.specs.Entries.{holds};
+ghost use Rattle.mesh.specs.Subdivide.{adjacentFits};
+ghost use Rattle.mesh.specs.SubdivideLaws.{Ready};
+use lattice::Record;
+use lattice::accepts;
+use lattice::adjacent_of;
+use lattice::back;
+use table::Looked;
+use table::look_up;
+
+// The old adjacent vertex at place j is there and its rule applies.
+fn adjacent_fits(t: &[u8], v: Record, j: u8, n: usize) -> bool
+    requires { ⌜ Table (now t) n × (Ready (now t) v × (j < 6)) ⌝ }
+    ensures { λ r. ⌜ r ≡ adjacentFits (now (t .entry)) v j ⌝ }
+{
+    let k = v.k;
+    let level = v.n.0;
+    let l = look_up(t, adjacent_of(v, j), n);
+    match l {
+        Looked::Absent => false,
+        Looked::Held(u) => accepts(back(k, j), level, u),
+    }
+}
+
+// So do all six.
+pub fn adjacents_fit(t: &[u8], v: Record, n: usize) -> bool
+    requires { ⌜ Table (now t) n × Ready (now t) v ⌝ }
+    ensures { λ r. ⌜ r ≡ upto 6 (adjacentFits (now (t .entry)) v) ⌝ }
+{
+    let mut j: u8 = 0;
+    while j < 6 {
+        if adjacent_fits(t, v, j, n) {
+            j += 1;
+        } else {
+            return false;
+        }
+    }
+    true
+}
+
+// Place j of the star of c is no vertex.
+fn absent_at(t: &[u8], c: Record, j: u8, n: usize) -> bool
+    requires { ⌜ Table (now t) n × (Inner c × (j < c .d)) ⌝ }
+    ensures { λ r. ⌜ r ≡ not (holds (now (t .entry)) (adjacentAt c j)) ⌝ }
+{
+    let l = look_up(t, adjacent_of(c, j), n);
+    match l {
+        Looked::Absent => true,
+        Looked::Held(_) => false,
+    }
+}
+
+// None of the first six places is.
+pub fn all_absent(t: &[u8], c: Record, n: usize) -> bool
+    requires { ⌜ Table (now t) n × (Inner c × (c .d ≡ 6)) ⌝ }
+    ensures { λ r. ⌜ r ≡ upto 6 (λ j. not (holds (now (t .entry)) (adjacentAt c j))) ⌝ }
+{
+    let mut j: u8 = 0;
+    while j < 6 {
+        if absent_at(t, c, j, n) {
+            j += 1;
+        } else {
+            return false;
+        }
+    }
+    true
+}
+
+// No point of the star of c is deeper than 6.
+pub fn none_deeper(c: Record) -> bool
+    requires { ⌜ Inner c × (c .d ≡ 6) ⌝ }
+    ensures { λ r. ⌜ r ≡ upto 6 (λ j. leb (adjacentAt c j .m .0) 6) ⌝ }
+{
+    let mut j: u8 = 0;
+    while j < 6 {
+        let p = adjacent_of(c, j);
+        if p.m.0 <= 6 {
+            j += 1;
+        } else {
+            return false;
+        }
+    }
+    true
+}
