@@ -10,6 +10,7 @@
 -- All records       `records-none`, `records-more` one slot more · `records-looked`, `looked-records` they are what is found · `records-apart` no point twice · `records-count` ·
 --                   `records-same` equal maps have as many
 -- A table           `table-of`, `order-table` · `slots-table`, `table-slots`, `table-same` the number of slots · `order-test`, `test-order` the test and the four conditions
+--                   · `at-room`, `free-room` the slot where a search ended lies in it, as `read_slot` and `write_slot` ask
 -- Points            `same-or-not`, `same-refl`, `same-true`
 -- Assumes nothing.
 use mathlib.Core.Path.{_≡_, refl, sym, ap, _∙_, subst}
@@ -39,6 +40,7 @@ use Rattle.table.specs.declared.entries.Looked.the-variants.{Absent, Hel
 pub use Rattle.table.specs.SearchLaws.{same-or-not, same-refl, same-true}
 pub use Rattle.table.specs.SlotLaws.{slots-table, table-slots, table-same}
 pub use Rattle.table.specs.OrderLaws.{order-test, test-order}
+pub use Rattle.table.specs.EntryLaws.{at-room, free-room}
 pub use Rattle.table.specs.WriteLaws.{StandsIn, table-of}
 pub use Rattle.table.specs.RecordLaws.{Apart}
 use Rattle.table.specs.WriteLaws.{entered-order, entered-new, entered-stands, entered-old, entered-free, replaced-order, replaced-find, replaced-new, replaced-stands, replaced-old, replaced-free}
