@@ -38,8 +38,8 @@ lengths : (slotsIn 192 ≡ 16) × (slotsIn 786432 ≡ 65536) × (slotsIn 180 ≡
 unfolding slotsIn
 lengths = (refl, refl, refl, refl, refl)
 
--- a home past 32 bits, and homes of negative sums
-homes : (homeOf (pt (pos 182979) (pos 182979) 6) 65536 ≡ 32286) × (homeOf (pt (negsuc 0) (pos 0) 0) 16 ≡ 1) × (homeOf (pt (pos 0) (negsuc 0) 0) 16 ≡ 7)
+-- the home of a sum past 32 bits, and the homes of negative sums
+homes : (homeOf (pt (pos 182979) (pos 182979) 6) 5461 ≡ 1558) × (homeOf (pt (negsuc 0) (pos 0) 0) 16 ≡ 1) × (homeOf (pt (pos 0) (negsuc 0) 0) 16 ≡ 7)
 unfolding homeOf
 homes = (refl, refl, refl)
 
@@ -52,12 +52,12 @@ found-there : (findOf one (pt (negsuc 0) (pos 1) 0) ≡ found.At 10) × (lookUp 
 unfolding findOf lookUp entered hexagon vertex empty one slotsIn slotAt freeAt recordAt wordAt putSlot recordBytes homeOf samePoint searchFrom enterOf
 found-there = (refl, refl, refl)
 
--- a record put in place of the centre's; another's slot freed by hand leaves a table that is not in order
+-- a record put in place of the centre's
 replaced : lookUp (replaceOf one (vertex (pos 0) (pos 0) 6)) (pt (pos 0) (pos 0) 0) ≡ Held (vertex (pos 0) (pos 0) 6)
 unfolding findOf lookUp entered hexagon vertex empty one slotsIn slotAt freeAt recordAt wordAt putSlot recordBytes homeOf samePoint searchFrom enterOf replaceOf
 replaced = refl
 
--- the same point twice, and a record out of the reach of its home: neither is in order
+-- the same point twice, a free slot between a record and its home, a length that doesn't fit: none is in order
 not-in-order : (inOrderOf (putSlot one 3 (vertex (pos 0) (pos 0) 3)) ≡ false) × (inOrderOf (putSlot empty 3 (vertex (pos 0) (pos 0) 3)) ≡ false) × (inOrderOf (255 ∷ empty) ≡ false)
 unfolding inOrderOf allPlaced placedAt findOf entered hexagon vertex empty one slotsIn slotAt freeAt recordAt wordAt putSlot recordBytes homeOf samePoint searchFrom enterOf
 not-in-order = (refl, refl, refl)

@@ -2,12 +2,15 @@
 --
 -- The map           `lookup-point`, `lookup-valid`, `lookup-stands` what is found · `lookup-complete`, `slot-looked` what stands is found · `stands-one` one record a point
 --                   · `outside-absent`, `held-inside` records have points in their ranges · `lookup-same` two tables that hold the same at a point
--- A search          `Searched`, `searched` its three ends, each with what it says of the map and of the free slots · `find-held`, `find-free`, `find-full` where it ends
+-- A search          `Searched`, `searched` its three ends, each with what it says of the map and of the free slots · `at-held`, `at-free`, `at-full` the same, by
+--                   where it ended · `find-held`, `find-free`, `find-full` where it ends, by what the map holds: at a free slot exactly where the point is absent and a slot is free
 -- Entering          `enter-order`, `enter-finds`, `enter-keeps`, `enter-free`, `enter-records` · `enter-there`, `enter-full` nothing changes · `enter-length`, `enter-table` · `put-enter`
 -- Replacing         `replace-order`, `replace-finds`, `replace-keeps`, `replace-free`, `replace-records`, `replace-find` · `replace-absent` nothing changes · `replace-length`, `replace-table` · `put-replace`
 -- Clearing          `clear-order`, `clear-absent`, `clear-free`, `clear-length`, `clear-table` · `empty-absent` a table whose slots are all free
--- All records       `records-none`, `records-more` one slot more · `records-looked`, `looked-records` they are what is found · `records-apart` no point twice · `records-count`
+-- All records       `records-none`, `records-more` one slot more · `records-looked`, `looked-records` they are what is found · `records-apart` no point twice · `records-count` ·
+--                   `records-same` equal maps have as many
 -- A table           `table-of`, `order-table` · `slots-table`, `table-slots`, `table-same` the number of slots · `order-test`, `test-order` the test and the four conditions
+--                   · `at-room`, `free-room` the slot where a search ended lies in it, as `read_slot` and `write_slot` ask
 -- Points            `same-or-not`, `same-refl`, `same-true`
 -- Assumes nothing.
 use mathlib.Core.Path.{_≡_, refl, sym, ap, _∙_, subst}
@@ -37,10 +40,11 @@ use Rattle.table.specs.declared.entries.Looked.the-variants.{Absent, Hel
 pub use Rattle.table.specs.SearchLaws.{same-or-not, same-refl, same-true}
 pub use Rattle.table.specs.SlotLaws.{slots-table, table-slots, table-same}
 pub use Rattle.table.specs.OrderLaws.{order-test, test-order}
+pub use Rattle.table.specs.EntryLaws.{at-room, free-room}
 pub use Rattle.table.specs.WriteLaws.{StandsIn, table-of}
 pub use Rattle.table.specs.RecordLaws.{Apart}
 use Rattle.table.specs.WriteLaws.{entered-order, entered-new, entered-stands, entered-old, entered-free, replaced-order, replaced-find, replaced-new, replaced-stands, replaced-old, replaced-free}
-use Rattle.table.specs.RecordLaws.{listed-stands, stands-listed, counted-below, apart-below}
+use Rattle.table.specs.RecordLaws.{apart-fewer, listed-stands, stands-listed, counted-below, apart-below}
 use Rattle.table.specs.declared.probe.Found.the-variants as found
 
 -- ---- a table
@@ -79,6 +83,44 @@ module _ (t : List ℕ) (w : Table t (slotsOf t)) (p : Point) where
       go (none e h) =
           full e (looked-at found.Full e)
           (none-free (slotAt t) (slotsOf t) (λ s l f. let x : Gap ≡ Other = sym (ap (λ (c : Slot). meets c p) f) ∙ h s l in let z : _≡_ {A = ℕ} 0 1 = cc in omega arith))
+
+  -- what the map holds, by where it ended
+  pub record AtHeld (i : ℕ) : Type 0 where
+    pub rec : Record
+    pub looked : lookUp t p ≡ Held rec
+    pub point : rec .at ≡ p
+    pub below : i < slotsOf t
+    pub holds : slotAt t i ≡ Holds rec
+
+  pub record AtFree (i : ℕ) : Type 0 where
+    pub looked : lookUp t p ≡ Absent
+    pub below : i < slotsOf t
+    pub free : slotAt t i ≡ Free
+    pub some : 0 < freeSlots t
+
+  pub at-held : (i : ℕ) → findOf t p ≡ found.At i → AtHeld i
+  at-held i h = go searched
+    where
+      go : Searched t p → AtHeld i
+      go (there j q e l s a k) = let x : j ≡ i = cc in subst AtHeld x (record { rec = q; looked = k; point = a; below = l; holds = s })
+      go (room j e l s a k) = absurd (let z : _≡_ {A = ℕ} 0 1 = cc in omega arith)
+      go (full e a k) = absurd (let z : _≡_ {A = ℕ} 0 1 = cc in omega arith)
+
+  pub at-free : (i : ℕ) → findOf t p ≡ found.Free i → AtFree i
+  at-free i h = go searched
+    where
+      go : Searched t p → AtFree i
+      go (there j q e l s a k) = absurd (let z : _≡_ {A = ℕ} 0 1 = cc in omega arith)
+      go (room j e l s a k) = let x : j ≡ i = cc in subst AtFree x (record { looked = a; below = l; free = s; some = k })
+      go (full e a k) = absurd (let z : _≡_ {A = ℕ} 0 1 = cc in omega arith)
+
+  pub at-full : findOf t p ≡ found.Full → (lookUp t p ≡ Absent) × (freeSlots t ≡ 0)
+  at-full h = go searched
+    where
+      go : Searched t p → (lookUp t p ≡ Absent) × (freeSlots t ≡ 0)
+      go (there j q e l s a k) = absurd (let z : _≡_ {A = ℕ} 0 1 = cc in omega arith)
+      go (room j e l s a k) = absurd (let z : _≡_ {A = ℕ} 0 1 = cc in omega arith)
+      go (full e a k) = (a, k)
 
   -- where it ends, by what the map holds
   pub find-held : (r : Record) → lookUp t p ≡ Held r → (i : ℕ) × (findOf t p ≡ found.At i) × (slotAt t i ≡ Holds r)
@@ -396,6 +438,16 @@ module _ (t : List ℕ) where
       go : (l : Looked) → lookUp t p ≡ l → lookUp t p ≡ Absent
       go Absent h = h
       go (Held r) h = absurd (nothing (recordsOf t) r (omega (arith, records-count)) (looked-records o p r h))
+
+-- two tables that hold the same at every point have as many records
+pub records-same : (t u : List ℕ) → InOrder t → InOrder u → ((p : Point) → lookUp t p ≡ lookUp u p) → length (recordsOf t) ≡ length (recordsOf u)
+records-same t u o v h =
+    let a = fewer t u o v h in
+    let b = fewer u t v o (λ p. sym (h p)) in
+    omega arith
+  where
+    fewer : (x y : List ℕ) → InOrder x → InOrder y → ((p : Point) → lookUp x p ≡ lookUp y p) → length (recordsOf x) ≤ length (recordsOf y)
+    fewer x y a b e = apart-fewer (recordsOf x) (recordsOf y) (records-apart x a) (λ r m. looked-records y b (r .at) r (sym (e (r .at)) ∙ records-looked x a r m))
 
 -- one record more
 pub enter-records : (t : List ℕ) → InOrder t → (r : Record) → validOf r ≡ true → lookUp t (r .at) ≡ Absent → 0 < freeSlots t → length (recordsOf (enterOf t r)) ≡ length (recordsOf t) + 1

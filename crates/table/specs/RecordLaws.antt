@@ -1,9 +1,10 @@
 -- The list of a table's records, slot by slot.
--- `Apart` no two records of a list have one point · `listed-stands`, `stands-listed` what is listed of the first k slots stands there, and back · `counted-below`, `apart-below`.
+-- `Apart` no two records of a list have one point · `listed-stands`, `stands-listed` what is listed of the first k slots stands there, and back · `counted-below`, `apart-below`
+-- · `apart-fewer` a list without two of one point is no longer than one that holds all of it.
 -- Assumes nothing.
 use mathlib.Core.Path.{_≡_, refl, sym, ap, _∙_, subst}
 use mathlib.Core.Logic.{_⊎_, inl, inr}
-use mathlib.Core.List.{List, [], _∷_, _++_, append-nil, List·Memᴰ, Memᴰ·append-left, Memᴰ·append-right, List·Memᴰ·head, List·Memᴰ·tail, List·Memᴰ·append-cases, List·Memᴰ·eq-of-singleton, List·Memᴰ·not-nil}
+use mathlib.Core.List.{List, [], _∷_, _++_, append-nil, List·Memᴰ, Memᴰ·append-left, Memᴰ·append-right, List·Memᴰ·head, List·Memᴰ·tail, List·Memᴰ·append-cases, List·Memᴰ·eq-of-singleton, List·Memᴰ·not-nil, List·Memᴰ·cases-cons}
 use Prim.Native.Nat.{ℕ, zero, suc, _+_, _≤_, _<_}
 use native.Mathlib.Omega.{arith}
 use native.Mathlib.Decide.{ℕ-discrete}
@@ -77,3 +78,35 @@ module _ (t : List ℕ) where
           let b : s .slot < slotsOf t = omega (arith, s .below) in
           let c : s .slot ≡ k = o .once (s .slot) k x q b (omega arith) (s .holds) e h in
           omega (arith, s .below)))
+
+-- ---- lists of records without two of one point have as many where they hold the same
+
+-- a list without one of its records
+without : {r : Record} {qs : List Record} → List·Memᴰ r qs → List Record
+without (List·Memᴰ·head {xs = xs} e) = xs
+without (List·Memᴰ·tail {x = x} m) = x ∷ without m
+
+without-length : {r : Record} {qs : List Record} (m : List·Memᴰ r qs) → length (without m) + 1 ≡ length qs
+unfolding without
+without-length (List·Memᴰ·head {xs = xs} e) = omega arith
+without-length (List·Memᴰ·tail m) = omega (arith, without-length m)
+
+without-others : {r : Record} {qs : List Record} (m : List·Memᴰ r qs) (x : Record) → (x .at ≡ r .at → ⊥) → List·Memᴰ x qs → List·Memᴰ x (without m)
+unfolding without
+without-others {r} (List·Memᴰ·head {x = y} {xs = xs} e) x ne l = go (List·Memᴰ·cases-cons l)
+  where
+    go : (x ≡ y) ⊎ List·Memᴰ x xs → List·Memᴰ x xs
+    go (inl h) = absurd (ne (ap (λ (u : Record). u .at) (h ∙ sym e)))
+    go (inr k) = k
+without-others {r} (List·Memᴰ·tail {x = y} {xs = xs} m) x ne l = go (List·Memᴰ·cases-cons l) (λ k. without-others m x ne k)
+  where
+    go : (x ≡ y) ⊎ List·Memᴰ x xs → (List·Memᴰ x xs → List·Memᴰ x (without m)) → List·Memᴰ x (y ∷ without m)
+    go (inl h) ih = List·Memᴰ·head h
+    go (inr k) ih = List·Memᴰ·tail (ih k)
+
+pub apart-fewer : (rs qs : List Record) → Apart rs → ((r : Record) → List·Memᴰ r rs → List·Memᴰ r qs) → length rs ≤ length qs
+apart-fewer [] qs a h = omega arith
+apart-fewer (r ∷ rs) qs a h =
+    let m = h r (List·Memᴰ·head refl) in
+    let l = apart-fewer rs (without m) (a .1) (λ x k. without-others m x (a .0 x k) (h x (List·Memᴰ·tail k))) in
+    omega (arith, without-length m)

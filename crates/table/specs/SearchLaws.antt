@@ -1,6 +1,6 @@
 -- The laws of a search.
 -- `search-none`, `search-meets` one turn of the loop · `walk n i k` the slot k steps after slot i, `walk-steps`, `steps-walk` its inverse · `search-found`, `search-full` where a search
--- ends · `End`, `ends` how it can end · `same-refl`, `same-true` the test of two points · `Kind`, `kind`, `own-hit` what a slot is to a search.
+-- ends · `End`, `ends` how it can end · `same-refl`, `same-true`, `same-or-not` the test of two points · `Kind`, `kind`, `own-hit` what a slot is to a search.
 -- Assumes nothing.
 use mathlib.Core.Path.{_≡_, refl, sym, ap, _∙_}
 use mathlib.Core.Bool.{Bool, true, false, cond, _&&_}

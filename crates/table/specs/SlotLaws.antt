@@ -35,10 +35,10 @@ use Rattle.table.specs.declared.slots.Slot.the-variants.{Free, Holds}
 pub table-test : (t : List ℕ) (n : ℕ) → Table t n → fitsLength (length t) ≡ true
 table-test t n w =
     let l = length t in
-    let a : l % 12 ≡ 0 = omega (arith, w .long) in
-    let b : 16 ≤ l / 12 = omega (arith, w .long, w .least) in
-    let c : l / 12 ≤ 65536 = omega (arith, w .long, w .most) in
-    rw (eq-eqb (l % 12) 0 a, le-leb 16 (l / 12) b, le-leb (l / 12) 65536 c)
+    let a : l % slotWidth ≡ 0 = omega (arith, w .long) in
+    let b : 16 ≤ l / slotWidth = omega (arith, w .long, w .least) in
+    let c : l / slotWidth ≤ 65536 = omega (arith, w .long, w .most) in
+    rw (eq-eqb (l % slotWidth) 0 a, le-leb 16 (l / slotWidth) b, le-leb (l / slotWidth) 65536 c)
 
 pub table-slots : (t : List ℕ) (n : ℕ) → Table t n → slotsOf t ≡ n
 unfolding slotsIn
@@ -48,10 +48,10 @@ pub test-table : (t : List ℕ) → fitsLength (length t) ≡ true → Table t (
 unfolding slotsIn
 test-table t h =
     let l = length t in
-    let a : l % 12 ≡ 0 = eqb-true (l % 12) 0 (both-left (eqb (l % 12) 0) (leb 16 (l / 12) && leb (l / 12) 65536) h) in
-    let k = both-right (eqb (l % 12) 0) (leb 16 (l / 12) && leb (l / 12) 65536) h in
-    let b : 16 ≤ l / 12 = leb-true 16 (l / 12) (both-left (leb 16 (l / 12)) (leb (l / 12) 65536) k) in
-    let c : l / 12 ≤ 65536 = leb-true (l / 12) 65536 (both-right (leb 16 (l / 12)) (leb (l / 12) 65536) k) in
+    let a : l % slotWidth ≡ 0 = eqb-true (l % slotWidth) 0 (both-left (eqb (l % slotWidth) 0) (leb 16 (l / slotWidth) && leb (l / slotWidth) 65536) h) in
+    let k = both-right (eqb (l % slotWidth) 0) (leb 16 (l / slotWidth) && leb (l / slotWidth) 65536) h in
+    let b : 16 ≤ l / slotWidth = leb-true 16 (l / slotWidth) (both-left (leb 16 (l / slotWidth)) (leb (l / slotWidth) 65536) k) in
+    let c : l / slotWidth ≤ 65536 = leb-true (l / slotWidth) 65536 (both-right (leb 16 (l / slotWidth)) (leb (l / slotWidth) 65536) k) in
     rw h (record { long = omega arith; least = b; most = c })
 
 -- a number of slots that is not 0 is the number of a length that fits
@@ -123,7 +123,7 @@ module _ (t : List ℕ) (p a b c : ℕ) (A : Word t p a) (B : Word t (p + 4) b) 
   free-all : freeAt t p ≡ true → allOnes a b c ≡ true
   unfolding freeAt
   free-all h =
-      let e : (x k : ℕ) → x ≡ p + k → k < 12 → _≡_ {A = ℕ} (getD t x 0) 255 = λ x k q l. at x k q ∙ eqb-true (getD t (p + k) 0) 255 (upto-each (λ j. eqb (getD t (p + j) 0) 255) 12 k h l) in
+      let e : (x k : ℕ) → x ≡ p + k → k < slotWidth → _≡_ {A = ℕ} (getD t x 0) 255 = λ x k q l. at x k q ∙ eqb-true (getD t (p + k) 0) 255 (upto-each (λ j. eqb (getD t (p + j) 0) 255) slotWidth k h l) in
       let ea = bytes-ones t p a A (e p 0 (omega arith) (omega arith)) (e (p + 1) 1 refl (omega arith)) (e (p + 2) 2 refl (omega arith)) (e (p + 3) 3 refl (omega arith)) in
       let eb = bytes-ones t (p + 4) b B (e (p + 4) 4 refl (omega arith)) (e (p + 4 + 1) 5 (omega arith) (omega arith)) (e (p + 4 + 2) 6 (omega arith) (omega arith)) (e (p + 4 + 3) 7 (omega arith) (omega arith)) in
       let ec = bytes-ones t (p + 8) c C (e (p + 8) 8 refl (omega arith)) (e (p + 8 + 1) 9 (omega arith) (omega arith)) (e (p + 8 + 2) 10 (omega arith) (omega arith)) (e (p + 8 + 3) 11 (omega arith) (omega arith)) in
@@ -136,13 +136,13 @@ module _ (t : List ℕ) (p a b c : ℕ) (A : Word t p a) (B : Word t (p + 4) b) 
 module _ (t : List ℕ) (i a b c : ℕ) (A : Word t (slotWidth * i) a) (B : Word t (slotWidth * i + 4) b) (C : Word t (slotWidth * i + 8) c) where
   pub slot-free : allOnes a b c ≡ true → Free ≡ slotAt t i
   unfolding slotAt
-  slot-free h = sym (ap (λ (x : Bool). cond x Free (Holds (recordAt t (12 * i)))) (free-words t (12 * i) a b c A B C ∙ h))
+  slot-free h = sym (ap (λ (x : Bool). cond x Free (Holds (recordAt t (slotWidth * i)))) (free-words t (slotWidth * i) a b c A B C ∙ h))
 
   pub slot-held : (x y : ℤ) → x ≡ signed a → y ≡ signed b → allOnes a b c ≡ false
-      → Holds (record { at = pt x y (getD t (12 * i + 8) 0); d = getD t (12 * i + 9) 0; k = getD t (12 * i + 10) 0; n = record { 0 = getD t (12 * i + 11) 0 } }) ≡ slotAt t i
+      → Holds (record { at = pt x y (getD t (slotWidth * i + 8) 0); d = getD t (slotWidth * i + 9) 0; k = getD t (slotWidth * i + 10) 0; n = record { 0 = getD t (slotWidth * i + 11) 0 } }) ≡ slotAt t i
   unfolding slotAt recordAt
   slot-held x y ea eb h =
-      let e : cond (freeAt t (12 * i)) Free (Holds (recordAt t (12 * i))) ≡ Holds (recordAt t (12 * i)) = ap (λ (z : Bool). cond z Free (Holds (recordAt t (12 * i)))) (free-words t (12 * i) a b c A B C ∙ h) in
+      let e : cond (freeAt t (slotWidth * i)) Free (Holds (recordAt t (slotWidth * i))) ≡ Holds (recordAt t (slotWidth * i)) = ap (λ (z : Bool). cond z Free (Holds (recordAt t (slotWidth * i)))) (free-words t (slotWidth * i) a b c A B C ∙ h) in
       rw (ea, eb, A .is, B .is) (sym e)
 
 -- ---- a record that is written in three parts
@@ -154,8 +154,8 @@ slot-written t t1 t2 t3 i r e1 e2 e3 =
     let xs = wordBytes (ofZ w32 (r .at .a)) in
     let ys = wordBytes (ofZ w32 (r .at .b)) in
     let zs = r .at .m .0 ∷ r .d ∷ r .k ∷ r .n .0 ∷ [] in
-    let e : t2 ≡ sets t (12 * i) (xs ++ ys) = e2 ∙ ap (λ (l : List ℕ). sets l (12 * i + 4) ys) e1 ∙ sets-append xs ys t (12 * i) in
-    e3 ∙ ap (λ (l : List ℕ). sets l (12 * i + 8) zs) e ∙ sets-append (xs ++ ys) zs t (12 * i)
+    let e : t2 ≡ sets t (slotWidth * i) (xs ++ ys) = e2 ∙ ap (λ (l : List ℕ). sets l (slotWidth * i + 4) ys) e1 ∙ sets-append xs ys t (slotWidth * i) in
+    e3 ∙ ap (λ (l : List ℕ). sets l (slotWidth * i + 8) zs) e ∙ sets-append (xs ++ ys) zs t (slotWidth * i)
 
 -- ---- one slot and another
 
@@ -163,9 +163,9 @@ slot-written t t1 t2 t3 i r e1 e2 e3 =
 pub slot-same : (t u : List ℕ) (i : ℕ) → ((x : ℕ) → slotWidth * i ≤ x → x < slotWidth * i + slotWidth → getD t x 0 ≡ getD u x 0) → slotAt t i ≡ slotAt u i
 unfolding slotAt freeAt recordAt wordAt
 slot-same t u i h =
-    let g : (c : ℕ) → c < 12 → getD t (12 * i + c) 0 ≡ getD u (12 * i + c) 0 = λ c l. h (12 * i + c) (omega arith) (omega arith) in
+    let g : (c : ℕ) → c < slotWidth → getD t (slotWidth * i + c) 0 ≡ getD u (slotWidth * i + c) 0 = λ c l. h (slotWidth * i + c) (omega arith) (omega arith) in
     rw (
-      h (12 * i) (omega arith) (omega arith),
+      h (slotWidth * i) (omega arith) (omega arith),
       g 0 (omega arith),
       g 1 (omega arith),
       g 2 (omega arith),
@@ -178,69 +178,69 @@ slot-same t u i h =
       g 9 (omega arith),
       g 10 (omega arith),
       g 11 (omega arith),
-      h (12 * i + 4 + 1) (omega arith) (omega arith),
-      h (12 * i + 4 + 2) (omega arith) (omega arith),
-      h (12 * i + 4 + 3) (omega arith) (omega arith),
+      h (slotWidth * i + 4 + 1) (omega arith) (omega arith),
+      h (slotWidth * i + 4 + 2) (omega arith) (omega arith),
+      h (slotWidth * i + 4 + 3) (omega arith) (omega arith),
     )
 
 pub put-length : (t : List ℕ) (i : ℕ) (r : Record) → length (putSlot t i r) ≡ length t
 unfolding putSlot
-put-length t i r = length-sets t (12 * i) (recordBytes r)
+put-length t i r = length-sets t (slotWidth * i) (recordBytes r)
 
 module _ (t : List ℕ) (i : ℕ) (r : Record) (room : slotWidth * i + slotWidth ≤ length t) where
   pub put-other : (j : ℕ) → (j ≡ i → ⊥) → slotAt (putSlot t i r) j ≡ slotAt t j
   unfolding putSlot recordBytes
   put-other j ne = slot-same (putSlot t i r) t j (λ x lo hi. go x lo hi (decLt j i))
     where
-      go : (x : ℕ) → 12 * j ≤ x → x < 12 * j + 12 → Dec (j < i) → getD (putSlot t i r) x 0 ≡ getD t x 0
-      go x lo hi (yes l) = getD-sets-below (recordBytes r) t (12 * i) x (omega arith)
-      go x lo hi (no l) = getD-sets-above (recordBytes r) t (12 * i) x (omega arith)
+      go : (x : ℕ) → slotWidth * j ≤ x → x < slotWidth * j + slotWidth → Dec (j < i) → getD (putSlot t i r) x 0 ≡ getD t x 0
+      go x lo hi (yes l) = getD-sets-below (recordBytes r) t (slotWidth * i) x (omega arith)
+      go x lo hi (no l) = getD-sets-above (recordBytes r) t (slotWidth * i) x (omega arith)
 
   -- byte c of the slot that was written
-  put-byte : (x c : ℕ) → x ≡ 12 * i + c → c < 12 → getD (putSlot t i r) x 0 ≡ getD (recordBytes r) c 0
+  put-byte : (x c : ℕ) → x ≡ slotWidth * i + c → c < slotWidth → getD (putSlot t i r) x 0 ≡ getD (recordBytes r) c 0
   unfolding putSlot recordBytes
-  put-byte x c e h = ap (λ (k : ℕ). getD (sets t (12 * i) (recordBytes r)) k 0) e ∙ getD-sets-in (recordBytes r) t (12 * i) c h room
+  put-byte x c e h = ap (λ (k : ℕ). getD (sets t (slotWidth * i) (recordBytes r)) k 0) e ∙ getD-sets-in (recordBytes r) t (slotWidth * i) c h room
 
   module _ (w : Writes (r .at)) where
     -- it is not free: the depth is not 255
-    put-taken : freeAt (putSlot t i r) (12 * i) ≡ false
+    put-taken : freeAt (putSlot t i r) (slotWidth * i) ≡ false
     unfolding freeAt recordBytes
     put-taken =
-        let e : getD (putSlot t i r) (12 * i + 8) 0 ≡ r .at .m .0 = put-byte (12 * i + 8) 8 refl (omega arith) in
-        upto-fails (λ c. eqb (getD (putSlot t i r) (12 * i + c) 0) 255) 8 12 (omega arith) (ne-eqb (getD (putSlot t i r) (12 * i + 8) 0) 255 (λ q. omega (arith, w .depth)))
+        let e : getD (putSlot t i r) (slotWidth * i + 8) 0 ≡ r .at .m .0 = put-byte (slotWidth * i + 8) 8 refl (omega arith) in
+        upto-fails (λ c. eqb (getD (putSlot t i r) (slotWidth * i + c) 0) 255) 8 slotWidth (omega arith) (ne-eqb (getD (putSlot t i r) (slotWidth * i + 8) 0) 255 (λ q. omega (arith, w .depth)))
 
-    put-a : wordAt (putSlot t i r) (12 * i) ≡ ofZ w32 (r .at .a)
+    put-a : wordAt (putSlot t i r) (slotWidth * i) ≡ ofZ w32 (r .at .a)
     unfolding recordBytes
     put-a =
-        word-of (putSlot t i r) (12 * i) _ _ _ _
-        (put-byte (12 * i) 0 (omega arith) (omega arith))
-        (put-byte (12 * i + 1) 1 refl (omega arith))
-        (put-byte (12 * i + 2) 2 refl (omega arith))
-        (put-byte (12 * i + 3) 3 refl (omega arith))
+        word-of (putSlot t i r) (slotWidth * i) _ _ _ _
+        (put-byte (slotWidth * i) 0 (omega arith) (omega arith))
+        (put-byte (slotWidth * i + 1) 1 refl (omega arith))
+        (put-byte (slotWidth * i + 2) 2 refl (omega arith))
+        (put-byte (slotWidth * i + 3) 3 refl (omega arith))
         ∙ word-back (ofZ w32 (r .at .a)) (fits-ofZ {w = w32} {z = r .at .a} (w .a-fits) .fits)
 
-    put-b : wordAt (putSlot t i r) (12 * i + 4) ≡ ofZ w32 (r .at .b)
+    put-b : wordAt (putSlot t i r) (slotWidth * i + 4) ≡ ofZ w32 (r .at .b)
     unfolding recordBytes
     put-b =
-        word-of (putSlot t i r) (12 * i + 4) _ _ _ _
-        (put-byte (12 * i + 4) 4 refl (omega arith))
-        (put-byte (12 * i + 4 + 1) 5 (omega arith) (omega arith))
-        (put-byte (12 * i + 4 + 2) 6 (omega arith) (omega arith))
-        (put-byte (12 * i + 4 + 3) 7 (omega arith) (omega arith))
+        word-of (putSlot t i r) (slotWidth * i + 4) _ _ _ _
+        (put-byte (slotWidth * i + 4) 4 refl (omega arith))
+        (put-byte (slotWidth * i + 4 + 1) 5 (omega arith) (omega arith))
+        (put-byte (slotWidth * i + 4 + 2) 6 (omega arith) (omega arith))
+        (put-byte (slotWidth * i + 4 + 3) 7 (omega arith) (omega arith))
         ∙ word-back (ofZ w32 (r .at .b)) (fits-ofZ {w = w32} {z = r .at .b} (w .b-fits) .fits)
 
     pub put-same : slotAt (putSlot t i r) i ≡ Holds r
     unfolding slotAt recordAt recordBytes
     put-same =
         let u = putSlot t i r in
-        let ea : signed (wordAt u (12 * i)) ≡ r .at .a = ap signed put-a ∙ toZ-ofZ {w = w32} {z = r .at .a} (w .a-fits) in
-        let eb : signed (wordAt u (12 * i + 4)) ≡ r .at .b = ap signed put-b ∙ toZ-ofZ {w = w32} {z = r .at .b} (w .b-fits) in
-        ap (λ (x : Bool). cond x Free (Holds (recordAt u (12 * i)))) put-taken
+        let ea : signed (wordAt u (slotWidth * i)) ≡ r .at .a = ap signed put-a ∙ toZ-ofZ {w = w32} {z = r .at .a} (w .a-fits) in
+        let eb : signed (wordAt u (slotWidth * i + 4)) ≡ r .at .b = ap signed put-b ∙ toZ-ofZ {w = w32} {z = r .at .b} (w .b-fits) in
+        ap (λ (x : Bool). cond x Free (Holds (recordAt u (slotWidth * i)))) put-taken
         ∙ ap Holds (λ k. record {
-          at = pt (ea k) (eb k) (put-byte (12 * i + 8) 8 refl (omega arith) k);
-          d = put-byte (12 * i + 9) 9 refl (omega arith) k;
-          k = put-byte (12 * i + 10) 10 refl (omega arith) k;
-          n = record { 0 = put-byte (12 * i + 11) 11 refl (omega arith) k };
+          at = pt (ea k) (eb k) (put-byte (slotWidth * i + 8) 8 refl (omega arith) k);
+          d = put-byte (slotWidth * i + 9) 9 refl (omega arith) k;
+          k = put-byte (slotWidth * i + 10) 10 refl (omega arith) k;
+          n = record { 0 = put-byte (slotWidth * i + 11) 11 refl (omega arith) k };
         })
 
 -- ---- the count of free slots, slot by slot
@@ -258,7 +258,7 @@ free-more f i {k} {b} a c = let e : suc i ≡ i + 1 = omega arith in rw (a, c) (
 pub cleared-free : (l i : ℕ) → slotWidth * i + slotWidth ≤ l → slotAt (replicate l 255) i ≡ Free
 unfolding slotAt freeAt
 cleared-free l i h =
-    let b : (c : ℕ) → c < 12 → _≡_ {A = ℕ} (getD (replicate l 255) (12 * i + c) 0) 255 = λ c k. getD-replicate l (12 * i + c) 255 0 (omega arith) in
+    let b : (c : ℕ) → c < slotWidth → _≡_ {A = ℕ} (getD (replicate l 255) (slotWidth * i + c) 0) 255 = λ c k. getD-replicate l (slotWidth * i + c) 255 0 (omega arith) in
     rw (
       b 0 (omega arith),
       b 1 (omega arith),

@@ -36,6 +36,7 @@ fitsLength l = eqb (l % slotWidth) 0 && (leb 16 (l / slotWidth) && leb (l / slot
 unfoldable pub slotsIn : ℕ → ℕ
 slotsIn l = cond (fitsLength l) (l / slotWidth) 0
 
+-- the number of slots of a table
 abbrev pub slotsOf : List ℕ → ℕ
 slotsOf t = slotsIn (length t)
 
@@ -83,5 +84,6 @@ unfoldable pub freeBelow : (ℕ → Slot) → ℕ → ℕ
 freeBelow f zero = 0
 freeBelow f (suc k) = freeBelow f k + isFree (f k)
 
+-- how many slots of a table are free
 abbrev pub freeSlots : List ℕ → ℕ
 freeSlots t = freeBelow (slotAt t) (slotsOf t)

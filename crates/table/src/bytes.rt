@@ -9,6 +9,11 @@ ghost use mir.Val.{toZ, ofZ};
 ghost use Rattle.laws.specs.Words.{wordBytes};
 ghost use Rattle.table.specs.Reading.{Word};
 
+// The greatest word, and the first that stands for a negative number.
+const LAST: u32 = 4294967295;
+
+const NEGATIVE: u32 = 2147483648;
+
 // A byte as a wider number.
 fn wide(x: u8) -> u32
     ensures { λ r. ⌜ (r ≡ x) × (r < 256) ⌝ }
@@ -28,10 +33,10 @@ pub fn word(t: &[u8], p: usize) -> u32
 pub fn as_signed(u: u32) -> i32
     ensures { λ r. ⌜ r ≡ toZ w32 u ⌝ }
 {
-    if u < 2147483648 {
+    if u < NEGATIVE {
         u as i32
     } else {
-        -1 - ((4294967295 - u) as i32)
+        -1 - ((LAST - u) as i32)
     }
 }
 
@@ -40,7 +45,7 @@ pub fn as_word(z: i32) -> u32
     ensures { λ r. ⌜ r ≡ ofZ w32 z ⌝ }
 {
     if z < 0 {
-        4294967295 - ((-1 - z) as u32)
+        LAST - ((-1 - z) as u32)
     } else {
         z as u32
     }

@@ -1,6 +1,5 @@
 // The table as a map from points to records: looked up, entered, replaced.
 ghost use mathlib.Core.Path.{_≡_};
-ghost use Prim.Native.Nat.{_<_};
 ghost use Rattle.lattice.specs.Points.{normalOf};
 ghost use Rattle.table.specs.Slots.{Table};
 ghost use Rattle.table.specs.Search.{findOf};

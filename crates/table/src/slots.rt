@@ -27,6 +27,9 @@ const FEWEST: usize = 16;
 
 const MOST: usize = 65536;
 
+// Four bytes of 255.
+const ONES: u32 = 4294967295;
+
 // The number of slots, or 0 where the length doesn't fit.
 pub fn slots_of(t: &[u8]) -> usize
     ensures { λ n. ⌜ n ≡ slotsOf (now (t .entry)) ⌝ }
@@ -49,7 +52,7 @@ pub fn slots_of(t: &[u8]) -> usize
 fn all_ones(a: u32, b: u32, c: u32) -> bool
     ensures { λ r. ⌜ r ≡ allOnes a b c ⌝ }
 {
-    (a == 4294967295) & (b == 4294967295) & (c == 4294967295)
+    (a == ONES) & (b == ONES) & (c == ONES)
 }
 
 // What slot i holds.

@@ -1,4 +1,4 @@
--- `table::put_word` meets its promise. Assumes nothing.
+-- `table::put_word` meets its promise: four stores, each within the length. Assumes nothing.
 use native.Mathlib.Omega.{arith}
 use native.Mathlib.Numerals.{towards-numerals}
 use lib.ListN.{length-set}
@@ -6,59 +6,20 @@ use borrow.Author.Needs.{needs}
 use Rattle.table.proofs.bytes.put_word.Statement.{statement}
 use Rattle.table.proofs.bytes.put_word.Tie as tie
 
-cast-t : tie.Need-cast-t
-cast-t c = search needs
-
-slice-write-t : tie.Need-slice-write-t
-slice-write-t c = search needs
-
-cast-t-2 : tie.Need-cast-t-2
-cast-t-2 c = search needs
-
-add-t : tie.Need-add-t
-add-t c = search needs
-
-slice-write-t-2 : tie.Need-slice-write-t-2
-slice-write-t-2 c = simp length-set (omega arith)
-
-cast-t-3 : tie.Need-cast-t-3
-cast-t-3 c = search needs
-
-add-t-2 : tie.Need-add-t-2
-add-t-2 c = search needs
-
-slice-write-t-3 : tie.Need-slice-write-t-3
-slice-write-t-3 c = simp length-set (omega arith)
-
-cast-t-4 : tie.Need-cast-t-4
-cast-t-4 c = search needs
-
-add-t-3 : tie.Need-add-t-3
-add-t-3 c = search needs
-
-slice-write-t-4 : tie.Need-slice-write-t-4
-slice-write-t-4 c = simp length-set (omega arith)
-
-same-length : tie.Need-same-length
-same-length c = simp length-set
-
-returns : tie.Need-returns
-returns c = simp towards-numerals
-
 pub put-word-spec : {M : Type 1} → statement M
 put-word-spec =
     tie.close
     (tie.spec
-    cast-t
-    slice-write-t
-    cast-t-2
-    add-t
-    slice-write-t-2
-    cast-t-3
-    add-t-2
-    slice-write-t-3
-    cast-t-4
-    add-t-3
-    slice-write-t-4
-    same-length
-    returns)
+    (λ c. search needs)
+    (λ c. search needs)
+    (λ c. search needs)
+    (λ c. search needs)
+    (λ c. simp length-set (omega arith))
+    (λ c. search needs)
+    (λ c. search needs)
+    (λ c. simp length-set (omega arith))
+    (λ c. search needs)
+    (λ c. search needs)
+    (λ c. simp length-set (omega arith))
+    (λ c. simp length-set)
+    (λ c. simp towards-numerals))

@@ -1,6 +1,5 @@
 -- `table::enter` meets its promise: by where the search ended. Assumes nothing.
 use mathlib.Core.Path.{_≡_, ap, sym, _∙_}
-use native.Mathlib.Omega.{arith}
 use borrow.Author.Needs.{needs}
 use Rattle.table.specs.Entries.{enterAt, enterOf}
 use Rattle.table.specs.EntryLaws.{free-room}

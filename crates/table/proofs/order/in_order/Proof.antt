@@ -1,6 +1,5 @@
 -- `table::in_order` meets its promise: the fit of the length, then each slot. Assumes nothing.
-use mathlib.Core.Path.{ap, sym, _∙_}
-use mathlib.Core.Bool.{Bool, _&&_}
+use mathlib.Core.Path.{sym, _∙_}
 use borrow.Author.Needs.{needs}
 use Rattle.table.specs.SlotLaws.{slots-table}
 use Rattle.table.specs.OrderLaws.{not-fitting, fitting}

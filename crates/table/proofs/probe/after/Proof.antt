@@ -1,5 +1,4 @@
--- `table::after` meets its promise. Assumes nothing.
-use mathlib.Core.Path.{sym}
+-- `table::after` meets its promise, with the wrap and without. Assumes nothing.
 use borrow.Author.Needs.{needs}
 use borrow.Author.Tests.{eq-eqb, ne-eqb}
 use Rattle.table.proofs.probe.after.Statement.{statement}
