@@ -1,3 +1,4 @@
 -- Document 01, "Subdivision of v", in antt.
 pub mod Subdivide
 pub mod SubdivideLaws
+pub mod CallLaws

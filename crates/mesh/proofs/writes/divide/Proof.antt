@@ -1,36 +1,69 @@
 use borrow.Author.Needs.{needs}
+use mathlib.Core.Path.{_≡_, sym, _∙_, ap, subst}
+use mathlib.Core.List.{List}
+use Prim.Native.Nat.{ℕ}
+use native.Mathlib.Omega.{arith}
+use Rattle.lattice.specs.Subdivision.{centreOf}
+use Rattle.table.specs.Entries.{replaceOf}
+use Rattle.table.specs.MapLaws.{replace-table}
+use Rattle.table.specs.Slots.{Table}
+use Rattle.lattice.specs.RecordLaws.{Inner}
+use Rattle.lattice.specs.declared.records.Record.{Record}
 use Rattle.mesh.proofs.writes.divide.Statement.{statement}
+use Rattle.mesh.specs.SubdivideLaws.{Renewable, whole-renewable, ready-turn, renewed-table}
+use Rattle.mesh.specs.CallLaws.{centre-inner, subdivided-is}
+use Rattle.mesh.specs.Subdivide.{renewedTo, enteredTo}
 use Rattle.mesh.proofs.writes.divide.Tie as tie
-use Rattle.mesh.proofs.writes.divide.Reads as reads
-use Rattle.mesh.proofs.writes.divide.Lts as lts
-use Rattle.lattice.proofs.centre.Reads as centre-reads
-use Rattle.mesh.proofs.writes.enter_all.Reads as enter-all-reads
-use Rattle.mesh.proofs.writes.renew_all.Reads as renew-all-reads
-use Rattle.table.proofs.replace.Reads as replace-reads
 
--- src/writes.rt:84:9
+-- the table with the centre replaced
+centred : (c : tie.After-replace) → c .replace .last .0 ≡ replaceOf (c .before .before .before .before .args .t .now) (centreOf (c .before .before .before .before .args .v))
+centred c = c .replace .ensures .1 ∙ ap (replaceOf (c .before .before .before .before .args .t .now)) (c .before .before .centre .ensures)
+
 centre-requires : tie.Need-centre-requires
-centre-requires c κs = ?
+centre-requires c κs = let s = c .before in let r = s .pre .1 .ready in let b = r .below in (ready-turn r, omega arith)
 
--- src/writes.rt:85:5
 replace-requires : tie.Need-replace-requires
 replace-requires c κs = search needs
 
--- src/writes.rt:86:5
 renew-all-requires : tie.Need-renew-all-requires
-renew-all-requires c κs = ?
+renew-all-requires c κs =
+    let w = c .before .before .before in
+    let s = w .before .before .before .before in
+    let t = s .args .t .now in
+    let v = s .args .v in
+    let e = sym (centred w) in
+    (subst (λ (u : List ℕ). Table u (s .args .n)) e (replace-table t (centreOf v) (s .args .n) (s .pre .0)), subst (λ (u : List ℕ). Renewable u v) e (whole-renewable (s .pre .1)))
 
--- src/writes.rt:87:5
+-- and the old adjacent vertices after it
+renewed-all : (c : tie.After-renew-all) → c .renew-all .last .0 ≡ renewedTo (replaceOf (c .before .before .before .before .before .before .before .before .args .t .now) (centreOf (c .before .before .before .before .before .before .before .before .args .v))) (c .before .before .before .before .before .before .before .before .args .v) 6
+renewed-all c =
+    let w = c .before .before .before .before in
+    c .renew-all .ensures ∙ ap (λ (u : List ℕ). renewedTo u (w .before .before .before .before .args .v) 6) (centred w)
+
 enter-all-requires : tie.Need-enter-all-requires
-enter-all-requires c κs = ?
+enter-all-requires c κs =
+    let x = c .before .before .before in
+    let w = x .before .before .before .before in
+    let s = w .before .before .before .before in
+    let t = s .args .t .now in
+    let v = s .args .v in
+    let r = s .pre .1 .ready in (
+      subst (λ (u : List ℕ). Table u (s .args .n)) (sym (renewed-all x)) (renewed-table (replaceOf t (centreOf v)) v 6 (s .args .n) (replace-table t (centreOf v) (s .args .n) (s .pre .0))),
+      subst (λ (y : Record). Inner y × (y .d ≡ 6)) (sym (w .before .before .centre .ensures)) (centre-inner t v r, r .six),
+    )
 
--- src/writes.rt:80:1
 same-length : tie.Need-same-length
 same-length c = search needs
 
--- src/writes.rt:80:1
 returns : tie.Need-returns
-returns c = ?
+returns c =
+    let y = c .before .before in
+    let x = y .before .before .before .before in
+    let w = x .before .before .before .before in
+    let s = w .before .before .before .before in
+    y .enter-all .ensures
+    ∙ (λ i. enteredTo (renewed-all x i) (w .before .before .centre .ensures i) 6)
+    ∙ subdivided-is (s .args .t .now) (s .args .v)
 
 pub divide-spec : {M : Type 1} → statement M
 divide-spec =
