@@ -2,3 +2,4 @@
 pub mod Subdivide
 pub mod SubdivideLaws
 pub mod CallLaws
+pub mod CaseLaws

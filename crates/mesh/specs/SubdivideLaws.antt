@@ -453,3 +453,7 @@ renewed-table t v j n w = table-same t (renewedTo t v j) n (renewed-length t v j
 
 pub entered-table : (t : List ℕ) (c : Record) (j n : ℕ) → Table t n → Table (enteredTo t c j) n
 entered-table t c j n w = table-same t (enteredTo t c j) n (entered-length t c j) w
+
+pub subdivided-length : (t : List ℕ) (v : Record) → length (subdivided t v) ≡ length t
+unfolding subdivided
+subdivided-length t v = entered-length (renewedTo (replaceOf t (centreOf v)) v 6) (centreOf v) 6 ∙ renewed-length (replaceOf t (centreOf v)) v 6 ∙ replace-length t (centreOf v)

@@ -1,10 +1,11 @@
 // The public calls.
 ghost use mathlib.Core.Path.{_≡_};
-ghost use Prim.Native.Nat.{_≤_, _<_};
+ghost use mathlib.Core.Bool.{true};
+ghost use Prim.Native.Nat.{_+_, _*_, _≤_, _<_};
+ghost use lib.ListN.{length};
 ghost use Rattle.table.specs.Slots.{Table, freeSlots};
-ghost use Rattle.table.specs.Order.{InOrder};
-ghost use Rattle.table.specs.Entries.{lookUp};
-ghost use Rattle.mesh.specs.Subdivide.{subdivideVertex, subdivideOf};
+ghost use Rattle.table.specs.Order.{inOrderOf};
+ghost use Rattle.mesh.specs.Subdivide.{subdivideVertex, subdivideOf, subdivideTriple, subdivideAllOf};
 ghost use Rattle.mesh.specs.SubdivideLaws.{Standing};
 use crate::checks::adjacents_fit;
 use crate::checks::all_absent;
@@ -49,6 +50,19 @@ fn subdivide_vertex(t: &mut [u8], v: Record, n: usize, free: usize) -> u8
     0
 }
 
+// The subdivision at a point of a table in order, of whose slots so many are free.
+fn subdivide_ordered(t: &mut [u8], a: i32, b: i32, m: u8, n: usize, free: usize) -> u8
+    requires { ⌜ Table (now t) n × ((inOrderOf (now t) ≡ true) × (free ≡ freeSlots (now t))) ⌝ }
+    ensures { λ r. ⌜ r ≡ subdivideOf (now (t .entry)) a b m .number ⌝ }
+    ensures { λ r. ⌜ now (t .exit) ≡ subdivideOf (now (t .entry)) a b m .bytes ⌝ }
+{
+    let l = look_up_request(t, a, b, m, n);
+    match l {
+        Looked::Absent => 3,
+        Looked::Held(v) => subdivide_vertex(t, v, n, free),
+    }
+}
+
 // Subdivides the vertex at a point, whatever its spelling, or refuses by document 01's numbers 1, 3, 4, 5, 6, 7, 8, with no byte changed.
 pub fn subdivide(table: &mut [u8], a: i32, b: i32, m: u8) -> u8
     ensures { λ r. ⌜ r ≡ subdivideOf (now (table .entry)) a b m .number ⌝ }
@@ -58,12 +72,61 @@ pub fn subdivide(table: &mut [u8], a: i32, b: i32, m: u8) -> u8
         return 1;
     }
     let n = slots_of(table);
-    let l = look_up_request(table, a, b, m, n);
-    match l {
-        Looked::Absent => 3,
-        Looked::Held(v) => {
-            let free = free_slots(table, n);
-            subdivide_vertex(table, v, n, free)
+    let free = free_slots(table, n);
+    subdivide_ordered(table, a, b, m, n, free)
+}
+
+// Triple i of a list, subdivided as `subdivide` would.
+fn subdivide_triple(t: &mut [u8], points: &[i32], i: usize, n: usize, free: usize) -> u8
+    requires { ⌜ (3 * i + 3 ≤ length (now points)) × (Table (now t) n × ((inOrderOf (now t) ≡ true) × (free ≡ freeSlots (now t)))) ⌝ }
+    ensures { λ r. ⌜ r ≡ subdivideTriple (now (t .entry)) (now (points .entry)) i .number ⌝ }
+    ensures { λ r. ⌜ now (t .exit) ≡ subdivideTriple (now (t .entry)) (now (points .entry)) i .bytes ⌝ }
+{
+    let a = points[3 * i];
+    let b = points[3 * i + 1];
+    let m = points[3 * i + 2];
+    if m < 0 {
+        return 3;
+    }
+    if 255 < m {
+        return 3;
+    }
+    subdivide_ordered(t, a, b, m as u8, n, free)
+}
+
+// What `subdivide_all` made: the number of the refusal that ended it, 0 where all were made, and how many were.
+pub struct Made {
+    pub number: u8,
+    pub done: u64,
+}
+
+// Subdivides the points a, b, m, a, b, m, .. in turn, as `subdivide` would, with one test of the table. The first refusal ends it; those
+// before it stand. Numbers past the last whole triple are not read.
+pub fn subdivide_all(table: &mut [u8], points: &[i32]) -> Made
+    ensures { λ r. ⌜ r .number ≡ subdivideAllOf (now (table .entry)) (now (points .entry)) .number ⌝ }
+    ensures { λ r. ⌜ r .done ≡ subdivideAllOf (now (table .entry)) (now (points .entry)) .done ⌝ }
+    ensures { λ r. ⌜ now (table .exit) ≡ subdivideAllOf (now (table .entry)) (now (points .entry)) .bytes ⌝ }
+{
+    if !in_order(table) {
+        return Made { number: 1, done: 0 };
+    }
+    let n = slots_of(table);
+    let count = points.len() / 3;
+    let mut free = free_slots(table, n);
+    let mut i = 0;
+    while i < count {
+        let number = subdivide_triple(table, points, i, n, free);
+        if number != 0 {
+            return Made {
+                number,
+                done: i as u64,
+            };
         }
+        free -= 6;
+        i += 1;
+    }
+    Made {
+        number: 0,
+        done: i as u64,
     }
 }

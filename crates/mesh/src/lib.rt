@@ -6,4 +6,6 @@ mod calls;
 mod checks;
 mod writes;
 
+pub use calls::Made;
 pub use calls::subdivide;
+pub use calls::subdivide_all;
