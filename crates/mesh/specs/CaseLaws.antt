@@ -1,5 +1,5 @@
 -- A subdivision is either refused, with nothing changed, or made: `Subdivision`, `subdivision`. And the same of a triple in a list: `triple`.
--- `made-order`, `made-free`, `made-table` the table after one that was made.
+-- `triple-kept`, `triple-refused` the table after a triple · `Going` how far a list has been gone through, `going-start`, `going-more`, `going-stop`, `going-end`.
 -- Assumes nothing.
 use mathlib.Core.Path.{_≡_, refl, sym, _∙_, ap, subst}
 use mathlib.Core.Bool.{Bool, true, false, cond}
@@ -7,10 +7,11 @@ use mathlib.Core.List.{List}
 use Prim.Native.Nat.{ℕ, zero, suc, _+_, _*_, _≤_, _<_, _-_}
 use native.Mathlib.Omega.{arith}
 use native.Mathlib.Decide.{ℕ-discrete, decLt}
-use borrow.Author.Tests.{ne-eqb}
-use lib.IntN.{ℤ, pos, natAbs}
+use borrow.Author.Tests.{ne-eqb, ltb-true, ltb-false, lt-ltb, le-ltb}
+use lib.IntN.{ℤ, pos, natAbs, negsuc}
 use lib.ListN.{length, getD}
-use lib.Dec.{leb}
+use lib.Dec.{leb, T}
+use lib.Signed.{ltZ, nonNeg}
 use Rattle.laws.specs.Rules.{upto}
 use Rattle.lattice.specs.Patterns.{six}
 use Rattle.lattice.specs.Subdivision.{newOf}
@@ -19,13 +20,15 @@ use Rattle.table.specs.OrderLaws.{order-test}
 use Rattle.table.specs.Entries.{lookUp}
 use Rattle.table.specs.MapLaws.{room}
 use Rattle.table.specs.Order.{inOrderOf}
-use Rattle.table.specs.Slots.{freeSlots}
+use Rattle.table.specs.Slots.{freeSlots, Table}
 use Rattle.lattice.specs.declared.records.Record.{Record}
 use Rattle.table.specs.declared.entries.Looked.{Looked}
 use Rattle.table.specs.declared.entries.Looked.the-variants.{Absent, Held}
+use Rattle.laws.specs.Each.{not-both}
+use Rattle.table.specs.SlotLaws.{table-same}
 use Rattle.mesh.specs.SubdivideLaws.{Ready, Whole, subdivided-order, subdivided-free, subdivided-length}
 use Rattle.mesh.specs.CallLaws.{standing-ready, ready-whole, vertex-4, vertex-5, vertex-6, vertex-7-old, vertex-7-new, vertex-8, vertex-0, call-1, call-3, call-vertex, call-standing}
-use Rattle.mesh.specs.Subdivide.{adjacentFits, newFits, subdivided, Outcome, outcome, subdivideVertex, subdivideOf, triplesIn, isByte, subdivideTriple, subdivideFrom, subdivideAllOf}
+use Rattle.mesh.specs.Subdivide.{adjacentFits, newFits, subdivided, Outcome, outcome, subdivideVertex, subdivideOf, triplesIn, isByte, subdivideTriple, subdivideFrom, subdivideAllOf, Many}
 
 pub data Subdivision (t : List ℕ) (a b : ℤ) (m : ℕ) : Type 0 where
   -- some other number than 0, and the table as it was
@@ -147,3 +150,62 @@ many-1 t ps h = ap (λ (x : Bool). cond x (subdivideFrom t ps 0 (triplesIn ps)) 
 pub many-from : (t : List ℕ) (ps : List ℤ) → inOrderOf t ≡ true → subdivideFrom t ps 0 (triplesIn ps) ≡ subdivideAllOf t ps
 unfolding subdivideAllOf
 many-from t ps h = ap (λ (x : Bool). cond x (subdivideFrom t ps 0 (triplesIn ps)) (record { number = 1; done = 0; bytes = t })) (sym h)
+
+-- the list gone through as far as triple i: t is the table then, and f of its n slots are free
+pub record Going (t₀ : List ℕ) (ps : List ℤ) (n : ℕ) (t : List ℕ) (f i : ℕ) : Type 0 where
+  pub within : i ≤ triplesIn ps
+  pub table : Table t n
+  pub order : inOrderOf t ≡ true
+  pub free : f ≡ freeSlots t
+  pub long : length t ≡ length t₀
+  pub left : subdivideFrom t ps i (triplesIn ps - i) ≡ subdivideAllOf t₀ ps
+
+pub going-start : (t : List ℕ) (ps : List ℤ) (n f : ℕ) → Table t n → inOrderOf t ≡ true → f ≡ freeSlots t → Going t ps n t f 0
+going-start t ps n f w o e =
+    let z : triplesIn ps - 0 ≡ triplesIn ps = omega arith in
+    record { within = omega arith; table = w; order = o; free = e; long = refl; left = ap (subdivideFrom t ps 0) z ∙ many-from t ps o }
+
+module _ (t₀ : List ℕ) (ps : List ℤ) (n : ℕ) (t : List ℕ) (f i : ℕ) (g : Going t₀ ps n t f i) where
+  pub going-end : triplesIn ps ≤ i → record { number = 0; done = i; bytes = t } ≡ subdivideAllOf t₀ ps
+  going-end h = let z : 0 ≡ triplesIn ps - i = omega (arith, g .within) in many-end t ps i ∙ ap (subdivideFrom t ps i) z ∙ g .left
+
+  module _ (h : i < triplesIn ps) where
+    pub going-stop : (subdivideTriple t ps i .number ≡ 0 → ⊥) → record { number = subdivideTriple t ps i .number; done = i; bytes = t } ≡ subdivideAllOf t₀ ps
+    going-stop e = many-stop t ps i (triplesIn ps - i) (omega arith) e ∙ g .left
+
+    pub going-room : subdivideTriple t ps i .number ≡ 0 → 6 ≤ f
+    going-room e = omega (arith, triple-kept t ps i e .free, g .free)
+
+    pub going-more : subdivideTriple t ps i .number ≡ 0 → Going t₀ ps n (subdivideTriple t ps i .bytes) (f - 6) (i + 1)
+    going-more e =
+        let k = triple-kept t ps i e in
+        let z : triplesIn ps - (i + 1) ≡ triplesIn ps - i - 1 = omega arith in
+        record {
+          within = omega arith;
+          table = table-same t (subdivideTriple t ps i .bytes) n (k .long) (g .table);
+          order = k .order;
+          free = omega (arith, k .free, g .free);
+          long = k .long ∙ g .long;
+          left = ap (subdivideFrom (subdivideTriple t ps i .bytes) ps (i + 1)) z ∙ many-more t ps i (triplesIn ps - i) (omega arith) e ∙ g .left;
+        }
+
+pub many-parts : {x y : Many} → x ≡ y → (x .number ≡ y .number) × ((x .done ≡ y .done) × (x .bytes ≡ y .bytes))
+many-parts e = (ap (λ (o : Many). o .number) e, (ap (λ (o : Many). o .done) e, ap (λ (o : Many). o .bytes) e))
+
+-- ---- a triple's m as the code tests it
+pub below-byte : (z : ℤ) → ltZ z (pos 0) ≡ true → isByte z ≡ false
+below-byte (pos n) h = absurd (omega (arith, ltb-true n 0 h))
+below-byte (negsuc n) h = refl
+
+pub above-byte : (z : ℤ) → ltZ (pos 255) z ≡ true → isByte z ≡ false
+above-byte (pos n) h = le-ltb n 256 (omega (arith, ltb-true 255 n h))
+above-byte (negsuc n) h = refl
+
+pub record Byte (z : ℤ) : Type 0 where
+  pub is : isByte z ≡ true
+  pub sign : T (nonNeg z)
+  pub size : natAbs z < 256
+
+pub within-byte : (z : ℤ) → ltZ z (pos 0) ≡ false → ltZ (pos 255) z ≡ false → Byte z
+within-byte (pos n) h k = let l : n < 256 = omega (arith, ltb-false 255 n k) in record { is = lt-ltb n 256 l; sign = tt; size = l }
+within-byte (negsuc n) h k = absurd (not-both refl h)

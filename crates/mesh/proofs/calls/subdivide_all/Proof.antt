@@ -1,77 +1,128 @@
+use mathlib.Core.Path.{_≡_, refl, sym, _∙_, subst, ap}
+use mathlib.Core.Bool.{true}
+use Prim.Native.Nat.{_-_, ℕ, _+_, _<_}
+use borrow.Author.Tests.{not-true, not-false}
+use borrow.Author.Needs.{needs}
+use mathlib.Core.List.{List}
+use lib.ListN.{length}
+use Rattle.table.specs.Order.{inOrderOf}
+use Rattle.table.specs.Slots.{Table}
+use Rattle.table.specs.OrderLaws.{test-order}
 use Rattle.mesh.proofs.calls.subdivide_all.Statement.{statement}
+use Rattle.mesh.specs.Subdivide.{triplesIn, subdivideTriple}
+use Rattle.mesh.specs.CaseLaws.{many-1, Going, going-start, many-parts, triple-refused, going-end, going-stop, going-room, going-more}
 use Rattle.mesh.proofs.calls.subdivide_all.Tie as tie
-use Rattle.mesh.proofs.calls.subdivide_all.Reads as reads
-use Rattle.mesh.proofs.calls.subdivide_all.Lts as lts
-use Rattle.mesh.proofs.calls.subdivide_triple.Reads as subdivide-triple-reads
-use Rattle.table.proofs.in_order.Reads as in-order-reads
-use Rattle.table.proofs.free_slots.Reads as free-slots-reads
-use Rattle.table.proofs.slots_of.Reads as slots-of-reads
 
 abbrev Inv-loop : tie.InvT-loop
-Inv-loop table₀ points n count free₀ i₀ table free i = ?
+Inv-loop t₀ ps n count f₀ i₀ t f i = (count ≡ triplesIn ps) × Going t₀ ps n t f i
 
 abbrev μ-loop : tie.MeasureT-loop
-μ-loop table₀ points n count free₀ i₀ table free i = ?
+μ-loop t₀ ps n count f₀ i₀ t f i = count - i
 
--- src/calls.rt:110:9
 in-order-requires : tie.Need-in-order-requires Inv-loop μ-loop
-in-order-requires c κs = ?
+in-order-requires c κs = search needs
 
--- src/calls.rt:111:9
 same-length : tie.Need-same-length Inv-loop μ-loop
-same-length c = ?
+same-length c = search needs
 
--- src/calls.rt:111:9
 returns : tie.Need-returns Inv-loop μ-loop
-returns c = ?
+returns c = let a = c .before .before .before .before .args in many-parts (many-1 (a .table .now) (a .points .now) (sym (c .before .in-order .ensures) ∙ not-true _ (c .if1 .taken)))
 
--- src/calls.rt:113:9
 slots-of-requires : tie.Need-slots-of-requires Inv-loop μ-loop
-slots-of-requires c κs = ?
+slots-of-requires c κs = search needs
 
--- src/calls.rt:115:9
+-- the table is in order, and has as many slots as were counted
+ordered : (c : tie.Else1 Inv-loop μ-loop) → inOrderOf (c .before .before .before .before .args .table .now) ≡ true
+ordered c = sym (c .before .in-order .ensures) ∙ not-false _ (c .if1 .left)
+
+counted : (c : tie.After-slots-of Inv-loop μ-loop) → Table (c .before .before .before .before .before .before .args .table .now) (c .slots-of .result)
+counted c =
+    let e = c .before .before in
+    let t = e .before .before .before .before .args .table .now in
+    subst (Table t) (sym (c .slots-of .ensures)) (test-order t (ordered e) .fits)
+
 free-slots-requires : tie.Need-free-slots-requires Inv-loop μ-loop
-free-slots-requires c κs = ?
+free-slots-requires c κs = counted (c .before)
 
--- src/calls.rt:117:5
 loop-holds : tie.Need-loop-holds Inv-loop μ-loop
-loop-holds c = ?
+loop-holds c =
+    let n = c .before .before in
+    let e = n .before .before in
+    let a = e .before .before .before .before .args in
+    (refl, going-start (a .table .now) (a .points .now) (n .slots-of .result) (c .free-slots .result) (counted n) (ordered e) (c .free-slots .ensures))
 
--- src/calls.rt:118:13
 subdivide-triple-requires : tie.Need-subdivide-triple-requires Inv-loop μ-loop
-subdivide-triple-requires c κs = ?
+subdivide-triple-requires c κs =
+    let l = c .before .before .loop in
+    let g = l .inv .1 in
+    (search needs, (g .table, (g .order, g .free)))
 
--- src/calls.rt:120:13
 same-length-2 : tie.Need-same-length-2 Inv-loop μ-loop
-same-length-2 c = ?
+same-length-2 c =
+    let w = c .before .before .before in
+    let l = w .before .before .before in
+    let n = l .before .before .before in
+    let a = n .before .before .before .before .before .before .args in
+    let t = l .loop .table in
+    let ps = a .points .now in
+    let i = l .loop .i in
+    let h : i < triplesIn ps = w .before .before .loop-test .taken in
+    ap length (w .subdivide-triple .ensures .1 ∙ triple-refused t ps i (λ z. c .if2 .taken (w .subdivide-triple .ensures .0 ∙ z))) ∙ l .loop .inv .1 .long
 
--- src/calls.rt:120:13
 returns-2 : tie.Need-returns-2 Inv-loop μ-loop
-returns-2 c = ?
+returns-2 c =
+    let w = c .before .before .before in
+    let l = w .before .before .before in
+    let n = l .before .before .before in
+    let a = n .before .before .before .before .before .before .args in
+    let t = l .loop .table in
+    let ps = a .points .now in
+    let i = l .loop .i in
+    let h : i < triplesIn ps = w .before .before .loop-test .taken in
+    let no : subdivideTriple t ps i .number ≡ 0 → ⊥ = λ z. c .if2 .taken (w .subdivide-triple .ensures .0 ∙ z) in
+    let p = many-parts (going-stop (a .table .now) ps (n .slots-of .result) t (l .loop .free) i (l .loop .inv .1) h no) in
+    (w .subdivide-triple .ensures .0 ∙ p .0, (p .1 .0, w .subdivide-triple .ensures .1 ∙ triple-refused t ps i no ∙ p .1 .1))
 
--- src/calls.rt:125:9
 sub-free : tie.Need-sub-free Inv-loop μ-loop
-sub-free c = ?
+sub-free c =
+    let w = c .before .before .before in
+    let l = w .before .before .before in
+    let n = l .before .before .before in
+    let a = n .before .before .before .before .before .before .args in
+    let t = l .loop .table in
+    let ps = a .points .now in
+    let i = l .loop .i in
+    let h : i < triplesIn ps = w .before .before .loop-test .taken in
+    going-room (a .table .now) ps (n .slots-of .result) t (l .loop .free) i (l .loop .inv .1) h (sym (w .subdivide-triple .ensures .0) ∙ c .if2 .left)
 
--- src/calls.rt:126:9
 add-i : tie.Need-add-i Inv-loop μ-loop
-add-i c = ?
+add-i c = search needs
 
--- src/calls.rt:117:5
 loop-less : tie.Need-loop-less Inv-loop μ-loop
-loop-less c = ?
+loop-less c = search needs
 
--- src/calls.rt:117:5
 loop-again : tie.Need-loop-again Inv-loop μ-loop
-loop-again c = ?
+loop-again c =
+    let w = c .before .before .before in
+    let l = w .before .before .before in
+    let n = l .before .before .before in
+    let a = n .before .before .before .before .before .before .args in
+    let t = l .loop .table in
+    let ps = a .points .now in
+    let i = l .loop .i in
+    let h : i < triplesIn ps = w .before .before .loop-test .taken in
+    let g = going-more (a .table .now) ps (n .slots-of .result) t (l .loop .free) i (l .loop .inv .1) h (sym (w .subdivide-triple .ensures .0) ∙ c .if2 .left) in
+    (l .loop .inv .0, subst (λ (u : List ℕ). Going (a .table .now) ps (n .slots-of .result) u (l .loop .free - 6) (i + 1)) (sym (w .subdivide-triple .ensures .1)) g)
 
--- src/calls.rt:105:1
 same-length-3 : tie.Need-same-length-3 Inv-loop μ-loop
-same-length-3 c = ?
+same-length-3 c = c .before .loop .inv .1 .long
 
--- src/calls.rt:105:1
 returns-3 : tie.Need-returns-3 Inv-loop μ-loop
-returns-3 c = ?
+returns-3 c =
+    let l = c .before in
+    let n = l .before .before .before in
+    let a = n .before .before .before .before .before .before .args in
+    many-parts (going-end (a .table .now) (a .points .now) (n .slots-of .result) (l .loop .table) (l .loop .free) (l .loop .i) (l .loop .inv .1) (search needs))
 
 pub subdivide-all-spec : {M : Type 1} → statement M
 subdivide-all-spec =
