@@ -13,6 +13,7 @@ pub mod Signs
 pub mod Bools
 pub mod Rules
 pub mod Each
--- lists and bytes: Sets, Words
+-- lists and bytes: Sets, Words, Bits
 pub mod Sets
 pub mod Words
+pub mod Bits
