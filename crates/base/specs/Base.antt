@@ -117,13 +117,13 @@ pub record Base : Type 0 where
   pub place : ℕ
   pub bytes : List ℕ
 
-abbrev pub result : ℕ → ℕ → List ℕ → Base
-result n p t = record { number = n; place = p; bytes = t }
+abbrev pub outcome : ℕ → ℕ → List ℕ → Base
+outcome n p t = record { number = n; place = p; bytes = t }
 
 -- "8: too few free slots"
 abbrev pub fromLaid : List ℕ → Laid → Base
-fromLaid t (Room u) = result 0 0 u
-fromLaid t NoRoom = result 8 0 (clearedOf t)
+fromLaid t (Room u) = outcome 0 0 u
+fromLaid t NoRoom = outcome 8 0 (clearedOf t)
 
 -- "base list empty, of odd length"
 abbrev pub unpaired : List ℤ → Bool
@@ -133,7 +133,7 @@ unpaired cs = eqb (length cs) 0 || not (eqb (length cs % 2) 0)
 unfoldable pub baseOf : List ℕ → List ℤ → Base
 baseOf t cs =
     cond (fitsLength (length t))
-    (cond (unpaired cs) (result 2 0 (clearedOf t))
-    (cond (ltb (badPlace cs) (centresIn cs)) (result 2 (badPlace cs) (clearedOf t))
+    (cond (unpaired cs) (outcome 2 0 (clearedOf t))
+    (cond (ltb (badPlace cs) (centresIn cs)) (outcome 2 (badPlace cs) (clearedOf t))
     (fromLaid t (laidOf t cs))))
-    (result 1 0 t)
+    (outcome 1 0 t)

@@ -27,7 +27,7 @@ use Rattle.table.specs.Search.{findOf}
 use Rattle.table.specs.Entries.{enterAt, enterOf, listed}
 use Rattle.table.specs.declared.probe.Found.{Found}
 use Rattle.lattice.specs.Places.{wide, high}
-use Rattle.base.specs.Base.{centresIn, centreAt, isCentre, badPlace, cornerOf, internal, at0, cornerRecord, hexagonOf, Laid, Room, NoRoom, lay, layAt, layHexagon, layAll, laidOf, Base, result, fromLaid, unpaired, baseOf}
+use Rattle.base.specs.Base.{centresIn, centreAt, isCentre, badPlace, cornerOf, internal, at0, cornerRecord, hexagonOf, Laid, Room, NoRoom, lay, layAt, layHexagon, layAll, laidOf, Base, outcome, fromLaid, unpaired, baseOf}
 use Rattle.base.specs.Marks.{Within, inMarks}
 use Rattle.base.specs.MarkLaws.{good-is, marked-good, listed-at}
 use Rattle.table.specs.declared.probe.Found.the-variants as found
@@ -174,24 +174,24 @@ module _ (t : List ℕ) (cs : List ℤ) where
   abbrev judged : Bool → Bool → Bool → Laid → Base
   judged fit odd bad l =
       cond fit
-      (cond odd (result 2 0 (clearedOf t))
-      (cond bad (result 2 (badPlace cs) (clearedOf t))
+      (cond odd (outcome 2 0 (clearedOf t))
+      (cond bad (outcome 2 (badPlace cs) (clearedOf t))
       (fromLaid t l)))
-      (result 1 0 t)
+      (outcome 1 0 t)
 
   by : (fit odd bad : Bool) (l : Laid) → fitsLength (length t) ≡ fit → unpaired cs ≡ odd → ltb (badPlace cs) (centresIn cs) ≡ bad → laidOf t cs ≡ l → judged fit odd bad l ≡ baseOf t cs
   unfolding baseOf
   by fit odd bad l f o b e = sym (λ i. judged (f i) (o i) (b i) (e i))
 
-  pub base-unfit : fitsLength (length t) ≡ false → result 1 0 t ≡ baseOf t cs
+  pub base-unfit : fitsLength (length t) ≡ false → outcome 1 0 t ≡ baseOf t cs
   base-unfit f = by false (unpaired cs) (ltb (badPlace cs) (centresIn cs)) (laidOf t cs) f refl refl refl
 
   module _ (f : fitsLength (length t) ≡ true) where
-    pub base-unpaired : unpaired cs ≡ true → result 2 0 (clearedOf t) ≡ baseOf t cs
+    pub base-unpaired : unpaired cs ≡ true → outcome 2 0 (clearedOf t) ≡ baseOf t cs
     base-unpaired o = by true true (ltb (badPlace cs) (centresIn cs)) (laidOf t cs) f o refl refl
 
     module _ (o : unpaired cs ≡ false) where
-      pub base-bad : badPlace cs < centresIn cs → result 2 (badPlace cs) (clearedOf t) ≡ baseOf t cs
+      pub base-bad : badPlace cs < centresIn cs → outcome 2 (badPlace cs) (clearedOf t) ≡ baseOf t cs
       base-bad h = by true false true (laidOf t cs) f o (lt-ltb (badPlace cs) (centresIn cs) h) refl
 
       pub base-laid : centresIn cs ≤ badPlace cs → (l : Laid) → l ≡ laidOf t cs → fromLaid t l ≡ baseOf t cs

@@ -197,9 +197,10 @@ listed-marked m cs i p e d g = marked-is m p d g ∙ (λ k. e .are k p)
 pub marked-good : (m : List ℕ) (cs : List ℤ) (i : ℕ) (p : Point) → inMarks m ≡ listedIn cs i → listedIn cs i p ≡ true → (p .m .0 ≡ 0) × (goodCentre p ≡ true)
 unfolding inMarks
 marked-good m cs i p e h =
-    let k : eqb (p .m .0) 0 && (goodCentre p && markedAt m (numberOf p)) ≡ true = (λ j. e j p) ∙ h in
-    (eqb-true (p .m .0) 0 (both-left (eqb (p .m .0) 0) (goodCentre p && markedAt m (numberOf p)) k),
-    both-left (goodCentre p) (markedAt m (numberOf p)) (both-right (eqb (p .m .0) 0) (goodCentre p && markedAt m (numberOf p)) k))
+    let k : eqb (p .m .0) 0 && (goodCentre p && markedAt m (numberOf p)) ≡ true = (λ j. e j p) ∙ h in (
+      eqb-true (p .m .0) 0 (both-left (eqb (p .m .0) 0) (goodCentre p && markedAt m (numberOf p)) k),
+      both-left (goodCentre p) (markedAt m (numberOf p)) (both-right (eqb (p .m .0) 0) (goodCentre p && markedAt m (numberOf p)) k),
+    )
 
 pub marks-more : (m u : List ℕ) (cs : List ℤ) (i : ℕ) → Marked m cs i → goodCentre (centreAt cs i) ≡ true → Adds m (numberOf (centreAt cs i)) u → Marked u cs (i + 1)
 unfolding inMarks listedIn

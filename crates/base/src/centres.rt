@@ -83,7 +83,7 @@ pub fn first_bad(centres: &[i32], count: usize, marks: &mut [u8; MARK_BYTES]) ->
     requires { ⌜ 2 * count ≤ length (now centres) ⌝ }
     requires { ⌜ Marked (now marks) (now centres) 0 ⌝ }
     ensures { λ r. ⌜ r ≡ firstBad (now (centres .entry)) 0 count ⌝ }
-    ensures { λ r. ⌜ (r ≡ count → Marked (now (marks .exit)) (now (centres .entry)) count) ⌝ }
+    ensures { λ r. ⌜ (count ≤ r → Marked (now (marks .exit)) (now (centres .entry)) count) ⌝ }
 {
     let mut i = 0;
     while i < count {

@@ -7,7 +7,7 @@ mod hexagons;
 mod marks;
 
 ghost use mathlib.Core.Path.{_≡_};
-ghost use Rattle.base.specs.Base.{result, baseOf};
+ghost use Rattle.base.specs.Base.{outcome, baseOf};
 use crate::centres::first_bad;
 use crate::hexagons::lay_all;
 use crate::marks::MARK_BYTES;
@@ -23,28 +23,46 @@ pub struct Based {
 // Clears the table and lays the hexagons at the centres a, b, a, b, .. into it. Refused with 1 the table is untouched, with 2 or 8 all 255.
 // Linear in the table's slots and in the list, as long as the searches are short.
 pub fn base(table: &mut [u8], centres: &[i32]) -> Based
-    ensures { λ r. ⌜ result (r .number) (r .place) (now (table .exit)) ≡ baseOf (now (table .entry)) (now (centres .entry)) ⌝ }
+    ensures { λ r. ⌜ outcome (r .number) (r .place) (now (table .exit)) ≡ baseOf (now (table .entry)) (now (centres .entry)) ⌝ }
 {
     let n = slots_of(table);
     if n == 0 {
-        return Based { number: 1, place: 0 };
+        return Based {
+            number: 1,
+            place: 0,
+        };
     }
     clear(table);
     let l = centres.len();
     if l == 0 {
-        return Based { number: 2, place: 0 };
+        return Based {
+            number: 2,
+            place: 0,
+        };
     }
     if l % 2 != 0 {
-        return Based { number: 2, place: 0 };
+        return Based {
+            number: 2,
+            place: 0,
+        };
     }
     let mut marks = [0; MARK_BYTES];
     let bad = first_bad(centres, l / 2, &mut marks);
     if bad < l / 2 {
-        return Based { number: 2, place: bad };
+        return Based {
+            number: 2,
+            place: bad,
+        };
     }
     if lay_all(table, n, centres, &marks) {
-        return Based { number: 0, place: 0 };
+        return Based {
+            number: 0,
+            place: 0,
+        };
     }
     clear(table);
-    Based { number: 8, place: 0 }
+    Based {
+        number: 8,
+        place: 0,
+    }
 }
