@@ -20,6 +20,12 @@ pub struct Based {
     pub place: usize,
 }
 
+fn answer(number: u8, place: usize) -> Based
+    ensures { λ r. ⌜ (r .number ≡ number) × (r .place ≡ place) ⌝ }
+{
+    Based { number, place }
+}
+
 // Clears the table and lays the hexagons at the centres a, b, a, b, .. into it. Refused with 1 the table is untouched, with 2 or 8 all 255.
 // Linear in the table's slots and in the list, as long as the searches are short.
 pub fn base(table: &mut [u8], centres: &[i32]) -> Based
@@ -27,42 +33,24 @@ pub fn base(table: &mut [u8], centres: &[i32]) -> Based
 {
     let n = slots_of(table);
     if n == 0 {
-        return Based {
-            number: 1,
-            place: 0,
-        };
+        return answer(1, 0);
     }
     clear(table);
     let l = centres.len();
     if l == 0 {
-        return Based {
-            number: 2,
-            place: 0,
-        };
+        return answer(2, 0);
     }
     if l % 2 != 0 {
-        return Based {
-            number: 2,
-            place: 0,
-        };
+        return answer(2, 0);
     }
     let mut marks = [0; MARK_BYTES];
     let bad = first_bad(centres, l / 2, &mut marks);
     if bad < l / 2 {
-        return Based {
-            number: 2,
-            place: bad,
-        };
+        return answer(2, bad);
     }
     if lay_all(table, n, centres, &marks) {
-        return Based {
-            number: 0,
-            place: 0,
-        };
+        return answer(0, 0);
     }
     clear(table);
-    Based {
-        number: 8,
-        place: 0,
-    }
+    answer(8, 0)
 }

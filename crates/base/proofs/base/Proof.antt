@@ -77,32 +77,34 @@ module _ (c : tie.After-lay-all) where
   laid =
       c .lay-all .ensures ∙ ap (λ (x : List ℕ). layAll (cs (e (k b))) (centresIn (cs (e (k b)))) (Room x)) (cleared (k b)) ∙ laid-is (t (e (k b))) (cs (e (k b)))
 
-  answer : (w : Bool) → c .lay-all .result ≡ w → fromLaid (t (e (k b))) (laidBy w u) ≡ baseOf (t (e (k b))) (cs (e (k b)))
-  answer w h = base-laid (t (e (k b))) (cs (e (k b))) (fit (e (k b))) (paired b) good (laidBy w u) (sym (ap (λ (x : Bool). laidBy x u) h) ∙ laid)
+  answered : (w : Bool) → c .lay-all .result ≡ w → fromLaid (t (e (k b))) (laidBy w u) ≡ baseOf (t (e (k b))) (cs (e (k b)))
+  answered w h = base-laid (t (e (k b))) (cs (e (k b))) (fit (e (k b))) (paired b) good (laidBy w u) (sym (ap (λ (x : Bool). laidBy x u) h) ∙ laid)
 
 returns : tie.Need-returns
 returns c =
-    let a = c .before .before .before .before .args in
-    base-unfit (a .table .now) (a .centres .now) (no-slots (a .table .now) (sym (c .before .slots-of .ensures) ∙ c .if1 .taken))
+    let k = c .before .before in
+    let a = k .before .before .before .args in
+    (λ i. outcome (c .answer .ensures .0 i) (c .answer .ensures .1 i) (a .table .now)) ∙ base-unfit (a .table .now) (a .centres .now) (no-slots (a .table .now) (sym (k .slots-of .ensures) ∙ c .before .if1 .taken))
 
 returns-2 : tie.Need-returns-2
 returns-2 c =
-    let k = c .before in
-    ap (outcome 2 0) (cleared k) ∙ base-unpaired (t (e k)) (cs (e k)) (fit (e k)) (list-empty (cs (e k)) (c .if2 .taken))
+    let k = c .before .before in
+    (λ i. outcome (c .answer2 .ensures .0 i) (c .answer2 .ensures .1 i) (cleared k i)) ∙ base-unpaired (t (e k)) (cs (e k)) (fit (e k)) (list-empty (cs (e k)) (c .before .if2 .taken))
 
 returns-3 : tie.Need-returns-3
 returns-3 c =
-    let k = c .before .before in
-    ap (outcome 2 0) (cleared k) ∙ base-unpaired (t (e k)) (cs (e k)) (fit (e k)) (list-odd (cs (e k)) (c .before .if2 .left) (c .if3 .taken))
+    let o = c .before in
+    let k = o .before .before in
+    (λ i. outcome (c .answer3 .ensures .0 i) (c .answer3 .ensures .1 i) (cleared k i)) ∙ base-unpaired (t (e k)) (cs (e k)) (fit (e k)) (list-odd (cs (e k)) (o .before .if2 .left) (o .if3 .taken))
 
 first-bad-requires : tie.Need-first-bad-requires
 first-bad-requires c κs = (omega arith, marks-none (cs (e (c .before .before .before))))
 
 returns-4 : tie.Need-returns-4
 returns-4 c =
-    let b = c .before in
+    let b = c .before .before in
     let x = first b in
-    (λ i. outcome 2 (x i) (cleared (k b) i)) ∙ base-bad (t (e (k b))) (cs (e (k b))) (fit (e (k b))) (paired b) (omega (arith, c .if4 .taken))
+    (λ i. outcome (c .answer4 .ensures .0 i) ((c .answer4 .ensures .1 ∙ x) i) (cleared (k b) i)) ∙ base-bad (t (e (k b))) (cs (e (k b))) (fit (e (k b))) (paired b) (omega (arith, c .before .if4 .taken))
 
 lay-all-requires : tie.Need-lay-all-requires
 lay-all-requires c κs =
@@ -113,34 +115,42 @@ lay-all-requires c κs =
     )
 
 returns-5 : tie.Need-returns-5
-returns-5 c = answer (c .before .before .before) true (c .if5 .taken)
+returns-5 c =
+    let a = c .before .before .before .before in
+    (λ i. outcome (c .answer5 .ensures .0 i) (c .answer5 .ensures .1 i) (u a)) ∙ answered a true (c .before .if5 .taken)
 
 returns-6 : tie.Need-returns-6
 returns-6 c =
-    let z = c .before .before in
+    let z = c .before .before .before in
     let o = z .before .before in
     let a = o .before .before .before in
     let h : length (u a) ≡ length (t (e (k (b a)))) = omega (arith, a .lay-all .kept, k (b a) .before .before .clear .kept) in
-    ap (outcome 8 0) (z .clear2 .ensures ∙ ap (λ (l : ℕ). replicate l 255) h) ∙ answer a false (o .if5 .left)
+    (λ i. outcome (c .answer6 .ensures .0 i) (c .answer6 .ensures .1 i) ((z .clear2 .ensures ∙ ap (λ (l : ℕ). replicate l 255) h) i)) ∙ answered a false (o .if5 .left)
 
 pub base-spec : {M : Type 1} → statement M
 base-spec =
     tie.close
     (tie.spec
     (λ c κs. search needs)
+    (λ c κs. search needs)
     (λ c. search needs)
     returns
     (λ c κs. search needs)
+    (λ c κs. search needs)
     (λ c. search needs)
     returns-2
+    (λ c κs. search needs)
     (λ c. search needs)
     returns-3
     first-bad-requires
+    (λ c κs. search needs)
     (λ c. search needs)
     returns-4
     lay-all-requires
+    (λ c κs. search needs)
     (λ c. search needs)
     returns-5
+    (λ c κs. search needs)
     (λ c κs. search needs)
     (λ c. search needs)
     returns-6)
