@@ -1,3 +1,8 @@
 -- Document 01, "Base", in antt.
 pub mod Base
 pub mod Examples
+-- what the promises of the functions below cite besides
+pub mod Marks
+-- their laws
+pub mod MarkLaws
+pub mod LayLaws

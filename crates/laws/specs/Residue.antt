@@ -1,5 +1,5 @@
 -- The remainder on division that is never negative, `modZ`, and how it is had from the machine's, whose sign is the dividend's.
--- `mod-below` · `rem-neg`, `rem-pos` from the machine's remainder · `rem-asked`, `sum-cast`, `sum-is`, `rem-cast`, `rem-is` the same at 64 bits · `left3-minus` a difference by 3.
+-- `mod-below` · `rem-neg`, `rem-pos` from the machine's remainder · `rem-asked`, `sum-cast`, `sum-is`, `rem-cast`, `rem-is` the same at 64 bits · `left3-parts`, `left3-minus` a number and a difference by 3.
 -- Assumes nothing.
 use mathlib.Core.Path.{_≡_, refl, sym, _∙_, subst, ap}
 use mathlib.Core.Logic.{_⊎_, inl, inr, ⊎-elim}
@@ -117,7 +117,7 @@ module _ (s : ℤ) (n : ℕ) (f : SFits w64 s) (h : 0 < n) (m : n ≤ 65536) whe
     rem-is = ap natAbs erem
 
 -- ---- division by 3, as `omega` reads it
-left3-parts : (z : ℤ) → modZ z 3 ≡ (up z + 2 * dn z) % 3
+pub left3-parts : (z : ℤ) → modZ z 3 ≡ (up z + 2 * dn z) % 3
 left3-parts (pos x) = omega arith
 left3-parts (negsuc x) = go (x % 3) refl
   where
