@@ -11,9 +11,9 @@ use Rattle.table.specs.Search.{findOf}
 use Rattle.table.specs.declared.slots.Slot.{Slot}
 use Rattle.table.specs.declared.slots.Slot.the-variants.{Free, Holds}
 use Rattle.table.specs.declared.probe.Found.{Found}
-use Rattle.table.specs.declared.probe.Found.the-variants as found
 use Rattle.table.specs.declared.entries.Looked.{Looked}
 use Rattle.table.specs.declared.entries.Looked.the-variants.{Absent, Held}
+use Rattle.table.specs.declared.probe.Found.the-variants as found
 
 -- the record that a slot holds
 abbrev pub heldIn : Slot → Looked

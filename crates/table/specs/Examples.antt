@@ -4,17 +4,17 @@ use mathlib.Core.Path.{_≡_, refl}
 use mathlib.Core.Bool.{true, false}
 use mathlib.Core.List.{List, [], _∷_}
 use Prim.Native.Nat.{ℕ}
-use lib.ListN.{length, replicate}
+use lib.ListN.{replicate}
 use lib.IntN.{ℤ, pos, negsuc}
 use Rattle.laws.specs.Words.{wordAt}
 use Rattle.lattice.specs.Points.{pt}
 use Rattle.lattice.specs.declared.records.Record.{Record}
-use Rattle.table.specs.Slots.{slotsIn, slotsOf, slotAt, freeAt, recordAt, putSlot, recordBytes, freeBelow, freeSlots}
+use Rattle.table.specs.Slots.{slotsIn, slotAt, freeAt, recordAt, putSlot, recordBytes, freeBelow, freeSlots}
 use Rattle.table.specs.Search.{homeOf, samePoint, searchFrom, findOf}
 use Rattle.table.specs.Order.{placedAt, allPlaced, inOrderOf}
 use Rattle.table.specs.Entries.{lookUp, enterOf, replaceOf}
-use Rattle.table.specs.declared.probe.Found.the-variants as found
 use Rattle.table.specs.declared.entries.Looked.the-variants.{Absent, Held}
+use Rattle.table.specs.declared.probe.Found.the-variants as found
 
 -- [a, b, 0], of degree d, k = n = 0
 vertex : ℤ → ℤ → ℕ → Record

@@ -12,3 +12,8 @@ pub mod SlotLaws
 pub mod SearchLaws
 pub mod OrderLaws
 pub mod EntryLaws
+pub mod ChangeLaws
+pub mod WriteLaws
+pub mod RecordLaws
+-- what the floors above cite
+pub mod MapLaws

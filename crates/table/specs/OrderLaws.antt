@@ -7,19 +7,19 @@
 use mathlib.Core.Path.{_≡_, refl, sym, ap, _∙_, subst}
 use mathlib.Core.Bool.{Bool, true, false, _&&_}
 use mathlib.Core.List.{List}
-use Prim.Native.Nat.{ℕ, _+_, _≤_, _<_}
+use Prim.Native.Nat.{ℕ, _≤_, _<_}
 use native.Mathlib.Omega.{arith}
-use native.Mathlib.Decide.{decLt, ℕ-discrete}
+use native.Mathlib.Decide.{decLt}
 use borrow.Author.Tests.{eq-eqb, eqb-true}
 use lib.ListN.{length}
-use Rattle.laws.specs.Each.{both-left, both-right, not-both, upto-each, each-upto}
+use Rattle.laws.specs.Each.{both-left, both-right, upto-each, each-upto}
 use Rattle.lattice.specs.Records.{validOf}
 use Rattle.lattice.specs.declared.points.Point.{Point}
 use Rattle.lattice.specs.declared.records.Record.{Record}
 use Rattle.table.specs.Slots.{Table, fitsLength, slotsOf, slotAt}
 use Rattle.table.specs.Search.{homeOf, meets, settle, seek, findOf}
 use Rattle.table.specs.Order.{steps, EachValid, NoneTwice, NoneFreeBefore, InOrder, isAt, placedSlot, placedAt, allPlaced, inOrderOf}
-use Rattle.table.specs.SlotLaws.{home-below, table-slots, table-test, test-table, slots-table, no-slots}
+use Rattle.table.specs.SlotLaws.{home-below, table-test, test-table, slots-table, no-slots}
 use Rattle.table.specs.SearchLaws.{walk, Others, search-found, search-full, walk-below, steps-below, steps-walk, walk-steps, Kind, kind, free, own, alien, own-hit, End, ends, hits, gaps, full}
 use Rattle.table.specs.declared.slots.Slot.{Slot}
 use Rattle.table.specs.declared.slots.Slot.the-variants.{Free, Holds}

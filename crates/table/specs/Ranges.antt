@@ -1,9 +1,8 @@
 -- Where records may be: `inRanges` is true of the points of valid records (`valid-inside`), and such points fit their bytes (`inside-fits`).
 -- Assumes nothing.
-use mathlib.Core.Path.{_≡_, ap}
+use mathlib.Core.Path.{_≡_}
 use mathlib.Core.Bool.{Bool, true, _&&_}
-use Prim.Native.Nat.{ℕ, _*_, _^_, _≤_}
-use native.Mathlib.Omega.{arith}
+use Prim.Native.Nat.{_*_, _^_, _≤_}
 use lib.Dec.{leb}
 use borrow.Author.Tests.{leb-true}
 use lib.IntN.{natAbs}

@@ -1,7 +1,7 @@
 -- Document 01, "Table in memory", from "The home slot" to "until it meets the point or a free slot or has seen all".
 -- `homeOf` · `samePoint` · `searchFrom` a search of a ring of slots, `seek` that of a point, `findOf` that of a point in a table's bytes.
 -- Assumes nothing.
-use mathlib.Core.Bool.{Bool, true, false, cond, _&&_}
+use mathlib.Core.Bool.{Bool, cond, _&&_}
 use mathlib.Core.List.{List}
 use Prim.Native.Nat.{ℕ, zero, suc, _+_}
 use lib.Dec.{eqb}

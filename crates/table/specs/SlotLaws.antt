@@ -5,7 +5,7 @@
 use mathlib.Core.Path.{_≡_, refl, sym, ap, _∙_}
 use mathlib.Core.Bool.{Bool, true, false, cond, _&&_}
 use mathlib.Core.List.{List, [], _∷_, _++_}
-use Prim.Native.Nat.{ℕ, zero, suc, _+_, _*_, _/_, _%_, _≤_, _<_}
+use Prim.Native.Nat.{ℕ, suc, _+_, _*_, _/_, _%_, _≤_, _<_}
 use native.Mathlib.Omega.{arith}
 use native.Mathlib.Decide.{decLt}
 use borrow.Author.Tests.{eq-eqb, ne-eqb, eqb-true, le-leb, leb-true}
@@ -19,8 +19,7 @@ use mir.Facts.{toZ-ofZ, fits-ofZ}
 use Rattle.laws.specs.Words.{wordAt, wordBytes, word-back, word-of}
 use Rattle.laws.specs.Sets.{sets-append, getD-sets-below, getD-sets-above, getD-sets-in}
 use Rattle.laws.specs.Residue.{mod-below}
-use Rattle.laws.specs.Rules.{upto}
-use Rattle.laws.specs.Each.{both-left, both-right, not-both, upto-each, upto-fails, same-test}
+use Rattle.laws.specs.Each.{both-left, both-right, upto-each, upto-fails, same-test}
 use Rattle.lattice.specs.Points.{pt}
 use Rattle.lattice.specs.declared.points.Point.{Point}
 use Rattle.lattice.specs.declared.records.Record.{Record}
@@ -184,11 +183,11 @@ slot-same t u i h =
       h (12 * i + 4 + 3) (omega arith) (omega arith),
     )
 
-module _ (t : List ℕ) (i : ℕ) (r : Record) (room : slotWidth * i + slotWidth ≤ length t) where
-  pub put-length : length (putSlot t i r) ≡ length t
-  unfolding putSlot
-  put-length = length-sets t (12 * i) (recordBytes r)
+pub put-length : (t : List ℕ) (i : ℕ) (r : Record) → length (putSlot t i r) ≡ length t
+unfolding putSlot
+put-length t i r = length-sets t (12 * i) (recordBytes r)
 
+module _ (t : List ℕ) (i : ℕ) (r : Record) (room : slotWidth * i + slotWidth ≤ length t) where
   pub put-other : (j : ℕ) → (j ≡ i → ⊥) → slotAt (putSlot t i r) j ≡ slotAt t j
   unfolding putSlot recordBytes
   put-other j ne = slot-same (putSlot t i r) t j (λ x lo hi. go x lo hi (decLt j i))
