@@ -1,6 +1,6 @@
 -- The laws of the queries. For the reader: `neighbours-spelling`, `faces-spelling` two spellings of one point get the same answer.
 -- For the code: `vertex-refused`, `vertex-looked` the ways of `found`, `vertex-asked`, `asked-inner` what is known of a vertex that it finds · `neighbours-vertex`, `faces-vertex` a query is what
--- follows the vertex · `chosen-first`, `chosen-second` the opposite of a corner · `firstOnes`, `ones-more` six points, filled one by one · `neighbours-whole`, `neighbours-torn` and
+-- follows the vertex · `chosen-either` the opposite of a corner · `firstOnes`, `ones-more` six points, filled one by one · `neighbours-whole`, `neighbours-torn` and
 -- `hasOpposite`, `opposite`, `faces-torn`, `faces-cornerless`, `faces-whole` the answers.
 -- Assumes nothing.
 use mathlib.Core.Path.{_≡_, refl, sym, ap, _∙_, subst}
@@ -21,7 +21,7 @@ use Rattle.lattice.specs.Stars.{firstAt, secondAt, nowhere, refused, given}
 use Rattle.lattice.specs.declared.points.Point.{Point}
 use Rattle.lattice.specs.declared.records.Record.{Record}
 use Rattle.lattice.specs.declared.stars.Answer.{Answer}
-use Rattle.lattice.specs.declared.patterns.Spot.the-variants.{At}
+use Rattle.lattice.specs.declared.patterns.Spot.the-variants.{At, Nothing}
 use Rattle.table.specs.Slots.{Table, slotsOf}
 use Rattle.table.specs.Entries.{lookUp, holds}
 use Rattle.table.specs.Order.{inOrderOf, InOrder}
@@ -31,7 +31,7 @@ use Rattle.table.specs.declared.entries.Looked.the-variants.{Absent, Held}
 use Rattle.laws.specs.Linear.{same}
 use Rattle.lattice.specs.Flat.{table}
 use Rattle.queries.specs.Queries.{adjacentsThere, there, chosenAt, isAt, cornersThere, pointOr0, facesGiven, neighboursAt, facesAt, queryLooked, queryOf, neighboursOf, facesOf}
-use Rattle.queries.specs.Vertices.{vertexLooked, vertexOf, answerOf, Asked}
+use Rattle.queries.specs.Vertices.{vertexLooked, vertexOf, answerOf, Asked, orElse, eitherIn}
 use Rattle.queries.specs.declared.vertices.Vertex.{Vertex}
 use Rattle.queries.specs.declared.vertices.Vertex.the-variants.{Refused, Star}
 
@@ -107,14 +107,13 @@ asked-inner {v = v} k = inner v (true-fact (validOf v) (k .valid)) (k .inside)
 
 -- ---- the opposite of a corner
 
-module _ (t : List ℕ) (v : Record) (j : ℕ) where
-  pub chosen-first : holds t (firstAt v j) ≡ true → At (firstAt v j) ≡ chosenAt t v j
-  unfolding chosenAt
-  chosen-first h = ap (λ (z : Bool). cond z (At (firstAt v j)) (there t (secondAt v j))) (sym h)
-
-  pub chosen-second : holds t (firstAt v j) ≡ false → there t (secondAt v j) ≡ chosenAt t v j
-  unfolding chosenAt
-  chosen-second h = ap (λ (z : Bool). cond z (At (firstAt v j)) (there t (secondAt v j))) (sym h)
+pub chosen-either : (t : List ℕ) (v : Record) (j : ℕ) → eitherIn t (At (firstAt v j)) (secondAt v j) ≡ chosenAt t v j
+unfolding chosenAt
+chosen-either t v j = go (holds t (firstAt v j))
+  where
+    go : (b : Bool) → orElse (cond b (At (firstAt v j)) Nothing) (there t (secondAt v j)) ≡ cond b (At (firstAt v j)) (there t (secondAt v j))
+    go true = refl
+    go false = refl
 
 -- ---- the six points of an answer
 

@@ -6,6 +6,7 @@ ghost use Rattle.lattice.specs.Stars.{adjacentAt};
 ghost use Rattle.table.specs.Slots.{Table};
 ghost use Rattle.table.specs.Entries.{holds};
 ghost use Rattle.queries.specs.Queries.{adjacentsThere, there, chosenAt};
+ghost use Rattle.queries.specs.Vertices.{eitherIn};
 use lattice::Point;
 use lattice::Record;
 use lattice::Spot;
@@ -70,15 +71,24 @@ fn kept(t: &[u8], s: Spot, n: usize) -> Spot
     }
 }
 
+// The first of two points, or the second where the table does not hold that; neither, where it holds none.
+fn either(t: &[u8], p: Spot, q: Spot, n: usize) -> Spot
+    requires { ⌜ Table (now t) n ⌝ }
+    ensures { λ r. ⌜ r ≡ eitherIn (now (t .entry)) p q ⌝ }
+{
+    match kept(t, p, n) {
+        Spot::At(o) => Spot::At(o),
+        Spot::Nothing => kept(t, q, n),
+    }
+}
+
 // The opposite of corner j: the first one if that is in the table, else the second if that is; a corner may have none.
 pub fn chosen(t: &[u8], v: Record, j: u8, n: usize) -> Spot
     requires { ⌜ Table (now t) n ⌝ }
     requires { ⌜ Inner v × (j < v .d) ⌝ }
     ensures { λ r. ⌜ r ≡ chosenAt (now (t .entry)) v j ⌝ }
 {
-    let p = first_of(v, j);
-    if is_there(t, p, n) {
-        return Spot::At(p);
-    }
-    kept(t, second_of(v, j), n)
+    let p = Spot::At(first_of(v, j));
+    let q = second_of(v, j);
+    either(t, p, q, n)
 }
