@@ -1,0 +1,85 @@
+// The two calls. Refused, they answer count 0 and all zeros, as the star call does.
+ghost use mathlib.Core.Path.{_≡_};
+ghost use Rattle.queries.specs.Queries.{neighboursAt, facesAt, neighboursOf, facesOf};
+ghost use Rattle.queries.specs.Vertices.{Asked};
+use crate::opposites::adjacents_there;
+use crate::opposites::chosen;
+use crate::vertices::Vertex;
+use crate::vertices::found;
+use lattice::Answer;
+use lattice::Depth;
+use lattice::Point;
+use lattice::Record;
+use lattice::Spot;
+use lattice::refuse;
+use lattice::star;
+use table::slots_of;
+
+// Document 01's number for a star that the table does not hold whole.
+const TORN: u8 = 7;
+
+// The neighbours of a vertex: its star, if each of its adjacent points is in the table.
+fn neighbours_of(t: &[u8], v: Record, n: usize) -> Answer
+    requires { ⌜ Asked (now t) n v ⌝ }
+    ensures { λ r. ⌜ r ≡ neighboursAt (now (t .entry)) v ⌝ }
+{
+    if adjacents_there(t, v, n) {
+        star(v)
+    } else {
+        refuse(TORN)
+    }
+}
+
+// The faces round a vertex: the chosen opposite of each corner. One pass over the corners, that ends at the first with none.
+fn faces_of(t: &[u8], v: Record, n: usize) -> Answer
+    requires { ⌜ Asked (now t) n v ⌝ }
+    ensures { λ r. ⌜ r ≡ facesAt (now (t .entry)) v ⌝ }
+{
+    if !adjacents_there(t, v, n) {
+        return refuse(TORN);
+    }
+    let d = v.d;
+    let zero = Point {
+        a: 0,
+        b: 0,
+        m: Depth(0),
+    };
+    let mut points = [zero; 6];
+    let mut j = 0;
+    while j < d {
+        match chosen(t, v, j, n) {
+            Spot::At(p) => {
+                points[j as usize] = p;
+            }
+            Spot::Nothing => return refuse(TORN),
+        }
+        j += 1;
+    }
+    Answer {
+        number: 0,
+        count: d,
+        points,
+    }
+}
+
+// The neighbours of the vertex at [a, b, m]: its degree, and its adjacent points in star order. 1: the table is not in order; 3: no record is at the point; 14: its
+// degree is 0; 7: an adjacent point is not in the table.
+pub fn neighbours(table: &[u8], a: i32, b: i32, m: u8) -> Answer
+    ensures { λ r. ⌜ r ≡ neighboursOf (now (table .entry)) a b m ⌝ }
+{
+    match found(table, a, b, m) {
+        Vertex::Refused(number) => refuse(number),
+        Vertex::Star(v) => neighbours_of(table, v, slots_of(table)),
+    }
+}
+
+// The faces round the vertex at [a, b, m]: its degree, and the opposite of each corner; with v, adjacent j and the next adjacent, opposite j makes face j. Refused as
+// neighbours are, and 7 also where a corner has no opposite in the table.
+pub fn faces(table: &[u8], a: i32, b: i32, m: u8) -> Answer
+    ensures { λ r. ⌜ r ≡ facesOf (now (table .entry)) a b m ⌝ }
+{
+    match found(table, a, b, m) {
+        Vertex::Refused(number) => refuse(number),
+        Vertex::Star(v) => faces_of(table, v, slots_of(table)),
+    }
+}
