@@ -65,7 +65,7 @@ pub fn read_number(t: &[u8], at: usize, most: u32, stop: u8) -> Number
         }
         i += 1;
     }
-    Number::NoNumber
+    Number::NoNumber // the file ends, and nothing ended the number
 }
 
 // A minus sign stands at a position.
