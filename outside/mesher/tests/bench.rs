@@ -288,3 +288,19 @@ fn the_nearer_opposite_where_both_are_there() {
     }
     assert!(both > 0);
 }
+
+/// Number 6: every edge of a level up to 12 has depth at most 6, so has its sum with a point of depth at most 6.
+#[test]
+fn number_6_cannot_come() {
+    for level in 0..=12u8 {
+        for toward in (0..12).filter(|e| e % 2 == level as i64 % 2) {
+            assert_eq!(mesher::spot::edge(toward, level).point().m, level.div_ceil(2));
+        }
+    }
+    for n in 0..12 {
+        for (a, b) in [(1, 0), (-1, 1), (728, 1), (251 * 729, -1)] {
+            let now = Record { a, b, m: 6, d: 6, k: (n + 1) % 2, n: n + 1 };
+            assert!(mesher::star::star(&now).iter().all(|c| c.adjacent.point().m <= 6));
+        }
+    }
+}
