@@ -60,7 +60,10 @@ impl Bench {
     }
 
     pub fn print(&self) {
-        println!("median of {} rounds\n  {:36} {:>11} {:>11} {:>6} {:>11} {:>6}", self.rounds, "", "library", "plain Rust", "ratio", "HashMap", "ratio");
+        println!(
+            "median of {} rounds\n  {:36} {:>11} {:>11} {:>6} {:>11} {:>6}",
+            self.rounds, "", "library", "plain Rust", "ratio", "HashMap", "ratio"
+        );
         self.lines.iter().for_each(|line| println!("{line}"));
     }
 }

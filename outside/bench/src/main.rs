@@ -35,9 +35,8 @@ fn main() {
 }
 
 fn stars(bench: &mut Bench) {
-    let list: Vec<[i32; 6]> = (0..10_000)
-        .map(|i| [i % 251, -(i % 97), i % 7, [3, 4, 5, 6][i as usize % 4], i % 2, i % 2 + 2 * (i % 6)])
-        .collect();
+    let list: Vec<[i32; 6]> =
+        (0..10_000).map(|i| [i % 251, -(i % 97), i % 7, [3, 4, 5, 6][i as usize % 4], i % 2, i % 2 + 2 * (i % 6)]).collect();
     let all = |star: &dyn Fn(i32, i32, u8, u8, u8, u8) -> i32| -> i32 {
         list.iter().map(|r| star(r[0], r[1], r[2] as u8, r[3] as u8, r[4] as u8, r[5] as u8)).fold(0, i32::wrapping_add)
     };
@@ -112,7 +111,9 @@ type Query = fn(&[u8], i32, i32, u8) -> (u8, [i32; 19]);
 
 fn queries(bench: &mut Bench, large: &[u8]) {
     let small = based_to(40, 64);
-    for (names, table) in [(["neighbours, 64 slots", "faces, 64 slots"], &small[..]), (["neighbours, 65,536 slots", "faces, 65,536 slots"], large)] {
+    for (names, table) in
+        [(["neighbours, 64 slots", "faces, 64 slots"], &small[..]), (["neighbours, 65,536 slots", "faces, 65,536 slots"], large)]
+    {
         let list: Vec<Point> = records(table).filter(|(_, s)| s.d != 0).map(|(p, _)| p).take(20).collect();
         let both: [(Query, Query); 2] = [(library::neighbours, plain::neighbours), (library::faces, plain::faces)];
         for (name, (by_library, by_plain)) in names.into_iter().zip(both) {
@@ -133,10 +134,8 @@ type Read = fn(&mut [u8], &mut [u8], &[u8]) -> (u8, u64);
 fn files(bench: &mut Bench, table: &[u8]) {
     let vertices = count(table);
     let mut out = vec![0; 26 * vertices];
-    let writers: [(&str, Write, Write); 2] = [
-        ("write_full", library::write_full, plain::write_full),
-        ("write_reduced", library::write_reduced, plain::write_reduced),
-    ];
+    let writers: [(&str, Write, Write); 2] =
+        [("write_full", library::write_full, plain::write_full), ("write_reduced", library::write_reduced, plain::write_reduced)];
     let readers: [(&str, Read, Read); 2] =
         [("read_full", library::read_full, plain::read_full), ("read_reduced", library::read_reduced, plain::read_reduced)];
     for ((name, by_library, by_plain), (reader, read_library, read_plain)) in writers.into_iter().zip(readers) {
@@ -176,7 +175,10 @@ fn census(bench: &mut Bench) {
 
 /// From about 500 to 50,000 vertices: the library's time per vertex at each size, in tables as full each time.
 fn growth(levels: &[(Vec<u8>, Vec<i32>)], rounds: usize) {
-    println!("\ngrowth: nanoseconds a vertex, tables three quarters full\n  {:>8} {:>14} {:>11} {:>12} {:>10} {:>13}", "vertices", "subdivide_all", "write_full", "write_reduced", "read_full", "read_reduced");
+    println!(
+        "\ngrowth: nanoseconds a vertex, tables three quarters full\n  {:>8} {:>14} {:>11} {:>12} {:>10} {:>13}",
+        "vertices", "subdivide_all", "write_full", "write_reduced", "read_full", "read_reduced"
+    );
     for step in levels.windows(2).filter(|step| count(&step[1].0) >= 400) {
         let vertices = count(&step[1].0);
         let (before, after) = (relaid(&step[0].0, vertices * 4 / 3), relaid(&step[1].0, vertices * 4 / 3));

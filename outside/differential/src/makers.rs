@@ -282,7 +282,11 @@ pub fn request(rng: &mut Rng, records: &[Record], degree_six: bool) -> ([i32; 2]
 /// A file of these records.
 pub fn file(records: &[Record], reduced: bool) -> String {
     let mesh = Mesh::of(records);
-    if reduced { lines::reduced(&mesh) } else { lines::full(&mesh) }
+    if reduced {
+        lines::reduced(&mesh)
+    } else {
+        lines::full(&mesh)
+    }
 }
 
 /// A file with a fault or two.
@@ -314,7 +318,7 @@ fn spoil_lines(rng: &mut Rng, lines: &mut Vec<String>) {
         5 => lines.insert(i, "\n".to_string()),
         6 => lines.push(rng.pick(&["\n", "\t\t\t\t\t\n", "0", "-", "251\t251\t6\t3\t0\t0\n"]).to_string()),
         7 => {
-            let fields = lines[i].trim_end().replace('\t', *rng.pick(&[" ", "\t\t", ",", "\t "]));
+            let fields = lines[i].trim_end().replace('\t', rng.pick(&[" ", "\t\t", ",", "\t "]));
             lines[i] = fields + "\n";
         }
         8 => lines[i] = lines[i].trim_end().to_string() + *rng.pick(&["\t\n", "\t0\n", "\r\n", "\0\n", " \n", "\u{b}\n"]),
@@ -377,7 +381,13 @@ pub fn scribble(rng: &mut Rng, most: usize) -> Vec<u8> {
     for _ in 0..rng.below(most) {
         match rng.below(6) {
             0 => bytes.extend(rng.pick(&["0\t0\t0\t3\t0\t0\n", "1\t0\t0\t6\t0\t0\n", "-1\t0\t0\t0\t0\t0\n", "1\t1\t1\t3\t3\t1\n"]).bytes()),
-            1 => bytes.extend(lines::line(&{ let p = small(rng); some_star(rng, p) }).bytes()),
+            1 => bytes.extend(
+                lines::line(&{
+                    let p = small(rng);
+                    some_star(rng, p)
+                })
+                .bytes(),
+            ),
             _ => bytes.push(*rng.pick(LIKELY)),
         }
     }

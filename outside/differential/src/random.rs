@@ -149,9 +149,7 @@ impl Cases {
 
     fn write(&mut self, reduced: bool) -> Case {
         let (table, _) = self.table();
-        let text = Slots::of(&table).map_or(0, |slots| {
-            file(&slots.records().copied().collect::<Vec<_>>(), reduced).len()
-        });
+        let text = Slots::of(&table).map_or(0, |slots| file(&slots.records().copied().collect::<Vec<_>>(), reduced).len());
         let rng = &mut self.rng;
         let len = match rng.below(6) {
             0 => text.saturating_sub(1),
@@ -160,7 +158,11 @@ impl Cases {
             _ => text + rng.below(40),
         };
         let out = self.garbage(len);
-        if reduced { Case::WriteReduced { table, out } } else { Case::WriteFull { table, out } }
+        if reduced {
+            Case::WriteReduced { table, out }
+        } else {
+            Case::WriteFull { table, out }
+        }
     }
 
     fn subdivide_all(&mut self) -> Case {

@@ -3,7 +3,7 @@
 //! FLASKBLOOM_SEED sets the seed (a number, or `now`), FLASKBLOOM_CASES the number of random cases.
 
 use crate::caller::{why, Caller, Mesher};
-use crate::case::{difference, Case};
+use crate::case::{difference, Case, Outcome};
 use crate::coverage::Coverage;
 use crate::makers::*;
 use crate::random::Cases;
@@ -79,11 +79,14 @@ pub fn fuzzed_readers(caller: &dyn Caller) {
         };
         let slots = 16 + rng.below(30);
         let (table, scratch) = (vec![7; slots * SLOT], vec![9; slots * SLOT]);
-        same(caller, &match rng.below(3) {
-            0 => Case::ReadFull { table, scratch, file: bytes },
-            1 => Case::ReadReduced { table, scratch, file: bytes },
-            _ => Case::Census { input: bytes, table, scratch, out: vec![1; 128] },
-        });
+        same(
+            caller,
+            &match rng.below(3) {
+                0 => Case::ReadFull { table, scratch, file: bytes },
+                1 => Case::ReadReduced { table, scratch, file: bytes },
+                _ => Case::Census { input: bytes, table, scratch, out: vec![1; 128] },
+            },
+        );
     }
 }
 
@@ -239,7 +242,7 @@ pub fn deep_meshes(caller: &dyn Caller) {
         }
         caller.base(&mut table, &flat(&centres));
         for _ in 0..120 {
-            let records: Vec<Record> = table.chunks(SLOT).filter(|s| *s != [255; SLOT]).map(mesher::slots::decode).collect();
+            let records = stored(&table);
             let deepest = records.iter().filter(|r| r.d == 6).max_by_key(|r| (r.n, r.m, r.a, r.b));
             let point = match deepest {
                 Some(r) if !rng.once_in(3) => ([r.a, r.b], r.m),
@@ -261,55 +264,119 @@ pub fn deep_meshes(caller: &dyn Caller) {
     }
 }
 
-/// Each call at the largest sizes, on a thread of 128 KiB of stack for the caller; compared with the mesher's answers.
+/// Meshes of thousands of vertices, grown by the calls at random, in tables of odd sizes; then queries, files, and one byte changed.
+pub fn large_meshes(caller: &dyn Caller) {
+    let mut rng = Rng::new(seed() ^ 0x1a);
+    for slots in [1_009, 4_096, 12_347, 30_000] {
+        let mut table = vec![0; slots * SLOT];
+        let centres = flat(&disc(1 + slots / 40));
+        assert_eq!(same(caller, &Case::Base { table: table.clone(), centres: centres.clone() }), 0);
+        caller.base(&mut table, &centres);
+        for _ in 0..8 {
+            let mut points = Vec::new();
+            for r in stored(&table).into_iter().filter(|r| r.d == 6 && r.n < 12) {
+                if rng.once_in(1 + 2 * slots / 4_096) {
+                    points.extend([r.a, r.b, r.m as i32]);
+                }
+            }
+            same(caller, &Case::SubdivideAll { table: table.clone(), points: points.clone() });
+            caller.subdivide_all(&mut table, &points);
+        }
+        let list = stored(&table);
+        for _ in 0..10 {
+            let v = *rng.pick(&list);
+            same(caller, &Case::Faces { table: table.clone(), point: ([v.a, v.b], v.m) });
+            same(caller, &Case::WriteFull { table: damaged(&mut rng, &table), out: vec![5; 26 * slots] });
+        }
+        let mut out = vec![5; 26 * slots];
+        same(caller, &Case::WriteFull { table: table.clone(), out: out.clone() });
+        same(caller, &Case::WriteReduced { table: table.clone(), out: out.clone() });
+        let (_, long) = caller.write_reduced(&table, &mut out);
+        out.truncate(long as usize);
+        let scratch = table.clone();
+        assert_eq!(same(caller, &Case::ReadReduced { table: table.clone(), scratch: scratch.clone(), file: out }), 0);
+        assert_eq!(same(caller, &Case::ReadFull { table, scratch, file: file(&list, false).into_bytes() }), 0);
+    }
+}
+
+/// The records of a table that is in order.
+fn stored(table: &[u8]) -> Vec<Record> {
+    table.chunks(SLOT).filter(|s| *s != [255; SLOT]).map(mesher::slots::decode).collect()
+}
+
+/// Tables where many records have the same few homes, about the end: long searches, across the end, into gaps.
+pub fn crowded_tables(caller: &dyn Caller) {
+    let mut rng = Rng::new(seed() ^ 0xc0);
+    for slots in [16, 61, 256, 1_000] {
+        let crowded = [slots - 2, slots - 1, 3];
+        let mut points: Vec<Point> = Vec::new();
+        for (a, b) in (-60..60).flat_map(|a| (-200..200).map(move |b| (a, b))) {
+            let p = Point::new(a, b, 0);
+            if crowded.contains(&mesher::slots::home(p, slots)) {
+                points.push(p);
+            }
+        }
+        rng.shuffle(&mut points);
+        for load in [slots / 2, slots - 7, slots - 1, slots] {
+            let mut list: Vec<Record> = Vec::new();
+            for p in points.iter().take(load) {
+                list.push(some_star(&mut rng, *p));
+            }
+            let table = laid(&mut rng, &list, slots);
+            for _ in 0..60 {
+                let absent = *rng.pick(&points[load.min(points.len() - 1)..]);
+                let present = rng.pick(&list).point();
+                for p in [absent, present] {
+                    same(caller, &Case::Neighbours { table: table.clone(), point: ([p.a, p.b], p.m) });
+                    same(caller, &Case::Subdivide { table: damaged(&mut rng, &table), point: ([p.a, p.b], p.m) });
+                }
+            }
+            same(caller, &Case::WriteReduced { table: table.clone(), out: vec![5; 26 * slots] });
+            let (lent, scratch) = (vec![5; slots * SLOT], vec![6; slots * SLOT]);
+            same(caller, &Case::ReadReduced { table: lent, scratch, file: file(&list, false).into_bytes() });
+        }
+    }
+}
+
+const STACK: usize = 128 * 1024;
+
+/// Puts a large case to the caller on a thread of 128 KiB of stack, and compares with the mesher's outcome.
+fn on_small_stack(caller: &dyn Caller, case: &Case) -> Outcome {
+    let got = std::thread::scope(|scope| {
+        let thread = std::thread::Builder::new().stack_size(STACK).spawn_scoped(scope, || case.run(caller));
+        thread.expect("a thread").join().expect("the call came back")
+    });
+    if let Some(how) = difference(&case.run(&Mesher), &got) {
+        panic!("the mesher and the other differ: {how}\n{}", case.call());
+    }
+    got
+}
+
+/// Each call at the largest sizes.
 pub fn small_stack(caller: &dyn Caller) {
-    const STACK: usize = 128 * 1024;
-    let hexagons = flat(&disc(20_000));
     let slots = 65_536;
     let blank = vec![0u8; slots * SLOT];
-    let on_small_stack = |case: &Case| {
-        let got = std::thread::scope(|scope| {
-            let thread = std::thread::Builder::new().stack_size(STACK).spawn_scoped(scope, || case.run(caller));
-            thread.expect("a thread").join().expect("the call came back")
-        });
-        let wanted = case.run(&Mesher);
-        if let Some(how) = difference(&wanted, &got) {
-            panic!("the mesher and the other differ: {how}\n{}", case.call());
-        }
-        got
-    };
-    let based = on_small_stack(&Case::Base { table: blank.clone(), centres: hexagons });
+    let run = |case: Case| on_small_stack(caller, &case);
+    let based = run(Case::Base { table: blank.clone(), centres: flat(&disc(20_000)) });
     assert_eq!(based.number, 0);
-    let table = based.lent[0].clone();
-    let sixes = |table: &[u8], most: usize| -> Vec<i32> {
-        let records = table.chunks(SLOT).filter(|s| *s != [255; SLOT]).map(mesher::slots::decode);
-        records.filter(|r| r.d == 6 && r.n == 0).take(most).flat_map(|r| [r.a, r.b, r.m as i32]).collect()
-    };
-    let grown = on_small_stack(&Case::SubdivideAll { table: table.clone(), points: sixes(&table, 20_000) });
-    let (grown_number, table) = (grown.number, grown.lent[0].clone());
-    assert!(grown_number == 0 || grown_number == 8);
-    let point = ([1, 0], 0);
-    on_small_stack(&Case::Subdivide { table: table.clone(), point });
-    on_small_stack(&Case::Neighbours { table: table.clone(), point });
-    on_small_stack(&Case::Faces { table: table.clone(), point });
-    let out = vec![0; 40 * slots];
-    let full = on_small_stack(&Case::WriteFull { table: table.clone(), out: out.clone() });
-    let reduced = on_small_stack(&Case::WriteReduced { table: table.clone(), out });
-    for (written, is_full) in [(full, true), (reduced, false)] {
-        let file = written.lent[1][..written.value[0] as usize].to_vec();
-        let (table, scratch) = (blank.clone(), blank.clone());
-        let read = on_small_stack(&match is_full {
-            true => Case::ReadFull { table, scratch, file },
-            false => Case::ReadReduced { table, scratch, file },
-        });
-        assert_eq!(read.number, 0);
-    }
-    on_small_stack(&Case::Star([1, 0], [6, 5, 11, 11]));
-    on_small_stack(&Case::Normalise([0, 0], 255));
+    let sixes = stored(&based.lent[0]).into_iter().filter(|r| r.d == 6).flat_map(|r| [r.a, r.b, r.m as i32]).collect();
+    let grown = run(Case::SubdivideAll { table: based.lent[0].clone(), points: sixes });
+    assert_eq!(grown.number, 8);
+    let (table, point, out) = (grown.lent[0].clone(), ([1, 0], 0), vec![0; 26 * slots]);
+    run(Case::Subdivide { table: table.clone(), point });
+    run(Case::Neighbours { table: table.clone(), point });
+    run(Case::Faces { table: table.clone(), point });
+    let full = run(Case::WriteFull { table: table.clone(), out: out.clone() });
+    let reduced = run(Case::WriteReduced { table, out });
+    let text = |written: Outcome| written.lent[1][..written.value[0] as usize].to_vec();
+    assert_eq!(run(Case::ReadFull { table: blank.clone(), scratch: blank.clone(), file: text(full) }).number, 0);
+    assert_eq!(run(Case::ReadReduced { table: blank.clone(), scratch: blank, file: text(reduced) }).number, 0);
+    run(Case::Star([1, 0], [6, 5, 11, 11]));
+    run(Case::Normalise([0, 0], 255));
     let sheets = (1..).map(|tens| file(&base_records(&disc(10 * tens)), false).into_bytes());
     let input = sheets.take_while(|text| text.len() <= 65_536).last().expect("a sheet that fits");
-    let census = on_small_stack(&Case::Census { input, table: vec![0; 5461 * SLOT], scratch: vec![0; 5461 * SLOT], out: vec![0; 128] });
-    assert_eq!(census.number, 0);
+    let lent = vec![0; 5461 * SLOT];
+    assert_eq!(run(Case::Census { input, table: lent.clone(), scratch: lent, out: vec![0; 128] }).number, 0);
 }
 
 /// Test functions of the whole suite for a caller.
@@ -322,6 +389,7 @@ macro_rules! suite {
         })+
     };
     ($caller:expr) => {
-        $crate::suite!($caller; random_cases, fuzzed_readers, all_stars, single_edits, single_bytes, every_length, deep_meshes, small_stack);
+        $crate::suite!($caller; random_cases, fuzzed_readers, all_stars, single_edits, single_bytes, every_length);
+        $crate::suite!($caller; deep_meshes, large_meshes, crowded_tables, small_stack);
     };
 }

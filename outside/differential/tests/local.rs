@@ -15,7 +15,12 @@ const MESHES: usize = 60_000;
 /// The mesh turned by 60 degrees; by 120 degrees it would be a grown one again.
 fn turned(list: &[Record], times: usize) -> Vec<Record> {
     let turn = |r: &Record| {
-        let orientations = match r.d { 0 => 1, 3 => 4, 6 => 2, _ => 12 };
+        let orientations = match r.d {
+            0 => 1,
+            3 => 4,
+            6 => 2,
+            _ => 12,
+        };
         Record { a: -r.b, b: r.a + r.b, k: (r.k + 2) % orientations, ..*r }
     };
     (0..times).fold(list.to_vec(), |list, _| list.iter().map(turn).collect())
@@ -30,7 +35,12 @@ fn shifted(list: &[Record], (x, y): (i32, i32)) -> Vec<Record> {
 fn shrunk(list: &[Record]) -> Vec<Record> {
     let shrink = |r: &Record| {
         let p = Point::new(r.a - r.b, r.a + 2 * r.b, r.m + 1).normalised();
-        let orientations = match r.d { 0 => 1, 3 => 4, 6 => 2, _ => 12 };
+        let orientations = match r.d {
+            0 => 1,
+            3 => 4,
+            6 => 2,
+            _ => 12,
+        };
         Record::at(p, r.d, (r.k + 1) % orientations, if r.d == 0 { 0 } else { r.n + 1 })
     };
     list.iter().map(shrink).collect()

@@ -68,18 +68,7 @@ pub fn read_reduced(table: &mut [u8], scratch: &mut [u8], file: &[u8]) -> (u8, u
 pub fn census(input: &[u8], table: &mut [u8], scratch: &mut [u8], out: &mut [u8]) -> (u8, u64) {
     let mut written = UNSET;
     let (t, s) = (table.as_mut_ptr(), scratch.as_mut_ptr());
-    let number = unsafe {
-        raw::fb_census(
-            input.as_ptr(),
-            input.len(),
-            t,
-            table.len(),
-            s,
-            scratch.len(),
-            out.as_mut_ptr(),
-            out.len(),
-            &mut written,
-        )
-    };
+    let number =
+        unsafe { raw::fb_census(input.as_ptr(), input.len(), t, table.len(), s, scratch.len(), out.as_mut_ptr(), out.len(), &mut written) };
     (number, written)
 }

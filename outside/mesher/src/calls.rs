@@ -262,7 +262,7 @@ fn read_lines(file: &[u8], slots: &mut Slots) -> Result<Vec<Record>, Stopped> {
             return Err(Stopped(9, "a line without its line feed", line));
         }
         let before = in_file.last().map(|p| (p.m as i64, p.a as i64, p.b as i64));
-        let above = before.map_or(true, |before| before < (values[2], values[0], values[1]));
+        let above = before.is_none_or(|before| before < (values[2], values[0], values[1]));
         if made(Slip::OrderBeforeForm) && !above {
             return Err(Stopped(10, "not above the line before", line));
         }
@@ -291,8 +291,8 @@ fn restore(in_file: &[Record], slots: &mut Slots) -> Result<(), Stopped> {
             }
             let n = if made(Slip::RestoredAbove) { v.n + 1 } else { v.n };
             let restored = Record::at(p, 3, (6 + 2 * j as u8 + v.k) % 4, n);
-            let full = slots.free() == 0;
-            if !restored.is_valid() && !(full && made(Slip::RoomBeforeRange)) {
+            let unseen = made(Slip::RoomBeforeRange) && slots.free() == 0;
+            if !restored.is_valid() && !unseen {
                 return Err(Stopped(11, "a restored record isn't valid", 0));
             }
             if !slots.enter(restored) {

@@ -59,10 +59,8 @@ pub fn base(centres: &[(i32, i32)]) -> Vec<Record> {
 /// "A corner is internal when all three hexagons round it are listed": those of its unit neighbours that can be centres.
 fn corner_record(corner: Spot, listed: &HashSet<Spot>) -> Record {
     let p = corner.point();
-    let hexagons: Vec<Spot> = (0..6)
-        .map(|turn| corner + edge(2 * turn, 0))
-        .filter(|c| (c.point().a - c.point().b).rem_euclid(3) == 0)
-        .collect();
+    let hexagons: Vec<Spot> =
+        (0..6).map(|turn| corner + edge(2 * turn, 0)).filter(|c| (c.point().a - c.point().b).rem_euclid(3) == 0).collect();
     assert_eq!(hexagons.len(), 3);
     let around = hexagons.iter().filter(|c| listed.contains(c)).count();
     let internal = around == 3 || around == 2 && made(Slip::TwoHexagonsSuffice);

@@ -82,8 +82,7 @@ fn tables_4_and_5_sizes_and_degrees() {
 /// that have two digits depend on the order of subdivisions, and are alike in both columns.
 #[test]
 fn table_6_file_sizes() {
-    let sizes =
-        [(2751, 1460), (6466, 2767), (15321, 6461), (38528, 15330), (99571, 38495), (284920, 99636), (812611, 284881)];
+    let sizes = [(2751, 1460), (6466, 2767), (15321, 6461), (38528, 15330), (99571, 38495), (284920, 99636), (812611, 284881)];
     for (level, (csv, csv_reduced)) in sizes.into_iter().enumerate() {
         let table = uniform(65_536, level as u8);
         let (full, reduced) = (full_text(&table).len(), reduced_text(&table).len());

@@ -253,8 +253,19 @@ fn r36_stars_begin_at_their_orientation() {
 
 #[test]
 fn r37_bytes_of_a_file() {
-    for bad in ["0\t0\t0\t3\t0\t0\r\n", "0\t0\t0\t3\t0\t0\0\n", "0 0\t0\t3\t0\t0\n", "+0\t0\t0\t3\t0\t0\n", "0\t0\t0\t3\t0\t0\t\n",
-                "-0\t0\t0\t3\t0\t0\n", "00\t0\t0\t3\t0\t0\n", "0\t0\t0\t3\t0\n", "\t0\t0\t3\t0\t0\n", "-\t0\t0\t3\t0\t0\n", "0\t0\t0\t3\t0\t\u{e9}\n"] {
+    for bad in [
+        "0\t0\t0\t3\t0\t0\r\n",
+        "0\t0\t0\t3\t0\t0\0\n",
+        "0 0\t0\t3\t0\t0\n",
+        "+0\t0\t0\t3\t0\t0\n",
+        "0\t0\t0\t3\t0\t0\t\n",
+        "-0\t0\t0\t3\t0\t0\n",
+        "00\t0\t0\t3\t0\t0\n",
+        "0\t0\t0\t3\t0\n",
+        "\t0\t0\t3\t0\t0\n",
+        "-\t0\t0\t3\t0\t0\n",
+        "0\t0\t0\t3\t0\t\u{e9}\n",
+    ] {
         let (mut table, mut scratch) = (vec![1; 192], vec![2; 192]);
         let answer = read_full(&mut table, &mut scratch, bad.as_bytes());
         assert_eq!((answer.number, answer.value), (9, 1), "{bad:?}");

@@ -50,7 +50,13 @@ fn format(p: Point, s: Star, line: &mut [u8; 40]) -> usize {
 fn write(keys: &mut [u64], out: &mut [u8]) -> (u8, u64) {
     keys.sort_unstable();
     let mut line = [0; 40];
-    let total: usize = keys.iter().map(|key| { let (p, s) = unpack(*key); format(p, s, &mut line) }).sum();
+    let total: usize = keys
+        .iter()
+        .map(|key| {
+            let (p, s) = unpack(*key);
+            format(p, s, &mut line)
+        })
+        .sum();
     if total > out.len() {
         return (13, 0);
     }
