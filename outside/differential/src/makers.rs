@@ -318,7 +318,7 @@ fn spoil_lines(rng: &mut Rng, lines: &mut Vec<String>) {
         5 => lines.insert(i, "\n".to_string()),
         6 => lines.push(rng.pick(&["\n", "\t\t\t\t\t\n", "0", "-", "251\t251\t6\t3\t0\t0\n"]).to_string()),
         7 => {
-            let fields = lines[i].trim_end().replace('\t', rng.pick(&[" ", "\t\t", ",", "\t "]));
+            let fields = lines[i].trim_end().replace('\t', *rng.pick(&[" ", "\t\t", ",", "\t "]));
             lines[i] = fields + "\n";
         }
         8 => lines[i] = lines[i].trim_end().to_string() + *rng.pick(&["\t\n", "\t0\n", "\r\n", "\0\n", " \n", "\u{b}\n"]),
