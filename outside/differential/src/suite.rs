@@ -145,6 +145,21 @@ pub fn single_edits(caller: &dyn Caller) {
     assert!(grown_after > 0);
 }
 
+/// Meshes that are nearly grown, as files: number 11 where only the whole tells.
+pub fn nearly_grown_files(caller: &dyn Caller) {
+    let mut rng = Rng::new(seed() ^ 0x11a);
+    let mut accepted = 0;
+    for _ in 0..1_000 {
+        let most = *rng.pick(&[16, 30, 60, 100]);
+        let mesh = grown(&mut rng, most);
+        for _ in 0..10 {
+            let list = nearly_grown(&mut rng, &mesh);
+            accepted += readers(caller, &list);
+        }
+    }
+    assert!(accepted > 1_000);
+}
+
 /// Every valid record at a point.
 fn every_star(p: Point) -> Vec<Record> {
     let mut all = Vec::new();
@@ -390,6 +405,6 @@ macro_rules! suite {
     };
     ($caller:expr) => {
         $crate::suite!($caller; random_cases, fuzzed_readers, all_stars, single_edits, single_bytes, every_length);
-        $crate::suite!($caller; deep_meshes, large_meshes, crowded_tables, small_stack);
+        $crate::suite!($caller; nearly_grown_files, deep_meshes, large_meshes, crowded_tables, small_stack);
     };
 }
