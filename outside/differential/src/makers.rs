@@ -192,6 +192,12 @@ pub fn half_made(rng: &mut Rng, list: &[Record]) -> Vec<Record> {
         None => out.push(r),
     };
     match mesh.subdivision(&v) {
+        // new vertices alone, as if their creator had been subdivided
+        Ok(made) if rng.once_in(3) => {
+            for r in made.entered.into_iter().skip(rng.below(6)).take(1 + rng.below(6)) {
+                put(r, &mut out);
+            }
+        }
         Ok(made) if rng.once_in(2) => {
             let left_out = rng.below(13);
             for (i, r) in made.changed.into_iter().chain(made.entered).enumerate() {
