@@ -57,36 +57,20 @@ impl Library {
 
     /// The most stack that was in use so far.
     pub fn stack_used(&self) -> u64 {
-        self.ask(Call::StackUsed, ([0, 0], [0; 4]), &mut [], &[]).value
+        self.ask(Call::StackUsed, NO_FIELDS, &mut [], &[]).value
     }
 
-    /// One call: the mutable buffers come first where `first` of the constant ones does not, and get back what they then hold.
-    fn ask(&self, call: Call, (p, fields): ([i32; 2], [u8; 4]), lent: &mut [&mut [u8]], constant: &[&[u8]]) -> Answer {
-        let order = Order::of(call, lent.len(), constant.len());
-        let mut request = Vec::new();
-        request.extend((call as u32).to_le_bytes());
-        request.extend(p.iter().flat_map(|v| v.to_le_bytes()));
-        request.extend(fields);
-        let buffer = |i: usize| -> &[u8] {
-            match order.0.get(i) {
-                Some(Which::Lent(j)) => lent[*j],
-                Some(Which::Constant(j)) => constant[*j],
-                None => &[],
-            }
-        };
-        for i in 0..4 {
-            request.extend((buffer(i).len() as u64).to_le_bytes());
-        }
-        for i in 0..4 {
-            request.extend(buffer(i));
-        }
+    /// One call; the lent buffers get back what they then hold, and the constant ones must be as they were.
+    fn ask(&self, call: Call, fields: Fields, lent: &mut [&mut [u8]], constant: &[&[u8]]) -> Answer {
+        let order = order(call, lent.len(), constant.len());
+        let request = request(call, fields, &order, lent, constant);
         let mut pipe = self.0.lock().unwrap_or_else(|broken| broken.into_inner());
         let sent = pipe.to.as_mut().expect("open until dropped").write_all(&request);
         let mut head = [0; 88];
         if sent.and_then(|_| pipe.from.read_exact(&mut head)).is_err() {
             panic!("the bridge ended in a call: {:?}", pipe.child.wait());
         }
-        for which in &order.0 {
+        for which in &order {
             match which {
                 Which::Lent(j) => pipe.from.read_exact(lent[*j]).expect("a lent buffer"),
                 Which::Constant(j) => {
@@ -96,15 +80,28 @@ impl Library {
                 }
             }
         }
-        let word = |at: usize| i32::from_le_bytes(head[at..at + 4].try_into().expect("four bytes"));
-        let mut points = [0; 19];
-        for (i, point) in points.iter_mut().enumerate() {
-            *point = word(4 + 4 * i);
-        }
-        let value = u64::from_le_bytes(head[80..].try_into().expect("eight bytes"));
-        let number = u8::try_from(word(0)).expect("a byte outside of what was lent has changed");
-        Answer { number, points, value }
+        Answer::of(&head)
     }
+}
+
+/// The bytes of a request: bridge.c's struct, and the buffers in their order.
+fn request(call: Call, (p, fields): Fields, order: &[Which], lent: &[&mut [u8]], constant: &[&[u8]]) -> Vec<u8> {
+    let buffers: Vec<&[u8]> = order
+        .iter()
+        .map(|which| match which {
+            Which::Lent(j) => &*lent[*j],
+            Which::Constant(j) => constant[*j],
+        })
+        .collect();
+    let mut request = Vec::new();
+    request.extend((call as u32).to_le_bytes());
+    request.extend(p.iter().flat_map(|v| v.to_le_bytes()));
+    request.extend(fields);
+    for i in 0..4 {
+        request.extend((buffers.get(i).map_or(0, |b| b.len()) as u64).to_le_bytes());
+    }
+    request.extend(buffers.concat());
+    request
 }
 
 impl Drop for Library {
@@ -121,29 +118,35 @@ enum Which {
     Constant(usize),
 }
 
-/// Which buffer stands where in a request.
-struct Order(Vec<Which>);
-
-impl Order {
-    fn of(call: Call, lent: usize, constant: usize) -> Order {
-        let (lent, mut constant) = ((0..lent).map(Which::Lent), (0..constant).map(Which::Constant));
-        let table_or_input_first = matches!(call, Call::WriteFull | Call::WriteReduced | Call::Census);
-        let first = if table_or_input_first { constant.next() } else { None };
-        Order(first.into_iter().chain(lent).chain(constant).collect())
-    }
+/// Which buffer stands where in a request: in the order of the C call's parameters.
+fn order(call: Call, lent: usize, constant: usize) -> Vec<Which> {
+    let (lent, mut constant) = ((0..lent).map(Which::Lent), (0..constant).map(Which::Constant));
+    let constant_first = matches!(call, Call::WriteFull | Call::WriteReduced | Call::Census);
+    let first = if constant_first { constant.next() } else { None };
+    first.into_iter().chain(lent).chain(constant).collect()
 }
 
 fn numbers(list: &[i32]) -> Vec<u8> {
     list.iter().flat_map(|v| v.to_le_bytes()).collect()
 }
 
-const NO_FIELDS: ([i32; 2], [u8; 4]) = ([0, 0], [0; 4]);
+/// a, b; m, d, k, n.
+type Fields = ([i32; 2], [u8; 4]);
+const NO_FIELDS: Fields = ([0, 0], [0; 4]);
 
-fn at(a: i32, b: i32, m: u8) -> ([i32; 2], [u8; 4]) {
+fn at(a: i32, b: i32, m: u8) -> Fields {
     ([a, b], [m, 0, 0, 0])
 }
 
 impl Answer {
+    /// bridge.c's struct.
+    fn of(head: &[u8; 88]) -> Answer {
+        let word = |at: usize| i32::from_le_bytes(head[at..at + 4].try_into().expect("four bytes"));
+        let number = u8::try_from(word(0)).expect("a byte outside of what was lent has changed");
+        let value = u64::from_le_bytes(head[80..].try_into().expect("eight bytes"));
+        Answer { number, points: std::array::from_fn(|i| word(4 + 4 * i)), value }
+    }
+
     fn value(self) -> (u8, u64) {
         (self.number, self.value)
     }

@@ -77,52 +77,45 @@ impl Coverage {
 
 /// Every call with every number and reason that it can give.
 pub fn expected() -> Vec<Key> {
-    let mut keys: Vec<Key> = Vec::new();
-    let mut add = |call: &'static str, number: u8, whys: &[&'static str]| keys.extend(whys.iter().map(|why| (call, number, *why)));
-    for call in ["normalise", "star", "base", "subdivide", "subdivide_all", "neighbours", "faces"] {
-        add(call, 0, &["done"]);
-    }
-    for call in ["write_full", "write_reduced", "read_full", "read_reduced", "census"] {
-        add(call, 0, &["done"]);
-    }
-    add("star", 9, &FAULTS);
-    add("star", 14, &["degree 0"]);
-    add("base", 1, &["length doesn't fit"]);
-    add("base", 2, &["list empty or of odd length", "centre out of range", "centre of the wrong remainder", "centre repeated"]);
-    add("base", 8, &["fewer slots than points"]);
-    for call in ["subdivide", "subdivide_all", "neighbours", "faces", "write_full", "write_reduced"] {
-        add(call, 1, &FAULTS);
-        add(call, 1, &NOT_IN_ORDER);
-    }
-    for call in ["subdivide", "subdivide_all", "neighbours", "faces"] {
-        add(call, 3, &["no record at the point"]);
-    }
-    for call in ["subdivide", "subdivide_all"] {
-        add(call, 4, &["degree isn't 6"]);
-        add(call, 5, &["level is 12"]);
-        add(call, 7, &TORN);
-        add(call, 8, &["fewer than six free slots"]);
-    }
-    add("subdivide_all", 3, &["no such depth"]);
-    for call in ["neighbours", "faces"] {
-        add(call, 14, &["degree 0"]);
-        add(call, 7, &["an adjacent is absent"]);
-    }
-    add("faces", 7, &["a corner with no opposite"]);
-    for call in ["write_full", "write_reduced", "census"] {
-        add(call, 13, &["output shorter than the file"]);
-    }
-    for call in ["read_full", "read_reduced", "census"] {
-        add(call, 1, &["length doesn't fit", "scratch of another length"]);
-        add(call, 9, &FAULTS);
-        add(call, 9, &MALFORMED);
-        add(call, 10, &["not above the line before"]);
-        add(call, 8, &["no slot for a line"]);
-        add(call, 11, &["not a grown mesh"]);
-    }
-    add("read_reduced", 8, &["no slot for a restored record"]);
-    add("read_reduced", 11, &["a restored record isn't valid"]);
-    add("read_reduced", 12, &["a redundant record was kept"]);
-    add("census", 8, &["input over 65,536 bytes"]);
-    keys
+    let keys = |calls: &[&'static str], number: u8, whys: &[&'static str]| -> Vec<Key> {
+        calls.iter().flat_map(|call| whys.iter().map(move |why| (*call, number, *why))).collect()
+    };
+    let subdividing = ["subdivide", "subdivide_all"];
+    let queries = ["neighbours", "faces"];
+    let writers = ["write_full", "write_reduced"];
+    let readers = ["read_full", "read_reduced", "census"];
+    let of_a_table = [subdividing, queries, writers].concat();
+    let of_a_point = [subdividing, queries].concat();
+    let all = [&["normalise", "star", "base"][..], &of_a_table, &readers].concat();
+    let not_in_order = [&FAULTS[..], &NOT_IN_ORDER].concat();
+    let bad_lines = [&FAULTS[..], &MALFORMED].concat();
+    let bad_lists = ["list empty or of odd length", "centre out of range", "centre of the wrong remainder", "centre repeated"];
+    [
+        keys(&all, 0, &["done"]),
+        keys(&["star"], 9, &FAULTS),
+        keys(&["star", "neighbours", "faces"], 14, &["degree 0"]),
+        keys(&["base"], 1, &["length doesn't fit"]),
+        keys(&["base"], 2, &bad_lists),
+        keys(&["base"], 8, &["fewer slots than points"]),
+        keys(&of_a_table, 1, &not_in_order),
+        keys(&of_a_point, 3, &["no record at the point"]),
+        keys(&["subdivide_all"], 3, &["no such depth"]),
+        keys(&subdividing, 4, &["degree isn't 6"]),
+        keys(&subdividing, 5, &["level is 12"]),
+        keys(&subdividing, 7, &TORN),
+        keys(&subdividing, 8, &["fewer than six free slots"]),
+        keys(&queries, 7, &["an adjacent is absent"]),
+        keys(&["faces"], 7, &["a corner with no opposite"]),
+        keys(&["write_full", "write_reduced", "census"], 13, &["output shorter than the file"]),
+        keys(&readers, 1, &["length doesn't fit", "scratch of another length"]),
+        keys(&readers, 9, &bad_lines),
+        keys(&readers, 10, &["not above the line before"]),
+        keys(&readers, 8, &["no slot for a line"]),
+        keys(&readers, 11, &["not a grown mesh"]),
+        keys(&["read_reduced"], 8, &["no slot for a restored record"]),
+        keys(&["read_reduced"], 11, &["a restored record isn't valid"]),
+        keys(&["read_reduced"], 12, &["a redundant record was kept"]),
+        keys(&["census"], 8, &["input over 65,536 bytes"]),
+    ]
+    .concat()
 }

@@ -1,7 +1,7 @@
 //! Base, subdivision and queries. Subdivision is written over a `Store`, so that the same code runs on the flat table and on a HashMap.
 
 use crate::lattice::{in_range, put_point, reduce, rows, sum, Point, Star};
-use crate::table::{at, enter, find, fits, in_order, store, SLOT};
+use crate::table::{at, enter, find, fits, in_order, probe, store, Probe, SLOT};
 use crate::Points;
 use std::collections::HashMap;
 
@@ -64,43 +64,56 @@ fn place(a: i32, b: i32) -> usize {
 
 const UNITS: [(i32, i32); 6] = [(1, 0), (0, 1), (-1, 1), (-1, 0), (0, -1), (1, -1)];
 
+fn inside(a: i32, b: i32) -> bool {
+    (-250..=250).contains(&a) && (-250..=250).contains(&b)
+}
+
+/// Which centres are listed; or the place of the first bad one.
+fn judged(centres: &[i32]) -> Result<Vec<bool>, u64> {
+    if centres.is_empty() || centres.len() % 2 == 1 {
+        return Err(0);
+    }
+    let mut listed = vec![false; SIDE * SIDE];
+    for (i, c) in centres.chunks_exact(2).enumerate() {
+        let (a, b) = (c[0], c[1]);
+        if !inside(a, b) || (a - b) % 3 != 0 || std::mem::replace(&mut listed[place(a, b)], true) {
+            return Err(i as u64);
+        }
+    }
+    Ok(listed)
+}
+
+fn corner(listed: &[bool], a: i32, b: i32) -> Star {
+    let apart = (a - b).rem_euclid(3);
+    let hexagons = UNITS.iter().skip((apart == 1) as usize).step_by(2);
+    let internal = hexagons.map(|(x, y)| (a + x, b + y)).all(|(a, b)| inside(a, b) && listed[place(a, b)]);
+    match (internal, apart) {
+        (false, _) => Star { d: 0, k: 0, n: 0 },
+        (true, 1) => Star { d: 6, k: 0, n: 0 },
+        (true, _) => Star { d: 3, k: 2, n: 0 },
+    }
+}
+
 pub fn base(table: &mut [u8], centres: &[i32]) -> (u8, u64) {
     if !fits(table.len()) {
         return (1, 0);
     }
     table.fill(255);
-    if centres.is_empty() || centres.len() % 2 == 1 {
-        return (2, 0);
-    }
-    let mut listed = vec![false; SIDE * SIDE];
-    for (i, c) in centres.chunks_exact(2).enumerate() {
-        let (a, b) = (c[0], c[1]);
-        let inside = (-250..=250).contains(&a) && (-250..=250).contains(&b);
-        if !inside || (a - b) % 3 != 0 || std::mem::replace(&mut listed[place(a, b)], true) {
-            return (2, i as u64);
-        }
-    }
-    let is_listed = |a: i32, b: i32| (-250..=250).contains(&a) && (-250..=250).contains(&b) && listed[place(a, b)];
-    let internal = |a: i32, b: i32| {
-        let odd = if (a - b).rem_euclid(3) == 1 { 1 } else { 0 };
-        (0..3).all(|t| is_listed(a + UNITS[2 * t + odd].0, b + UNITS[2 * t + odd].1))
+    let listed = match judged(centres) {
+        Ok(listed) => listed,
+        Err(place) => return (2, place),
     };
     for c in centres.chunks_exact(2) {
         let centre = (c[0], c[1], Star { d: 3, k: 0, n: 0 });
-        let corners = UNITS.iter().map(|(x, y)| {
-            let (a, b) = (c[0] + x, c[1] + y);
-            let (d, k) = match (internal(a, b), (a - b).rem_euclid(3)) {
-                (false, _) => (0, 0),
-                (true, 1) => (6, 0),
-                (true, _) => (3, 2),
-            };
-            (a, b, Star { d, k, n: 0 })
-        });
+        let corners = UNITS.iter().map(|(x, y)| (c[0] + x, c[1] + y)).map(|(a, b)| (a, b, corner(&listed, a, b)));
         for (a, b, s) in std::iter::once(centre).chain(corners) {
-            let p = Point { a, b, m: 0 };
-            if find(table, p).is_none() && !enter(table, p, s) {
-                table.fill(255);
-                return (8, 0);
+            match probe(table, Point { a, b, m: 0 }) {
+                Probe::Found(..) => {}
+                Probe::Free(slot) => store(table, slot, Point { a, b, m: 0 }, s),
+                Probe::Full => {
+                    table.fill(255);
+                    return (8, 0);
+                }
             }
         }
     }
@@ -129,19 +142,7 @@ pub fn subdivide_in<S: Store>(store: &mut S, p: Point) -> u8 {
             return 6;
         }
     }
-    let mut changes = [None; 6];
-    for (j, row) in rows(v).iter().enumerate() {
-        let q = sum(p, row.adjacent, v.n);
-        let Some((slot, u)) = store.find(q) else { return 7 };
-        if u.d == 0 {
-            continue;
-        }
-        let back = (6 + 2 * j as u8 + v.k) % 12;
-        match updated(u, back, v.n) {
-            Some(s) => changes[j] = Some((slot, q, s)),
-            None => return 7,
-        }
-    }
+    let Some(changes) = changes(store, p, v) else { return 7 };
     if fresh.iter().any(|f| store.find(*f).is_some()) {
         return 7;
     }
@@ -156,6 +157,22 @@ pub fn subdivide_in<S: Store>(store: &mut S, p: Point) -> u8 {
         store.enter(f, Star { d: 3, k: (6 + 2 * j as u8 + now.k) % 4, n: now.n });
     }
     0
+}
+
+type Changes<At> = [Option<(At, Point, Star)>; 6];
+
+/// What becomes of the old adjacents of v; nothing where the mesh is torn.
+#[inline]
+fn changes<S: Store>(store: &S, p: Point, v: Star) -> Option<Changes<S::At>> {
+    let mut changes = [None; 6];
+    for (j, row) in rows(v).iter().enumerate() {
+        let q = sum(p, row.adjacent, v.n);
+        let (at, u) = store.find(q)?;
+        if u.d != 0 {
+            changes[j] = Some((at, q, updated(u, (6 + 2 * j as u8 + v.k) % 12, v.n)?));
+        }
+    }
+    Some(changes)
 }
 
 #[inline]
