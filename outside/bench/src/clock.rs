@@ -1,0 +1,69 @@
+//! Timing by turns: the library, plain Rust and, where there is one, a third; the median of the rounds.
+
+use std::time::{Duration, Instant};
+
+pub struct Task {
+    pub name: &'static str,
+    pub unit: &'static str,
+    pub units: usize,
+}
+
+pub struct Bench {
+    rounds: usize,
+    lines: Vec<String>,
+}
+
+pub type Timed<'a> = &'a mut dyn FnMut() -> Duration;
+
+pub fn time<T>(f: impl FnOnce() -> T) -> Duration {
+    let start = Instant::now();
+    std::hint::black_box(f());
+    start.elapsed()
+}
+
+fn middle(mut times: Vec<Duration>) -> Duration {
+    times.sort_unstable();
+    times[times.len() / 2]
+}
+
+pub fn median(rounds: usize, task: Timed) -> Duration {
+    middle((0..rounds).map(|_| task()).collect())
+}
+
+impl Bench {
+    pub fn new(rounds: usize) -> Bench {
+        Bench { rounds, lines: Vec::new() }
+    }
+
+    pub fn run(&mut self, task: Task, library: Timed, plain: Timed, third: Option<Timed>) {
+        let mut times = [Vec::new(), Vec::new(), Vec::new()];
+        let mut third = third;
+        for _ in 0..self.rounds {
+            times[0].push(library());
+            times[1].push(plain());
+            if let Some(third) = third.as_mut() {
+                times[2].push(third());
+            }
+        }
+        let [library, plain, third] = times;
+        let per_unit = |times: Vec<Duration>| middle(times).as_nanos() as f64 / task.units as f64;
+        let has_third = !third.is_empty();
+        let (library, plain) = (per_unit(library), per_unit(plain));
+        let mut line = format!("  {:36} {library:>11.1} {plain:>11.1} {:>6.2}", task.name, library / plain);
+        if has_third {
+            let third = per_unit(third);
+            line += &format!(" {third:>11.1} {:>6.2}", library / third);
+        } else {
+            line += &" ".repeat(19);
+        }
+        self.lines.push(line + &format!("   ns a {}", task.unit));
+    }
+
+    pub fn print(&self) {
+        println!(
+            "median of {} rounds\n  {:36} {:>11} {:>11} {:>6} {:>11} {:>6}",
+            self.rounds, "", "library", "plain Rust", "ratio", "HashMap", "ratio"
+        );
+        self.lines.iter().for_each(|line| println!("{line}"));
+    }
+}

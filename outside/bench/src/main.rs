@@ -1,0 +1,214 @@
+//! The library beside plain Rust, each task timed by turns in one run; the median of several rounds, per unit, and the ratio.
+//!
+//! usage: bench [ROUNDS]. `sheets` makes the meshes; `clock` times and prints. The plain Rust is the crate `plain`: the same flat table,
+//! a constant table of stars, sort_unstable, the local check; for subdivision also the same algorithm on std's HashMap.
+
+mod clock;
+mod sheets;
+
+use clock::{Bench, Task};
+use flaskbloom::slices as library;
+use plain::lattice::{Point, Star};
+use plain::mesh::{records, subdivide_in};
+use plain::table::{in_order, SLOT};
+use sheets::*;
+use std::collections::HashMap;
+use std::hint::black_box;
+
+const MOST: usize = 65_536;
+
+fn main() {
+    let rounds = std::env::args().nth(1).map_or(9, |word| word.parse().expect("a number of rounds"));
+    let mut bench = Bench::new(rounds);
+    stars(&mut bench);
+    order(&mut bench);
+    base(&mut bench);
+    let levels = levels();
+    let (table, _) = levels.last().expect("six levels");
+    subdivision(&mut bench, &levels);
+    queries(&mut bench, table);
+    files(&mut bench, table);
+    census(&mut bench);
+    bench.print();
+    growth(&levels, rounds);
+    sizes(table);
+}
+
+fn stars(bench: &mut Bench) {
+    let list: Vec<[i32; 6]> =
+        (0..10_000).map(|i| [i % 251, -(i % 97), i % 7, [3, 4, 5, 6][i as usize % 4], i % 2, i % 2 + 2 * (i % 6)]).collect();
+    let all = |star: &dyn Fn(i32, i32, u8, u8, u8, u8) -> i32| -> i32 {
+        list.iter().map(|r| star(r[0], r[1], r[2] as u8, r[3] as u8, r[4] as u8, r[5] as u8)).fold(0, i32::wrapping_add)
+    };
+    let by_library = |a, b, m, d, k, n| library::star(a, b, m, d, k, n).1[1];
+    let by_plain = |a, b, m, d, k, n| plain::star(a, b, m, d, k, n).1[1];
+    assert_eq!(all(&by_library), all(&by_plain));
+    let task = Task { name: "star call", unit: "star", units: list.len() };
+    bench.run(task, &mut || clock::time(|| black_box(all(&by_library))), &mut || clock::time(|| black_box(all(&by_plain))), None);
+}
+
+/// A query of an absent point ends right after the test of the table.
+fn order(bench: &mut Bench) {
+    for (name, load) in [("in-order test, load 0.5", 0.5), ("in-order test, load 0.9", 0.9)] {
+        let table = based_to((MOST as f64 * load) as usize, MOST);
+        assert_eq!(library::neighbours(&table, 250, 250, 5).0, 3);
+        let task = Task { name, unit: "slot", units: MOST };
+        bench.run(
+            task,
+            &mut || clock::time(|| black_box(library::neighbours(&table, 250, 250, 5))),
+            &mut || clock::time(|| black_box(in_order(&table))),
+            None,
+        );
+    }
+}
+
+fn base(bench: &mut Bench) {
+    let centres = disc(20_000);
+    let mut table = vec![0; MOST * SLOT];
+    let mut other = table.clone();
+    assert_eq!((library::base(&mut table, &centres), plain::base(&mut other, &centres)), ((0, 0), (0, 0)));
+    assert!(table == other);
+    let task = Task { name: "base of 20,000 hexagons", unit: "vertex", units: count(&table) };
+    bench.run(
+        task,
+        &mut || clock::time(|| library::base(&mut table, &centres)),
+        &mut || clock::time(|| plain::base(&mut other, &centres)),
+        None,
+    );
+}
+
+fn subdivision(bench: &mut Bench, levels: &[(Vec<u8>, Vec<i32>)]) {
+    let first = &levels[0].0;
+    let lists: Vec<&Vec<i32>> = levels.iter().map(|(_, list)| list).filter(|list| !list.is_empty()).collect();
+    let made: usize = lists.iter().map(|list| list.len() / 3).sum();
+    let all = |subdivide_all: fn(&mut [u8], &[i32]) -> (u8, u64)| {
+        let mut table = first.clone();
+        let time = clock::time(|| lists.iter().for_each(|list| assert_eq!(subdivide_all(&mut table, list).0, 0)));
+        assert!(table == levels[levels.len() - 1].0);
+        time
+    };
+    let mapped = || {
+        let mut map: HashMap<Point, Star> = records(first).collect();
+        clock::time(|| {
+            for p in lists.iter().flat_map(|list| list.chunks_exact(3)) {
+                assert_eq!(subdivide_in(&mut map, Point { a: p[0], b: p[1], m: p[2] as u8 }), 0);
+            }
+        })
+    };
+    let task = Task { name: "subdivide_all, 6 levels of a sheet", unit: "subdivision", units: made };
+    bench.run(task, &mut || all(library::subdivide_all), &mut || all(plain::subdivide_all), Some(&mut { mapped }));
+    let (table, _) = &levels[levels.len() - 2];
+    let v = records(table).find(|(_, s)| s.d == 6 && s.n < 12).expect("a vertex to subdivide").0;
+    let one = |subdivide: fn(&mut [u8], i32, i32, u8) -> u8| {
+        let mut table = table.clone();
+        clock::time(|| assert_eq!(subdivide(&mut table, v.a, v.b, v.m), 0))
+    };
+    let task = Task { name: "subdivide, one call in 65,536 slots", unit: "call", units: 1 };
+    bench.run(task, &mut || one(library::subdivide), &mut || one(plain::subdivide), None);
+}
+
+type Query = fn(&[u8], i32, i32, u8) -> (u8, [i32; 19]);
+
+fn queries(bench: &mut Bench, large: &[u8]) {
+    let small = based_to(40, 64);
+    for (names, table) in
+        [(["neighbours, 64 slots", "faces, 64 slots"], &small[..]), (["neighbours, 65,536 slots", "faces, 65,536 slots"], large)]
+    {
+        let list: Vec<Point> = records(table).filter(|(_, s)| s.d != 0).map(|(p, _)| p).take(20).collect();
+        let both: [(Query, Query); 2] = [(library::neighbours, plain::neighbours), (library::faces, plain::faces)];
+        for (name, (by_library, by_plain)) in names.into_iter().zip(both) {
+            let all = |query: Query| {
+                let times = if table.len() < 1000 { 200 } else { 1 };
+                let each = || list.iter().for_each(|p| assert_eq!(black_box(query(table, p.a, p.b, p.m)).0, 0));
+                clock::time(|| (0..times).for_each(|_| each())) / times
+            };
+            let task = Task { name, unit: "call", units: list.len() };
+            bench.run(task, &mut || all(by_library), &mut || all(by_plain), None);
+        }
+    }
+}
+
+type Write = fn(&[u8], &mut [u8]) -> (u8, u64);
+type Read = fn(&mut [u8], &mut [u8], &[u8]) -> (u8, u64);
+
+fn files(bench: &mut Bench, table: &[u8]) {
+    let vertices = count(table);
+    let mut out = vec![0; 26 * vertices];
+    let writers: [(&str, Write, Write); 2] =
+        [("write_full", library::write_full, plain::write_full), ("write_reduced", library::write_reduced, plain::write_reduced)];
+    let readers: [(&str, Read, Read); 2] =
+        [("read_full", library::read_full, plain::read_full), ("read_reduced", library::read_reduced, plain::read_reduced)];
+    for ((name, by_library, by_plain), (reader, read_library, read_plain)) in writers.into_iter().zip(readers) {
+        let mut write = |call: Write| {
+            let mut long = 0;
+            let time = clock::time(|| long = call(table, &mut out).1);
+            (time, out[..long as usize].to_vec())
+        };
+        let file = write(by_library).1;
+        assert!(file == write(by_plain).1);
+        let both = std::cell::RefCell::new(write);
+        let task = Task { name, unit: "vertex", units: vertices };
+        bench.run(task, &mut || both.borrow_mut()(by_library).0, &mut || both.borrow_mut()(by_plain).0, None);
+        let read = |call: Read| {
+            let (mut table, mut scratch) = (vec![0; MOST * SLOT], vec![0; MOST * SLOT]);
+            clock::time(|| assert_eq!(call(&mut table, &mut scratch, &file), (0, 0)))
+        };
+        let task = Task { name: reader, unit: "vertex", units: vertices };
+        bench.run(task, &mut || read(read_library), &mut || read(read_plain), None);
+    }
+}
+
+fn census(bench: &mut Bench) {
+    let input = largest_input();
+    let vertices = input.iter().filter(|byte| **byte == b'\n').count();
+    let (mut table, mut scratch, mut out) = (vec![0; 5461 * SLOT], vec![0; 5461 * SLOT], [0; 128]);
+    let mut other = (table.clone(), scratch.clone(), [0; 128]);
+    let task = Task { name: "census of 64 KiB", unit: "vertex", units: vertices };
+    bench.run(
+        task,
+        &mut || clock::time(|| assert_eq!(library::census(&input, &mut table, &mut scratch, &mut out).0, 0)),
+        &mut || clock::time(|| assert_eq!(plain::census(&input, &mut other.0, &mut other.1, &mut other.2).0, 0)),
+        None,
+    );
+    assert_eq!(out, other.2);
+}
+
+/// From about 500 to 50,000 vertices: the library's time per vertex at each size, in tables as full each time.
+fn growth(levels: &[(Vec<u8>, Vec<i32>)], rounds: usize) {
+    println!(
+        "\ngrowth: nanoseconds a vertex, tables three quarters full\n  {:>8} {:>14} {:>11} {:>12} {:>10} {:>13}",
+        "vertices", "subdivide_all", "write_full", "write_reduced", "read_full", "read_reduced"
+    );
+    for step in levels.windows(2).filter(|step| count(&step[1].0) >= 400) {
+        let vertices = count(&step[1].0);
+        let (before, after) = (relaid(&step[0].0, vertices * 4 / 3), relaid(&step[1].0, vertices * 4 / 3));
+        let (mut out, mut reduced) = (vec![0; 26 * vertices], vec![0; 26 * vertices]);
+        let (long, short) = (library::write_full(&after, &mut out).1 as usize, library::write_reduced(&after, &mut reduced).1 as usize);
+        let (file, reduced) = (out[..long].to_vec(), reduced[..short].to_vec());
+        let per_vertex = |task: &mut dyn FnMut() -> std::time::Duration| clock::median(rounds, task).as_nanos() as f64 / vertices as f64;
+        let subdivide = per_vertex(&mut || {
+            let mut table = before.clone();
+            clock::time(|| assert_eq!(library::subdivide_all(&mut table, &step[0].1).0, 0))
+        });
+        let (mut table, mut scratch) = (after.clone(), after.clone());
+        let full = per_vertex(&mut || clock::time(|| assert_eq!(library::write_full(&after, &mut out).0, 0)));
+        let less = per_vertex(&mut || clock::time(|| assert_eq!(library::write_reduced(&after, &mut out).0, 0)));
+        let read = per_vertex(&mut || clock::time(|| assert_eq!(library::read_full(&mut table, &mut scratch, &file).0, 0)));
+        let read_less = per_vertex(&mut || clock::time(|| assert_eq!(library::read_reduced(&mut table, &mut scratch, &reduced).0, 0)));
+        println!("  {vertices:>8} {subdivide:>14.0} {full:>11.0} {less:>12.0} {read:>10.0} {read_less:>13.0}");
+    }
+}
+
+/// Bytes a vertex, beside a half-edge structure's: document 000's V + 10E + F references of 4 bytes, and 8 for a position.
+fn sizes(table: &[u8]) {
+    let vertices = count(table) as f64;
+    let mut out = vec![0; 26 * MOST];
+    let full = library::write_full(table, &mut out).1 as f64;
+    let reduced = library::write_reduced(table, &mut out).1 as f64;
+    println!("\nbytes a vertex, {vertices} vertices");
+    println!("  table, full of them      {:>6.1}", SLOT as f64);
+    println!("  table, as lent here      {:>6.1}", table.len() as f64 / vertices);
+    println!("  full file                {:>6.1}", full / vertices);
+    println!("  reduced file             {:>6.1}", reduced / vertices);
+    println!("  half-edge structure      {:>6.1}   (22 references and a position)", 22.0 * 4.0 + 8.0);
+}

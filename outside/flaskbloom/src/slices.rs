@@ -1,0 +1,74 @@
+//! The C calls on slices, number and value as they come: safe, since slices are valid for their lengths and do not overlap.
+
+use crate::raw;
+
+/// A count and six points as a, b, m.
+pub type Points = [i32; 19];
+
+/// What out-parameters hold before a call: nothing that a call gives, so one left unset is seen.
+const UNSET: u64 = u64::MAX;
+const NO_POINTS: Points = [i32::MIN; 19];
+
+pub fn normalise(a: i32, b: i32, m: u8) -> (u8, [i32; 3]) {
+    let mut point = [i32::MIN; 3];
+    (unsafe { raw::fb_normalise(a, b, m, point.as_mut_ptr()) }, point)
+}
+
+pub fn star(a: i32, b: i32, m: u8, d: u8, k: u8, n: u8) -> (u8, Points) {
+    let mut points = NO_POINTS;
+    (unsafe { raw::fb_star(a, b, m, d, k, n, points.as_mut_ptr()) }, points)
+}
+
+pub fn base(table: &mut [u8], centres: &[i32]) -> (u8, u64) {
+    let mut place = UNSET;
+    (unsafe { raw::fb_base(table.as_mut_ptr(), table.len(), centres.as_ptr(), centres.len(), &mut place) }, place)
+}
+
+pub fn subdivide(table: &mut [u8], a: i32, b: i32, m: u8) -> u8 {
+    unsafe { raw::fb_subdivide(table.as_mut_ptr(), table.len(), a, b, m) }
+}
+
+pub fn subdivide_all(table: &mut [u8], points: &[i32]) -> (u8, u64) {
+    let mut done = UNSET;
+    (unsafe { raw::fb_subdivide_all(table.as_mut_ptr(), table.len(), points.as_ptr(), points.len(), &mut done) }, done)
+}
+
+pub fn neighbours(table: &[u8], a: i32, b: i32, m: u8) -> (u8, Points) {
+    let mut points = NO_POINTS;
+    (unsafe { raw::fb_neighbours(table.as_ptr(), table.len(), a, b, m, points.as_mut_ptr()) }, points)
+}
+
+pub fn faces(table: &[u8], a: i32, b: i32, m: u8) -> (u8, Points) {
+    let mut points = NO_POINTS;
+    (unsafe { raw::fb_faces(table.as_ptr(), table.len(), a, b, m, points.as_mut_ptr()) }, points)
+}
+
+pub fn write_full(table: &[u8], out: &mut [u8]) -> (u8, u64) {
+    let mut written = UNSET;
+    (unsafe { raw::fb_write_full(table.as_ptr(), table.len(), out.as_mut_ptr(), out.len(), &mut written) }, written)
+}
+
+pub fn write_reduced(table: &[u8], out: &mut [u8]) -> (u8, u64) {
+    let mut written = UNSET;
+    (unsafe { raw::fb_write_reduced(table.as_ptr(), table.len(), out.as_mut_ptr(), out.len(), &mut written) }, written)
+}
+
+pub fn read_full(table: &mut [u8], scratch: &mut [u8], file: &[u8]) -> (u8, u64) {
+    let mut line = UNSET;
+    let (t, s) = (table.as_mut_ptr(), scratch.as_mut_ptr());
+    (unsafe { raw::fb_read_full(t, table.len(), s, scratch.len(), file.as_ptr(), file.len(), &mut line) }, line)
+}
+
+pub fn read_reduced(table: &mut [u8], scratch: &mut [u8], file: &[u8]) -> (u8, u64) {
+    let mut line = UNSET;
+    let (t, s) = (table.as_mut_ptr(), scratch.as_mut_ptr());
+    (unsafe { raw::fb_read_reduced(t, table.len(), s, scratch.len(), file.as_ptr(), file.len(), &mut line) }, line)
+}
+
+pub fn census(input: &[u8], table: &mut [u8], scratch: &mut [u8], out: &mut [u8]) -> (u8, u64) {
+    let mut written = UNSET;
+    let (t, s) = (table.as_mut_ptr(), scratch.as_mut_ptr());
+    let number =
+        unsafe { raw::fb_census(input.as_ptr(), input.len(), t, table.len(), s, scratch.len(), out.as_mut_ptr(), out.len(), &mut written) };
+    (number, written)
+}

@@ -1,0 +1,72 @@
+//! Document 01's bench examples through the safe calls.
+
+use flaskbloom::*;
+
+fn three() -> Table {
+    Table::base(64, &[[0, 0], [1, 1], [2, -1]]).unwrap()
+}
+
+fn at(table: &Table, a: i32, b: i32, m: u8) -> Option<(u8, u8, u8)> {
+    table.records().find(|r| r.point == Point::new(a, b, m)).map(|r| (r.degree, r.orientation, r.level))
+}
+
+#[test]
+fn normalisations() {
+    assert_eq!(normalise(Point::new(3, 0, 1)), Point::new(1, 0, 0));
+    assert_eq!(normalise(Point::new(9, -18, 3)), Point::new(1, -2, 1));
+    assert_eq!(normalise(Point::new(0, 0, 6)), Point::new(0, 0, 0));
+}
+
+#[test]
+fn a_star_without_a_mesh() {
+    let r = Record { point: Point::new(0, 0, 0), degree: 6, orientation: 1, level: 1 };
+    let points = star(r).unwrap();
+    assert_eq!(points[..3], [Point::new(1, 1, 1), Point::new(-1, 2, 1), Point::new(-2, 1, 1)]);
+    assert_eq!(star(Record { degree: 0, orientation: 0, level: 0, ..r }), Err(Refusal::DegreeZero));
+    assert_eq!(star(Record { level: 2, ..r }), Err(Refusal::BadLine));
+}
+
+#[test]
+fn three_hexagons() {
+    let sheet = three();
+    assert_eq!(sheet.records().count(), 16);
+    assert_eq!(census(&sheet.write_full().unwrap()), "V\tE\tF\td0\td3\td4\td5\td6\n16\t12\t9\t12\t3\t0\t0\t1\n");
+    assert_eq!(sheet.write_reduced().unwrap().iter().filter(|byte| **byte == b'\n').count(), 13);
+    assert_eq!(sheet.neighbours(Point::new(2, 0, 0)), Err(Refusal::DegreeZero));
+    assert_eq!(sheet.faces(Point::new(1, 0, 0)).unwrap().len(), 6);
+}
+
+#[test]
+fn subdividing() {
+    let mut sheet = three();
+    assert_eq!(sheet.subdivide(Point::new(0, 0, 0)), Err(Refusal::NotDegreeSix));
+    assert_eq!(sheet.subdivide(Point::new(5, 5, 0)), Err(Refusal::NoRecord));
+    sheet.subdivide(Point::new(3, 0, 1)).unwrap();
+    assert_eq!(at(&sheet, 4, 1, 1), Some((3, 3, 1)));
+    assert_eq!(at(&sheet, 1, 1, 0), Some((4, 0, 0)));
+    sheet.subdivide_all(&[Point::new(1, 0, 0)]).unwrap();
+    assert_eq!(at(&sheet, 4, 0, 1), Some((3, 2, 2)));
+    assert_eq!(at(&sheet, 4, 1, 1), Some((4, 11, 1)));
+    let refused = sheet.subdivide_all(&[Point::new(1, 0, 0), Point::new(0, 0, 0)]);
+    assert_eq!(refused, Err(RefusedAt { refusal: Refusal::NotDegreeSix, at: 1 }));
+}
+
+#[test]
+fn files_there_and_back() {
+    let mut sheet = three();
+    sheet.subdivide(Point::new(1, 0, 0)).unwrap();
+    let (full, reduced) = (sheet.write_full().unwrap(), sheet.write_reduced().unwrap());
+    assert_eq!(Table::read_full(64, &full).unwrap().write_reduced().unwrap(), reduced);
+    assert_eq!(Table::read_reduced(64, &reduced).unwrap().write_full().unwrap(), full);
+    assert_eq!(Table::read_reduced(64, &full), Err(RefusedAt { refusal: Refusal::RedundantKept, at: 0 }));
+    assert_eq!(Table::read_full(16, &full), Err(RefusedAt { refusal: Refusal::TooFewSlots, at: 17 }));
+    assert_eq!(Table::read_full(64, b"0\n"), Err(RefusedAt { refusal: Refusal::BadLine, at: 1 }));
+}
+
+#[test]
+fn bases_refused() {
+    assert_eq!(Table::base(16, &[[0, 0], [1, 0]]), Err(RefusedAt { refusal: Refusal::BadCentre, at: 1 }));
+    assert_eq!(Table::base(15, &[[0, 0]]), Err(RefusedAt { refusal: Refusal::NotInOrder, at: 0 }));
+    assert_eq!(Table::from_bytes(vec![1; 192]).write_full(), Err(Refusal::NotInOrder));
+    assert_eq!(Refusal::DegreeZero.number(), 14);
+}

@@ -1,0 +1,20 @@
+//! Document 01's calls as a Rust programmer would write them for speed: the flat table of 12-byte slots, a constant table of stars,
+//! sort_unstable, one pass for number 11. What the library's speed is measured against, and a third opinion in the tests.
+//!
+//! `lattice` points and stars; `table` slots; `mesh` base, subdivision, queries; `files` writers, readers; `grown` the local check;
+//! `counts` the census.
+
+pub mod counts;
+pub mod files;
+pub mod grown;
+pub mod lattice;
+pub mod mesh;
+pub mod table;
+
+pub use counts::census;
+pub use files::{read_full, read_reduced, write_full, write_reduced};
+pub use lattice::{normalise, star};
+pub use mesh::{base, faces, neighbours, subdivide, subdivide_all};
+
+/// A count and six points as a, b, m.
+pub type Points = [i32; 19];
