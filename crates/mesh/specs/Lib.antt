@@ -1,5 +1,8 @@
 -- Document 01, "Subdivision of v", in antt.
 pub mod Subdivide
+pub mod Grown
+pub mod Examples
+-- what they obey
 pub mod SubdivideLaws
 pub mod CallLaws
 pub mod CaseLaws
