@@ -9,7 +9,7 @@ use lib.Dec.{eqb, ltb, leb}
 use lib.IntN.{ℤ, pos, natAbs}
 use lib.ListN.{length, getD}
 use Rattle.laws.specs.Rules.{upto}
-use Rattle.lattice.specs.Ranks.{classOf}
+use Rattle.lattice.specs.Points.{classOf}
 use Rattle.lattice.specs.Points.{pt, turns, sumOf}
 use Rattle.table.specs.Search.{samePoint, findOf}
 use Rattle.table.specs.Entries.{enterOf}

@@ -19,7 +19,7 @@ use Rattle.laws.specs.Rules.{rule, _≤?_, _&_}
 use Rattle.laws.specs.Sizes.{abs-add}
 use Rattle.lattice.specs.Points.{pt, turns, normalOf, sumOf}
 use Rattle.lattice.specs.Flat.{alike, alike-eq}
-use Rattle.lattice.specs.Ranks.{classOf}
+use Rattle.lattice.specs.Points.{classOf}
 use Rattle.lattice.specs.declared.points.Point.{Point}
 use Rattle.lattice.specs.declared.records.Record.{Record}
 use Rattle.table.specs.Slots.{fitsLength, clearedOf}

@@ -21,7 +21,7 @@ use Rattle.laws.specs.Each.{both-left, both-right, not-both, and-false}
 use Rattle.laws.specs.Parts.{up, dn, apart, abs-is, add-is, eqℤ}
 use Rattle.laws.specs.Residue.{modZ, left3-parts, left3-minus, mod-below}
 use Rattle.lattice.specs.Points.{pt}
-use Rattle.lattice.specs.Ranks.{classOf}
+use Rattle.lattice.specs.Points.{classOf}
 use Rattle.lattice.specs.declared.points.Point.{Point}
 use Rattle.table.specs.Search.{samePoint}
 use Rattle.table.specs.MapLaws.{same-refl}

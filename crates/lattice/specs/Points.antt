@@ -1,10 +1,11 @@
--- Document 01, "Points". What the promises cite: `normalOf`, `turn60Of`, `turn30Of`, `sumOf`, `normalAt`; `pt` writes a point, `by3` is what normalising asks.
+-- Document 01, "Points". What the promises cite: `normalOf`, `turn60Of`, `turn30Of`, `sumOf`, `normalAt`; `pt` writes a point, `by3` is what normalising asks, `classOf` what a base asks.
 -- Assumes nothing.
 use mathlib.Core.Bool.{Bool, cond, _&&_, not, _||_}
 use Prim.Native.Nat.{ℕ, zero, suc, _+_, _%_, _-_, _^_, max}
 use lib.Dec.{eqb}
 use lib.IntN.{ℤ, negℤ, pos, _+ℤ_, _*ℤ_, natAbs, _-ℤ_}
 use lib.Signed.{quotZ}
+use Rattle.laws.specs.Residue.{modZ}
 use Rattle.lattice.specs.declared.points.Point.{Point}
 
 -- [a, b, m]: the point (a + bw)/3^m
@@ -26,6 +27,10 @@ isNormal p = normalAt (p .a) (p .b) (p .m .0)
 unfoldable pub normalOf : ℤ → ℤ → ℕ → Point
 normalOf a b zero = pt a b zero
 normalOf a b (suc m) = cond (by3 a && by3 b) (normalOf (quotZ a (pos 3)) (quotZ b (pos 3)) m) (pt a b (suc m))
+
+-- what a-b leaves on division by 3: it parts centres from the two kinds of corners ("Base")
+abbrev pub classOf : Point → ℕ
+classOf p = modZ (p .a -ℤ p .b) 3
 
 -- "Turning by 60 degrees takes [a, b, m] to [-b, a+b, m]."
 abbrev pub turn60Of : Point → Point

@@ -6,17 +6,13 @@
 use Prim.Native.Nat.{ℕ, _+_, _*_, _-_}
 use lib.Dec.{eqb, ltb}
 use mathlib.Core.Bool.{cond}
-use lib.IntN.{pos, _-ℤ_}
+use lib.IntN.{pos}
 use Rattle.laws.specs.Residue.{modZ}
 use Rattle.lattice.specs.Stars.{stepOf}
 use Rattle.lattice.specs.Patterns.{orient}
-use Rattle.lattice.specs.Points.{pt}
+use Rattle.lattice.specs.Points.{classOf, pt}
 use Rattle.lattice.specs.declared.points.Point.{Point}
 use Rattle.lattice.specs.declared.records.Level.{Level}
-
--- what a - b leaves on division by 3
-abbrev pub classOf : Point → ℕ
-classOf p = modZ (p .a -ℤ p .b) 3
 
 -- depth 0: 0 where a - b leaves 1, else 1; depth m: 2m where it leaves 0, else 2m + 1
 unfoldable pub rankOf : Point → ℕ

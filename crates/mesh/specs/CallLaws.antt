@@ -29,7 +29,8 @@ use Rattle.table.specs.Slots.{freeSlots}
 use Rattle.lattice.specs.declared.records.Record.{Record}
 use Rattle.table.specs.declared.entries.Looked.{Looked}
 use Rattle.table.specs.declared.entries.Looked.the-variants.{Absent, Held}
-use Rattle.mesh.specs.SubdivideLaws.{Ready, Whole, old, Standing}
+use Rattle.mesh.specs.SubdivideLaws.{Ready, Whole, old}
+use Rattle.mesh.specs.WriteLaws.{Standing}
 use Rattle.mesh.specs.Subdivide.{adjacentFits, newFits, torn, tooDeep, subdivided, Outcome, outcome, subdivideVertex, subdivideLooked, subdivideOf, renewedTo, enteredTo}
 
 module _ (t : List ℕ) (v : Record) where

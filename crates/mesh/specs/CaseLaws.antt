@@ -26,7 +26,8 @@ use Rattle.table.specs.declared.entries.Looked.{Looked}
 use Rattle.table.specs.declared.entries.Looked.the-variants.{Absent, Held}
 use Rattle.laws.specs.Each.{not-both}
 use Rattle.table.specs.SlotLaws.{table-same}
-use Rattle.mesh.specs.SubdivideLaws.{Ready, Whole, subdivided-order, subdivided-free, subdivided-length}
+use Rattle.mesh.specs.SubdivideLaws.{Ready, Whole, subdivided-order, subdivided-free}
+use Rattle.mesh.specs.WriteLaws.{subdivided-length}
 use Rattle.mesh.specs.CallLaws.{standing-ready, ready-whole, vertex-4, vertex-5, vertex-6, vertex-7-old, vertex-7-new, vertex-8, vertex-0, call-1, call-3, call-vertex, call-standing}
 use Rattle.mesh.specs.Subdivide.{adjacentFits, newFits, subdivided, Outcome, outcome, subdivideVertex, subdivideOf, triplesIn, isByte, subdivideTriple, subdivideFrom, subdivideAllOf, Many}
 

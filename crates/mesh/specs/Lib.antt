@@ -4,5 +4,6 @@ pub mod Grown
 pub mod Examples
 -- what they obey
 pub mod SubdivideLaws
+pub mod WriteLaws
 pub mod CallLaws
 pub mod CaseLaws

@@ -60,7 +60,6 @@ enteredTo t c (suc j) = enterOf (enteredTo t c j) (bornOf c j)
 
 -- v, its old adjacent vertices, its new ones; "All else is untouched."
 unfoldable pub subdivided : List ℕ → Record → List ℕ
-unfolding renewedTo enteredTo
 subdivided t v = enteredTo (renewedTo (replaceOf t (centreOf v)) v 6) (centreOf v) 6
 
 -- ---- the call
@@ -88,16 +87,15 @@ subdivideLooked t (Held v) = subdivideVertex t v
 
 -- "Every point in a request is normalised before it is looked up"
 unfoldable pub subdivideOf : List ℕ → ℤ → ℤ → ℕ → Outcome
-unfolding subdivided torn tooDeep
 subdivideOf t a b m = cond (inOrderOf t) (subdivideLooked t (lookUp t (normalOf a b m))) (outcome 1 t)
 
--- ---- many at once, ours: "one in-order test, then each point subdivided in turn as `subdivide` would"
+-- ---- many at once, ours: one in-order test, then each point subdivided in turn as `subdivide` would
 pub record Many : Type 0 where
   pub number : ℕ
   pub done : ℕ
   pub bytes : List ℕ
 
--- "a list of points [a, b, m, a, b, m, ..]": how many whole triples it has
+-- a list of points a, b, m, a, b, m, ..: how many whole triples it has
 abbrev pub triplesIn : List ℤ → ℕ
 triplesIn ps = length ps / 3
 
@@ -108,20 +106,17 @@ isByte (negsuc m) = false
 
 -- triple i, as `subdivide` answers it; 3 where its m is not in 0..255
 unfoldable pub subdivideTriple : List ℕ → List ℤ → ℕ → Outcome
-unfolding subdivideOf
 subdivideTriple t ps i =
     cond (isByte (getD ps (3 * i + 2) (pos 0)))
     (subdivideOf t (getD ps (3 * i) (pos 0)) (getD ps (3 * i + 1) (pos 0)) (natAbs (getD ps (3 * i + 2) (pos 0))))
     (outcome 3 t)
 
--- "it stops at the first refusal and says how many were made; those before stand": from triple i on, of which so many are left
+-- it stops at the first refusal and says how many were made; those before stand: from triple i on, of which so many are left
 unfoldable pub subdivideFrom : List ℕ → List ℤ → ℕ → ℕ → Many
-unfolding subdivideTriple
 subdivideFrom t ps i zero = record { number = 0; done = i; bytes = t }
 subdivideFrom t ps i (suc left) =
     let o = subdivideTriple t ps i in
     cond (eqb (o .number) 0) (subdivideFrom (o .bytes) ps (i + 1) left) (record { number = o .number; done = i; bytes = t })
 
 unfoldable pub subdivideAllOf : List ℕ → List ℤ → Many
-unfolding subdivideFrom
 subdivideAllOf t ps = cond (inOrderOf t) (subdivideFrom t ps 0 (triplesIn ps)) (record { number = 1; done = 0; bytes = t })

@@ -2,38 +2,32 @@
 -- The argument goes write by write. v's record is replaced; then each old adjacent vertex's, in turn: they are different points, and none is v, since v's own degree has no rule; so each
 -- is still as it was when its turn comes, and its rule makes a valid record. Then the new ones enter: they were absent, they are different points, and six slots were free.
 -- `Ready` a vertex that may be subdivided · `Whole` one whose subdivision is not torn and has room · `subdivided-order`, `subdivided-free` · `subdivided-centre`, `subdivided-new`,
--- `subdivided-old`, `subdivided-rest` the records after · `renewed-order`, `renewed-next`, `entered-order` what the code needs on the way.
+-- `subdivided-old`, `subdivided-rest` the records after · `renewed`, `entered` the same after some of the writes.
 -- Assumes nothing.
 use mathlib.Core.Path.{_≡_, refl, sym, _∙_, ap, subst}
 use mathlib.Core.Bool.{Bool, true, false, cond, _&&_}
 use mathlib.Core.List.{List}
-use Prim.Native.Nat.{ℕ, suc, _+_, _%_, _≤_, _<_, zero, _*_}
+use Prim.Native.Nat.{ℕ, suc, _+_, _%_, _≤_, _<_, zero}
 use native.Mathlib.Omega.{arith}
 use native.Mathlib.Decide.{ℕ-discrete}
 use lib.Dec.{eqb, T}
-use lib.ListN.{length}
 use Rattle.laws.specs.Each.{not-both, and-false}
 use Rattle.lattice.specs.Stars.{adjacentAt}
-use Rattle.lattice.specs.Subdivision.{centreOf, newOf, backOf, fourTurn, updateOf, acceptsOf, bornOf}
+use Rattle.lattice.specs.Subdivision.{centreOf, newOf, backOf, fourTurn, updateOf, acceptsOf}
 use Rattle.lattice.specs.GeometryLaws.{star-distinct}
 use Rattle.lattice.specs.Records.{validOf}
 use Rattle.lattice.specs.SubdivisionLaws.{Sited, sited, centre-valid, update-valid, new-valid}
 use Rattle.table.specs.Entries.{lookUp, replaceOf, enterOf}
-use Rattle.table.specs.MapLaws.{there, room, full, lookup-point, lookup-valid, replace-order, replace-finds, replace-keeps, replace-free, enter-order, enter-finds, enter-keeps, enter-free, Searched, searched, replace-length, put-replace, enter-length}
+use Rattle.table.specs.MapLaws.{room, lookup-point, lookup-valid, replace-order, replace-finds, replace-keeps, replace-free, enter-order, enter-finds, enter-keeps, enter-free}
 use Rattle.table.specs.Order.{InOrder}
-use Rattle.table.specs.Slots.{freeSlots, slotAt, putSlot, slotWidth, slotsOf, Table}
+use Rattle.table.specs.Slots.{freeSlots}
 use Rattle.lattice.specs.declared.points.Point.{Point}
 use Rattle.lattice.specs.declared.records.Record.{Record}
 use Rattle.table.specs.declared.entries.Looked.{Looked}
 use Rattle.table.specs.declared.entries.Looked.the-variants.{Absent, Held}
 use Rattle.laws.specs.Choices.{is-true, of-true}
 use Rattle.laws.specs.Linear.{same}
-use Rattle.lattice.specs.RecordLaws.{Inner, inner, valid-turn, valid-level}
-use Rattle.table.specs.declared.slots.Slot.{Slot}
-use Rattle.table.specs.declared.slots.Slot.the-variants.{Free, Holds}
-use Rattle.table.specs.Search.{findOf}
-use Rattle.table.specs.SlotLaws.{table-same}
-use Rattle.mesh.specs.Subdivide.{fitsAt, adjacentFits, renewAt, renewedTo, enteredTo, subdivided, renewOf}
+use Rattle.mesh.specs.Subdivide.{fitsAt, adjacentFits, renewAt, renewedTo, enteredTo, subdivided}
 use Rattle.table.specs.declared.probe.Found.the-variants as found
 
 pub record Ready (t : List ℕ) (v : Record) : Type 0 where
@@ -204,10 +198,6 @@ module _ (t : List ℕ) (v : Record) (w : Whole t v) where
   renewed zero l = start
   renewed (suc j) l = more j (omega arith) (renewed j (omega arith))
 
-  -- what the code finds when it comes to place j
-  pub renewed-next : (j : ℕ) (h : j < 6) → lookUp (renewedTo t₁ v j) (adjacentAt v j) ≡ Held (old j h .0)
-  renewed-next j h = let n : j ≤ j = omega arith in renewed j (omega arith) .later j n h ∙ old j h .1
-
   -- ---- the new vertices, the first j
   abbrev pub t₂ : List ℕ
   t₂ = renewedTo t₁ v 6
@@ -311,149 +301,3 @@ module _ (t : List ℕ) (v : Record) (w : Whole t v) where
       ∙ entered 6 (omega arith) .rest p n
       ∙ renewed 6 (omega arith) .rest p a
       ∙ replace-keeps t o (centreOf v) centre-good p c
-
--- ---- what the code asks for on the way
--- the tables while the old adjacent vertices are written
-pub record Renewable (t : List ℕ) (v : Record) : Type 0 where
-  pub inner : Inner v
-  pub six : v .d ≡ 6
-  pub order : (j : ℕ) → j ≤ 6 → InOrder (renewedTo t v j)
-
-pub ready-inner : {t : List ℕ} {v : Record} → Ready t v → Inner v
-ready-inner {t} {v} r = let s = r .six in inner v (of-true (lookup-valid t (r .order) (v .at) v (r .held))) (omega arith)
-
-pub whole-renewable : {t : List ℕ} {v : Record} → Whole t v → Renewable (replaceOf t (centreOf v)) v
-whole-renewable {t} {v} w = record { inner = ready-inner (w .ready); six = w .ready .six; order = λ j h. renewed t v w j h .order }
-
--- a slot whose vertex, if it has one, has a level that can rise
-abbrev pub Low : List ℕ → ℕ → Type 0
-Low t i = (u : Record) → slotAt t i ≡ Holds u → u .n .0 < 255
-
--- the slot i after its vertex's rule
-abbrev pub renewHeld : List ℕ → ℕ → ℕ → Slot → List ℕ
-renewHeld t i k′ Free = t
-renewHeld t i k′ (Holds u) = putSlot t i (updateOf k′ u)
-
-abbrev pub renewSlot : List ℕ → ℕ → ℕ → List ℕ
-renewSlot t i k′ = renewHeld t i k′ (slotAt t i)
-
--- a vertex as it stands in a table in order
-pub record Standing (t : List ℕ) (v : Record) : Type 0 where
-  pub order : InOrder t
-  pub held : lookUp t (v .at) ≡ Held v
-
-pub ready-turn : {t : List ℕ} {v : Record} → Ready t v → v .k < 12
-ready-turn {t} {v} r = valid-turn v (of-true (lookup-valid t (r .order) (v .at) v (r .held)))
-
-pub six-low : {v : Record} → Inner v → v .d ≡ 6 → v .k < 12
-six-low {v} i s = let o = i .turn in let l : v .k < 2 = rw s at o in omega arith
-
--- ---- an old adjacent vertex as the search for it finds it
-module _ (t : List ℕ) (o : InOrder t) (p : Point) where
-  at-same : {i j : ℕ} → found.At i ≡ found.At j → i ≡ j
-  at-same {i} {j} e = cc
-
-  at-free : {i j : ℕ} → found.At i ≡ found.Free j → ⊥
-  at-free {i} {j} e = let z : _≡_ {A = ℕ} 0 1 = cc in omega arith
-
-  at-full : {i : ℕ} → found.At i ≡ found.Full → ⊥
-  at-full {i} e = let z : _≡_ {A = ℕ} 0 1 = cc in omega arith
-
-  -- the slot where it ended is one of the table's, holds the vertex, and its record can rise
-  pub record Ended (i : ℕ) : Type 0 where
-    pub slot : i < slotsOf t
-    pub vertex : Record
-    pub holds : slotAt t i ≡ Holds vertex
-    pub point : vertex .at ≡ p
-    pub looked : lookUp t p ≡ Held vertex
-
-  pub ended : (i : ℕ) → findOf t p ≡ found.At i → Ended i
-  ended i e = go (searched t (o .fits) p)
-    where
-      go : Searched t p → Ended i
-      go (there j r f l s a k) =
-          let q : j ≡ i = at-same (sym f ∙ e) in
-          record { slot = omega arith; vertex = r; holds = ap (slotAt t) (sym q) ∙ s; point = a; looked = k }
-      go (room j f l s a k) = absurd (at-free (sym e ∙ f))
-      go (full f a k) = absurd (at-full (sym e ∙ f))
-
-  pub ended-low : (i : ℕ) → findOf t p ≡ found.At i → Low t i
-  ended-low i e u h = let l = valid-level u (of-true (o .valid i u (ended i e .slot) h)) in omega arith
-
-  pub ended-room : (i : ℕ) → findOf t p ≡ found.At i → slotWidth * i + slotWidth ≤ length t
-  ended-room i e = let s = ended i e .slot in let l = o .fits .long in omega arith
-
-  module _ (v : Record) (j : ℕ) (q : p ≡ adjacentAt v j) where
-    renew-looked : (l : Looked) → lookUp t p ≡ l → renewAt t v j l ≡ renewOf t v j
-    renew-looked l e = ap (renewAt t v j) (sym e ∙ ap (lookUp t) q)
-
-    pub renew-found : (i : ℕ) → findOf t p ≡ found.At i → renewSlot t i (backOf (v .k) j) ≡ renewOf t v j
-    renew-found i e =
-        let x = ended i e in
-        let u = updateOf (backOf (v .k) j) (x .vertex) in
-        ap (renewHeld t i (backOf (v .k) j)) (x .holds)
-        ∙ put-replace t u i (ap (findOf t) (update-at (backOf (v .k) j) (x .vertex) ∙ x .point) ∙ e)
-        ∙ renew-looked (Held (x .vertex)) (x .looked)
-
-    pub renew-gone : lookUp t p ≡ Absent → t ≡ renewOf t v j
-    renew-gone e = renew-looked Absent e
-
-  pub free-absent : (i : ℕ) → findOf t p ≡ found.Free i → lookUp t p ≡ Absent
-  free-absent i e = go (searched t (o .fits) p)
-    where
-      go : Searched t p → lookUp t p ≡ Absent
-      go (there j r f l s a k) = absurd (at-free (sym f ∙ e))
-      go (room j f l s a k) = a
-      go (full f a k) = a
-
-  pub full-absent : findOf t p ≡ found.Full → lookUp t p ≡ Absent
-  full-absent e = go (searched t (o .fits) p)
-    where
-      go : Searched t p → lookUp t p ≡ Absent
-      go (there j r f l s a k) = absurd (at-full (sym f ∙ e))
-      go (room j f l s a k) = a
-      go (full f a k) = a
-
--- ---- one more vertex written, as the loops count
-pub renewed-more : (t : List ℕ) (v : Record) (j : ℕ) → renewOf (renewedTo t v j) v j ≡ renewedTo t v (j + 1)
-unfolding renewedTo
-renewed-more t v j = let e : j + 1 ≡ suc j = omega arith in ap (renewedTo t v) (sym e)
-
-pub renewed-none : (t : List ℕ) (v : Record) → t ≡ renewedTo t v 0
-unfolding renewedTo
-renewed-none t v = refl
-
-pub entered-more : (t : List ℕ) (c : Record) (j : ℕ) → enterOf (enteredTo t c j) (bornOf c j) ≡ enteredTo t c (j + 1)
-unfolding enteredTo
-entered-more t c j = let e : j + 1 ≡ suc j = omega arith in ap (enteredTo t c) (sym e)
-
-pub entered-none : (t : List ℕ) (c : Record) → t ≡ enteredTo t c 0
-unfolding enteredTo
-entered-none t c = refl
-
-pub renew-length : (t : List ℕ) (v : Record) (j : ℕ) → length (renewOf t v j) ≡ length t
-renew-length t v j = go (lookUp t (adjacentAt v j))
-  where
-    go : (l : Looked) → length (renewAt t v j l) ≡ length t
-    go Absent = refl
-    go (Held u) = replace-length t (updateOf (backOf (v .k) j) u)
-
-pub renewed-length : (t : List ℕ) (v : Record) (j : ℕ) → length (renewedTo t v j) ≡ length t
-unfolding renewedTo
-renewed-length t v zero = refl
-renewed-length t v (suc j) = renew-length (renewedTo t v j) v j ∙ renewed-length t v j
-
-pub entered-length : (t : List ℕ) (c : Record) (j : ℕ) → length (enteredTo t c j) ≡ length t
-unfolding enteredTo
-entered-length t c zero = refl
-entered-length t c (suc j) = enter-length (enteredTo t c j) (bornOf c j) ∙ entered-length t c j
-
-pub renewed-table : (t : List ℕ) (v : Record) (j n : ℕ) → Table t n → Table (renewedTo t v j) n
-renewed-table t v j n w = table-same t (renewedTo t v j) n (renewed-length t v j) w
-
-pub entered-table : (t : List ℕ) (c : Record) (j n : ℕ) → Table t n → Table (enteredTo t c j) n
-entered-table t c j n w = table-same t (enteredTo t c j) n (entered-length t c j) w
-
-pub subdivided-length : (t : List ℕ) (v : Record) → length (subdivided t v) ≡ length t
-unfolding subdivided
-subdivided-length t v = entered-length (renewedTo (replaceOf t (centreOf v)) v 6) (centreOf v) 6 ∙ renewed-length (replaceOf t (centreOf v)) v 6 ∙ replace-length t (centreOf v)

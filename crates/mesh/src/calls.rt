@@ -6,7 +6,7 @@ ghost use lib.ListN.{length};
 ghost use Rattle.table.specs.Slots.{Table, freeSlots};
 ghost use Rattle.table.specs.Order.{inOrderOf};
 ghost use Rattle.mesh.specs.Subdivide.{subdivideVertex, subdivideOf, subdivideTriple, subdivideAllOf};
-ghost use Rattle.mesh.specs.SubdivideLaws.{Standing};
+ghost use Rattle.mesh.specs.WriteLaws.{Standing};
 use crate::checks::adjacents_fit;
 use crate::checks::all_absent;
 use crate::checks::none_deeper;

@@ -31,7 +31,7 @@ fn adjacent_fits(t: &[u8], v: Record, j: u8, n: usize) -> bool
     }
 }
 
-// So do all six.
+// So it is with all six.
 pub fn adjacents_fit(t: &[u8], v: Record, n: usize) -> bool
     requires { ⌜ Table (now t) n × Ready (now t) v ⌝ }
     ensures { λ r. ⌜ r ≡ upto 6 (adjacentFits (now (t .entry)) v) ⌝ }
@@ -47,7 +47,7 @@ pub fn adjacents_fit(t: &[u8], v: Record, n: usize) -> bool
     true
 }
 
-// Place j of the star of c is no vertex.
+// No vertex stands at place j of the star of c.
 fn absent_at(t: &[u8], c: Record, j: u8, n: usize) -> bool
     requires { ⌜ Table (now t) n × (Inner c × (j < c .d)) ⌝ }
     ensures { λ r. ⌜ r ≡ not (holds (now (t .entry)) (adjacentAt c j)) ⌝ }
@@ -59,7 +59,7 @@ fn absent_at(t: &[u8], c: Record, j: u8, n: usize) -> bool
     }
 }
 
-// None of the first six places is.
+// No vertex stands at any of the six places.
 pub fn all_absent(t: &[u8], c: Record, n: usize) -> bool
     requires { ⌜ Table (now t) n × (Inner c × (c .d ≡ 6)) ⌝ }
     ensures { λ r. ⌜ r ≡ upto 6 (λ j. not (holds (now (t .entry)) (adjacentAt c j))) ⌝ }

@@ -37,7 +37,6 @@ isAt Nothing = false
 
 -- each corner has an opposite in the table
 unfoldable pub cornersThere : List ℕ → Record → Bool
-unfolding chosenAt
 cornersThere t v = upto (v .d) (λ j. isAt (chosenAt t v j))
 
 abbrev pub pointOr0 : Spot → Point
@@ -68,9 +67,7 @@ abbrev pub queryOf : (Record → Answer) → List ℕ → ℤ → ℤ → ℕ �
 queryOf f t a b m = cond (inOrderOf t) (queryLooked f (lookUp t (normalOf a b m))) (refused 1)
 
 unfoldable pub neighboursOf : List ℕ → ℤ → ℤ → ℕ → Answer
-unfolding adjacentsThere
 neighboursOf t a b m = queryOf (neighboursAt t) t a b m
 
 unfoldable pub facesOf : List ℕ → ℤ → ℤ → ℕ → Answer
-unfolding adjacentsThere cornersThere
 facesOf t a b m = queryOf (facesAt t) t a b m

@@ -3,7 +3,7 @@ use borrow.Author.Needs.{needs}
 use mathlib.Core.Bool.{Bool, not, _||_}
 use mathlib.Core.Path.{sym, _∙_, ap}
 use borrow.Author.Tests.{eq-eqb, ne-eqb}
-use Rattle.lattice.specs.Ranks.{classOf}
+use Rattle.lattice.specs.Points.{classOf}
 use Rattle.base.proofs.hexagons.hexagon_marked.Statement.{statement}
 use Rattle.base.specs.Marks.{inMarks}
 use Rattle.base.proofs.hexagons.hexagon_marked.Tie as tie

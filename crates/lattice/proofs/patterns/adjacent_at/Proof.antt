@@ -1,3 +1,4 @@
+-- `lattice::patterns::adjacent_at` meets its promise. Assumes nothing.
 use borrow.Author.Needs.{needs}
 use Rattle.lattice.proofs.patterns.adjacent_at.Statement.{statement}
 use Rattle.lattice.specs.Flat.{table}

@@ -1,3 +1,4 @@
+-- `lattice::patterns::oriented` meets its promise. Assumes nothing.
 use mathlib.Core.Path.{_≡_, sym, ap, _∙_, subst}
 use native.Mathlib.Omega.{arith}
 use Prim.Native.Nat.{_+_, _/_}

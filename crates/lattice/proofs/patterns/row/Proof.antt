@@ -1,3 +1,4 @@
+-- `lattice::patterns::row` meets its promise. Assumes nothing.
 use borrow.Author.Needs.{needs}
 use native.Mathlib.Omega.{arith}
 use Rattle.lattice.proofs.patterns.row.Statement.{statement}

@@ -1,3 +1,4 @@
+-- `lattice::points::both3` meets its promise. Assumes nothing.
 use borrow.Author.Needs.{needs}
 use borrow.Author.Tests.{eq-eqb, ne-eqb}
 use mir.Syntax.{w32}

@@ -1,3 +1,4 @@
+-- `lattice::points::mix` meets its promise. Assumes nothing.
 use native.Mathlib.Omega.{arith}
 use lib.IntN.{_+ℤ_, _*ℤ_}
 use mir.Syntax.{w32}

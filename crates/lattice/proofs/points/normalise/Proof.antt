@@ -1,3 +1,4 @@
+-- `lattice::points::normalise` meets its promise. Assumes nothing.
 use mathlib.Core.Path.{_≡_, refl, sym, ap, _∙_}
 use native.Mathlib.Omega.{arith}
 use lib.IntN.{pos}

@@ -1,3 +1,4 @@
+-- `lattice::points::power` meets its promise. Assumes nothing.
 use borrow.Author.Needs.{needs}
 use mathlib.Core.List.{List, [], _∷_}
 use Prim.Native.Nat.{ℕ, _^_}

@@ -1,3 +1,4 @@
+-- `lattice::points::turn60` meets its promise. Assumes nothing.
 use lib.IntN.{pos, +ℤ-idl, negℤ}
 use mathlib.Core.Path.{_∙_}
 use lib.Dec.{lit≤}

@@ -1,3 +1,4 @@
+-- `lattice::ranks::birth` meets its promise. Assumes nothing.
 use borrow.Author.Needs.{needs}
 use mathlib.Core.Path.{_≡_, sym, _∙_}
 use native.Mathlib.Omega.{arith}
@@ -7,7 +8,8 @@ use mir.Val.{SFits}
 use Rattle.laws.specs.Residue.{modZ}
 use Rattle.laws.specs.Machine.{asked}
 use Rattle.lattice.proofs.ranks.birth.Statement.{statement}
-use Rattle.lattice.specs.Ranks.{classOf, birthOf}
+use Rattle.lattice.specs.Points.{classOf}
+use Rattle.lattice.specs.Ranks.{birthOf}
 use Rattle.lattice.proofs.ranks.birth.Tie as tie
 
 class-requires : tie.Need-class-requires

@@ -1,3 +1,4 @@
+-- `lattice::ranks::class` meets its promise. Assumes nothing.
 use borrow.Author.Needs.{needs}
 use lib.Dec.{lit<}
 use mathlib.Core.Path.{_≡_, sym, _∙_}

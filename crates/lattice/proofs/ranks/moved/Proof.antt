@@ -1,3 +1,4 @@
+-- `lattice::ranks::moved` meets its promise. Assumes nothing.
 use borrow.Author.Needs.{needs}
 use mathlib.Core.Path.{sym, _∙_, ap, subst}
 use Rattle.lattice.proofs.ranks.moved.Statement.{statement}

@@ -1,3 +1,4 @@
+-- `lattice::ranks::parent` meets its promise. Assumes nothing.
 use borrow.Author.Needs.{needs}
 use mathlib.Core.Path.{_∙_}
 use Prim.Native.Nat.{_+_, _*_, _-_}

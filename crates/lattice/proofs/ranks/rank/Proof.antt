@@ -1,8 +1,10 @@
+-- `lattice::ranks::rank` meets its promise. Assumes nothing.
 use borrow.Author.Needs.{needs}
 use mathlib.Core.Path.{sym, _∙_}
 use borrow.Author.Tests.{eq-eqb, ne-eqb}
 use Rattle.lattice.proofs.ranks.rank.Statement.{statement}
-use Rattle.lattice.specs.Ranks.{classOf, rankOf}
+use Rattle.lattice.specs.Points.{classOf}
+use Rattle.lattice.specs.Ranks.{rankOf}
 use Rattle.lattice.proofs.ranks.rank.Tie as tie
 
 class-requires : tie.Need-class-requires

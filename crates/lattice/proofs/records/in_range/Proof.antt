@@ -1,3 +1,4 @@
+-- `lattice::records::in_range` meets its promise. Assumes nothing.
 use borrow.Author.Needs.{needs}
 use native.Mathlib.Omega.{arith}
 use mir.Facts.{toZ-ofZ}

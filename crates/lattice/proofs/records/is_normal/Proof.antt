@@ -1,3 +1,4 @@
+-- `lattice::records::is_normal` meets its promise. Assumes nothing.
 use borrow.Author.Tests.{eq-eqb, ne-eqb}
 use mir.Facts.{toZ-ofZ}
 use borrow.Author.Needs.{needs}

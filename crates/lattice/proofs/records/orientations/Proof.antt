@@ -1,3 +1,4 @@
+-- `lattice::records::orientations` meets its promise. Assumes nothing.
 use borrow.Author.Tests.{ne-eqb}
 use Rattle.lattice.proofs.records.orientations.Statement.{statement}
 use Rattle.lattice.proofs.records.orientations.Tie as tie

@@ -1,3 +1,4 @@
+-- `lattice::records::size` meets its promise. Assumes nothing.
 use mathlib.Core.Path.{_∙_, ap}
 use native.Mathlib.Omega.{arith}
 use lib.IntN.{pos, natAbs, _-ℤ_}

@@ -1,3 +1,4 @@
+-- `lattice::records::suits` meets its promise. Assumes nothing.
 use borrow.Author.Tests.{eq-eqb, ne-eqb, le-ltb, lt-ltb, le-leb, lt-leb}
 use mathlib.Core.Path.{subst}
 use Prim.Native.Nat.{ℕ, _≤_, _<_}

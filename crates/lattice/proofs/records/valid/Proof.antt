@@ -1,3 +1,4 @@
+-- `lattice::records::valid` meets its promise. Assumes nothing.
 use mir.Syntax.{w32}
 use mir.Val.{SFits}
 use borrow.Author.Needs.{needs}

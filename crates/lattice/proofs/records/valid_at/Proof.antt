@@ -1,3 +1,4 @@
+-- `lattice::records::valid_at` meets its promise. Assumes nothing.
 use borrow.Author.Needs.{needs}
 use borrow.Author.Tests.{le-leb, lt-leb, not-true, not-false}
 use mathlib.Core.Path.{_≡_, _∙_}

@@ -1,3 +1,4 @@
+-- `lattice::stars::adjacent_of` meets its promise. Assumes nothing.
 use borrow.Author.Needs.{needs}
 use mathlib.Core.Path.{sym, _∙_, ap, subst}
 use Rattle.lattice.proofs.stars.adjacent_of.Statement.{statement}

@@ -1,3 +1,4 @@
+-- `lattice::stars::first_of` meets its promise. Assumes nothing.
 use borrow.Author.Needs.{needs}
 use mathlib.Core.Path.{sym, _∙_, ap, subst}
 use Rattle.lattice.proofs.stars.first_of.Statement.{statement}

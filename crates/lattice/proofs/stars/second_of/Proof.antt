@@ -1,3 +1,4 @@
+-- `lattice::stars::second_of` meets its promise. Assumes nothing.
 use borrow.Author.Needs.{needs}
 use mathlib.Core.Path.{sym, _∙_, ap}
 use Rattle.lattice.specs.declared.patterns.Spot.the-variants.{At}

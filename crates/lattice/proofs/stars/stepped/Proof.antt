@@ -1,3 +1,4 @@
+-- `lattice::stars::stepped` meets its promise. Assumes nothing.
 use mathlib.Core.Path.{sym, _∙_, ap, subst}
 use native.Mathlib.Omega.{arith}
 use Rattle.lattice.proofs.stars.stepped.Statement.{statement}

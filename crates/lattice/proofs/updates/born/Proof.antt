@@ -1,3 +1,4 @@
+-- `lattice::updates::born` meets its promise. Assumes nothing.
 use borrow.Author.Needs.{needs}
 use Prim.Native.Nat.{_+_, _*_, _%_}
 use Rattle.lattice.proofs.updates.born.Statement.{statement}

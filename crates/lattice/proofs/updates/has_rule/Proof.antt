@@ -1,3 +1,4 @@
+-- `lattice::updates::has_rule` meets its promise. Assumes nothing.
 use borrow.Author.Needs.{needs}
 use borrow.Author.Tests.{eq-eqb, ne-eqb}
 use Rattle.lattice.proofs.updates.has_rule.Statement.{statement}

@@ -1,3 +1,4 @@
+-- `mesh::calls::subdivide_all` meets its promise. Assumes nothing.
 use mathlib.Core.Path.{_≡_, refl, sym, _∙_, subst, ap}
 use mathlib.Core.Bool.{true}
 use Prim.Native.Nat.{_-_, ℕ, _+_, _<_}

@@ -1,3 +1,4 @@
+-- `mesh::calls::subdivide_triple` meets its promise. Assumes nothing.
 use borrow.Author.Needs.{needs}
 use mathlib.Core.Path.{_≡_, sym, _∙_, ap, subst}
 use Prim.Native.Nat.{_+_, _*_}

@@ -1,3 +1,4 @@
+-- `mesh::calls::subdivide_vertex` meets its promise. Assumes nothing.
 use borrow.Author.Needs.{needs}
 use mathlib.Core.Path.{_≡_, sym, subst, _∙_, ap}
 use native.Mathlib.Omega.{arith}
@@ -14,7 +15,8 @@ use Rattle.table.specs.Entries.{holds}
 use Rattle.table.specs.Slots.{freeSlots}
 use Rattle.table.specs.MapLaws.{room}
 use Rattle.mesh.proofs.calls.subdivide_vertex.Statement.{statement}
-use Rattle.mesh.specs.SubdivideLaws.{Ready, ready-turn, Whole}
+use Rattle.mesh.specs.SubdivideLaws.{Ready, Whole}
+use Rattle.mesh.specs.WriteLaws.{ready-turn}
 use Rattle.mesh.specs.CallLaws.{standing-ready, centre-inner, vertex-4, vertex-5, outcome-parts, vertex-6, vertex-7-old, vertex-7-new, vertex-8, ready-whole, vertex-0}
 use Rattle.mesh.specs.Subdivide.{newFits}
 use Rattle.mesh.proofs.calls.subdivide_vertex.Tie as tie

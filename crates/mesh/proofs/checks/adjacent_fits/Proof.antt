@@ -1,3 +1,4 @@
+-- `mesh::checks::adjacent_fits` meets its promise. Assumes nothing.
 use borrow.Author.Needs.{needs}
 use mathlib.Core.Path.{_≡_, sym, _∙_, ap}
 use native.Mathlib.Omega.{arith}
@@ -9,7 +10,7 @@ use Rattle.laws.specs.Choices.{of-true}
 use Rattle.lattice.specs.Subdivision.{acceptsOf}
 use Rattle.lattice.specs.RecordLaws.{valid-turn}
 use Rattle.mesh.proofs.checks.adjacent_fits.Statement.{statement}
-use Rattle.mesh.specs.SubdivideLaws.{ready-inner, ready-turn}
+use Rattle.mesh.specs.WriteLaws.{ready-inner, ready-turn}
 use Rattle.mesh.specs.Subdivide.{fitsAt}
 use Rattle.mesh.proofs.checks.adjacent_fits.Tie as tie
 

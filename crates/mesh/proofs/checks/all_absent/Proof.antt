@@ -1,3 +1,4 @@
+-- `mesh::checks::all_absent` meets its promise. Assumes nothing.
 use mathlib.Core.Path.{_≡_, refl, sym, _∙_, ap}
 use mathlib.Core.Bool.{true, not}
 use Prim.Native.Nat.{ℕ, _≤_, _-_}

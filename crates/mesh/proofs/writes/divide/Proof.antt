@@ -1,3 +1,4 @@
+-- `mesh::writes::divide` meets its promise. Assumes nothing.
 use borrow.Author.Needs.{needs}
 use mathlib.Core.Path.{_≡_, sym, _∙_, ap, subst}
 use mathlib.Core.List.{List}
@@ -10,7 +11,7 @@ use Rattle.table.specs.Slots.{Table}
 use Rattle.lattice.specs.RecordLaws.{Inner}
 use Rattle.lattice.specs.declared.records.Record.{Record}
 use Rattle.mesh.proofs.writes.divide.Statement.{statement}
-use Rattle.mesh.specs.SubdivideLaws.{Renewable, whole-renewable, ready-turn, renewed-table}
+use Rattle.mesh.specs.WriteLaws.{Renewable, whole-renewable, ready-turn, renewed-table}
 use Rattle.mesh.specs.CallLaws.{centre-inner, subdivided-is}
 use Rattle.mesh.specs.Subdivide.{renewedTo, enteredTo}
 use Rattle.mesh.proofs.writes.divide.Tie as tie

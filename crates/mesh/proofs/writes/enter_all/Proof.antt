@@ -1,3 +1,4 @@
+-- `mesh::writes::enter_all` meets its promise. Assumes nothing.
 use mathlib.Core.Path.{_≡_, sym, _∙_, ap, subst}
 use mathlib.Core.List.{List}
 use Prim.Native.Nat.{ℕ, _≤_, _-_}
@@ -7,7 +8,7 @@ use borrow.Author.Needs.{needs}
 use Rattle.table.specs.Entries.{enterOf}
 use Rattle.table.specs.Slots.{Table}
 use Rattle.mesh.proofs.writes.enter_all.Statement.{statement}
-use Rattle.mesh.specs.SubdivideLaws.{six-low, entered-more, entered-none, entered-length, entered-table}
+use Rattle.mesh.specs.WriteLaws.{six-low, entered-more, entered-none, entered-length, entered-table}
 use Rattle.mesh.specs.Subdivide.{enteredTo}
 use Rattle.mesh.proofs.writes.enter_all.Tie as tie
 

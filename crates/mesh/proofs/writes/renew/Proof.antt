@@ -1,8 +1,11 @@
+-- `mesh::writes::renew` meets its promise. Assumes nothing.
 use borrow.Author.Needs.{needs}
 use mathlib.Core.Path.{sym, _∙_, ap}
 use native.Mathlib.Omega.{arith}
+use Rattle.table.specs.EntryLaws.{at-room}
+use Rattle.table.specs.MapLaws.{at-free, at-full}
 use Rattle.mesh.proofs.writes.renew.Statement.{statement}
-use Rattle.mesh.specs.SubdivideLaws.{six-low, renewSlot, ended-low, ended-room, renew-found, renew-gone, free-absent, full-absent}
+use Rattle.mesh.specs.WriteLaws.{six-low, renewSlot, found-low, renew-found, renew-gone}
 use Rattle.mesh.proofs.writes.renew.Tie as tie
 
 back-requires : tie.Need-back-requires
@@ -26,7 +29,7 @@ renew-slot-requires c κs =
     let p = x .before .adjacent-of .result in
     let e = sym (x .find .ensures) ∙ f .f .given .1 in
     let o = s .pre .1 .0 in
-    (ended-room (s .args .t .now) o p _ e, (omega (arith, b .back .ensures), ended-low (s .args .t .now) o p _ e))
+    (at-room (s .args .t .now) (s .args .n) (s .pre .0) p _ e, (omega (arith, b .back .ensures), found-low (s .args .t .now) o p _ e))
 
 enum-told : tie.Need-enum-told
 enum-told c = search needs
@@ -59,7 +62,7 @@ returns-2 c =
     let s = x .before .before .before .before .before in
     let p = x .before .adjacent-of .result in
     let o = s .pre .1 .0 in
-    renew-gone (s .args .t .now) o p (s .args .v) (s .args .j) (x .before .adjacent-of .ensures) (free-absent (s .args .t .now) o p _ (sym (x .find .ensures) ∙ c .enum-told .given .1))
+    renew-gone (s .args .t .now) o p (s .args .v) (s .args .j) (x .before .adjacent-of .ensures) (at-free (s .args .t .now) (o .fits) p _ (sym (x .find .ensures) ∙ c .enum-told .given .1) .looked)
 
 same-length-3 : tie.Need-same-length-3
 same-length-3 c = search needs
@@ -70,7 +73,7 @@ returns-3 c =
     let s = x .before .before .before .before .before in
     let p = x .before .adjacent-of .result in
     let o = s .pre .1 .0 in
-    renew-gone (s .args .t .now) o p (s .args .v) (s .args .j) (x .before .adjacent-of .ensures) (full-absent (s .args .t .now) o p (sym (x .find .ensures) ∙ c .enum-told2 .given .1))
+    renew-gone (s .args .t .now) o p (s .args .v) (s .args .j) (x .before .adjacent-of .ensures) (at-full (s .args .t .now) (o .fits) p (sym (x .find .ensures) ∙ c .enum-told2 .given .1) .0)
 
 pub renew-spec : {M : Type 1} → statement M
 renew-spec =

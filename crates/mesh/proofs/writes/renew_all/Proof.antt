@@ -1,3 +1,4 @@
+-- `mesh::writes::renew_all` meets its promise. Assumes nothing.
 use mathlib.Core.Path.{_≡_, sym, _∙_, ap, subst}
 use mathlib.Core.List.{List}
 use Prim.Native.Nat.{ℕ, _≤_, _-_}
@@ -7,7 +8,7 @@ use borrow.Author.Needs.{needs}
 use Rattle.table.specs.Order.{InOrder}
 use Rattle.table.specs.Slots.{Table}
 use Rattle.mesh.proofs.writes.renew_all.Statement.{statement}
-use Rattle.mesh.specs.SubdivideLaws.{renewed-more, renewed-none, renewed-length, renewed-table}
+use Rattle.mesh.specs.WriteLaws.{renewed-more, renewed-none, renewed-length, renewed-table}
 use Rattle.mesh.specs.Subdivide.{renewOf, renewedTo}
 use Rattle.mesh.proofs.writes.renew_all.Tie as tie
 

@@ -1,8 +1,9 @@
+-- `mesh::writes::renew_slot` meets its promise. Assumes nothing.
 use borrow.Author.Needs.{needs}
 use mathlib.Core.Path.{sym, _∙_, ap}
 use Rattle.table.specs.Slots.{putSlot}
 use Rattle.mesh.proofs.writes.renew_slot.Statement.{statement}
-use Rattle.mesh.specs.SubdivideLaws.{renewHeld}
+use Rattle.mesh.specs.WriteLaws.{renewHeld}
 use Rattle.mesh.proofs.writes.renew_slot.Tie as tie
 
 read-slot-requires : tie.Need-read-slot-requires
