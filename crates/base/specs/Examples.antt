@@ -5,12 +5,16 @@ use mathlib.Core.List.{List, [], _∷_}
 use Prim.Native.Nat.{ℕ, _*_}
 use lib.IntN.{ℤ, pos, negsuc}
 use lib.ListN.{replicate}
+use lib.Dec.{eqb}
+use mathlib.Core.Bool.{cond}
 use Rattle.laws.specs.Words.{wordAt}
 use Rattle.lattice.specs.Points.{pt, normalOf, turns}
 use Rattle.table.specs.Search.{homeOf, samePoint, searchFrom, findOf}
-use Rattle.table.specs.Entries.{lookUp, enterOf}
+use Rattle.table.specs.Entries.{lookUp, enterOf, recordsBelow, recordsOf}
 use Rattle.table.specs.Slots.{slotWidth, slotsIn, freeAt, recordAt, slotAt, recordBytes, putSlot, freeBelow, freeSlots}
 use Rattle.table.specs.declared.entries.Looked.the-variants.{Held}
+use Rattle.lattice.specs.declared.points.Point.{Point}
+use Rattle.lattice.specs.declared.records.Record.{Record}
 use Rattle.base.specs.Base.{listedIn, firstBad, internal, cornerRecord, hexagonOf, layHexagon, layAll, laidOf, baseOf}
 
 empty : ℕ → List ℕ
@@ -27,13 +31,28 @@ three-laid :
 unfolding empty three baseOf firstBad laidOf layAll layHexagon hexagonOf cornerRecord internal listedIn normalOf turns lookUp enterOf findOf searchFrom slotAt freeAt recordAt putSlot recordBytes slotsIn homeOf samePoint wordAt freeBelow
 three-laid = (refl, refl, refl)
 
--- refused: too few slots; a length that doesn't fit; an odd list; 251; a remainder; a centre twice, the later one, though there is no room either
+-- the points of degree 6 among some records
+sixes : List Record → List Point
+sixes [] = []
+sixes (r ∷ rs) = cond (eqb (r .d) 6) (r .at ∷ sixes rs) (sixes rs)
+
+only-six : sixes (recordsOf (baseOf (empty 16) three .bytes)) ≡ pt (pos 1) (pos 0) 0 ∷ []
+unfolding sixes empty three recordsBelow baseOf firstBad laidOf layAll layHexagon hexagonOf cornerRecord internal listedIn normalOf turns enterOf findOf searchFrom slotAt freeAt recordAt putSlot recordBytes slotsIn homeOf samePoint wordAt
+only-six = refl
+
+-- a table before the call: no slot of it is free
+used : ℕ → List ℕ
+used n = replicate (slotWidth * n) 0
+
+-- "Centre 250 passes, 251 fails." Refused besides: too few slots; a length that doesn't fit, the table untouched; an odd list; a wrong remainder, though there is no room either;
+-- a centre twice, of which the later one is bad
 refused :
-    (baseOf (empty 16) (pos 0 ∷ pos 0 ∷ pos 30 ∷ pos 0 ∷ pos 60 ∷ pos 0 ∷ []) .number ≡ 8)
-    × (baseOf (empty 15) three ≡ record { number = 1; place = 0; bytes = empty 15 })
-    × (baseOf (empty 16) (pos 0 ∷ []) ≡ record { number = 2; place = 0; bytes = empty 16 })
-    × (baseOf (empty 16) (pos 0 ∷ pos 0 ∷ pos 251 ∷ negsuc 1 ∷ []) ≡ record { number = 2; place = 1; bytes = empty 16 })
-    × (baseOf (empty 16) (pos 0 ∷ pos 0 ∷ pos 30 ∷ pos 0 ∷ pos 60 ∷ pos 0 ∷ pos 1 ∷ pos 0 ∷ []) ≡ record { number = 2; place = 3; bytes = empty 16 })
-    × (baseOf (empty 16) (pos 0 ∷ pos 0 ∷ pos 3 ∷ pos 0 ∷ pos 0 ∷ pos 0 ∷ []) ≡ record { number = 2; place = 2; bytes = empty 16 })
-unfolding empty three baseOf firstBad laidOf layAll layHexagon hexagonOf cornerRecord internal listedIn normalOf turns lookUp enterOf findOf searchFrom slotAt freeAt recordAt putSlot recordBytes slotsIn homeOf samePoint wordAt freeBelow
-refused = (refl, refl, refl, refl, refl, refl)
+    (baseOf (used 16) (pos 250 ∷ pos 250 ∷ []) .number ≡ 0)
+    × (baseOf (used 16) (pos 0 ∷ pos 0 ∷ pos 251 ∷ negsuc 0 ∷ []) ≡ record { number = 2; place = 1; bytes = empty 16 })
+    × (baseOf (used 16) (pos 0 ∷ pos 0 ∷ pos 30 ∷ pos 0 ∷ pos 60 ∷ pos 0 ∷ []) ≡ record { number = 8; place = 0; bytes = empty 16 })
+    × (baseOf (used 15) three ≡ record { number = 1; place = 0; bytes = used 15 })
+    × (baseOf (used 16) (pos 0 ∷ []) ≡ record { number = 2; place = 0; bytes = empty 16 })
+    × (baseOf (used 16) (pos 0 ∷ pos 0 ∷ pos 30 ∷ pos 0 ∷ pos 60 ∷ pos 0 ∷ pos 1 ∷ pos 0 ∷ []) ≡ record { number = 2; place = 3; bytes = empty 16 })
+    × (baseOf (used 16) (pos 0 ∷ pos 0 ∷ pos 3 ∷ pos 0 ∷ pos 0 ∷ pos 0 ∷ []) ≡ record { number = 2; place = 2; bytes = empty 16 })
+unfolding empty used three baseOf firstBad laidOf layAll layHexagon hexagonOf cornerRecord internal listedIn normalOf turns enterOf findOf searchFrom slotAt freeAt recordAt putSlot recordBytes slotsIn homeOf samePoint wordAt
+refused = (refl, refl, refl, refl, refl, refl, refl)
