@@ -12,7 +12,7 @@ use Rattle.laws.specs.Rules.{upto, among}
 use Rattle.lattice.specs.Ranks.{classOf}
 use Rattle.lattice.specs.Points.{pt, turns, sumOf}
 use Rattle.table.specs.Search.{samePoint, findOf}
-use Rattle.table.specs.Entries.{enterOf, listed}
+use Rattle.table.specs.Entries.{enterOf}
 use Rattle.table.specs.Slots.{fitsLength, clearedOf}
 use Rattle.lattice.specs.declared.points.Point.{Point}
 use Rattle.lattice.specs.declared.records.Record.{Record}

@@ -23,7 +23,7 @@ use Rattle.lattice.specs.Ranks.{classOf}
 use Rattle.lattice.specs.Records.{suitsOf, validAt, validOf}
 use Rattle.lattice.specs.Points.{pt}
 use Rattle.table.specs.Search.{samePoint}
-use Rattle.table.specs.Entries.{lookUp, enterOf, listed, recordsOf}
+use Rattle.table.specs.Entries.{lookUp, enterOf, recordsOf}
 use Rattle.table.specs.Order.{InOrder}
 use Rattle.table.specs.SearchLaws.{same-refl, same-true}
 use Rattle.table.specs.Slots.{Table, slotsIn, slotsOf, clearedOf}

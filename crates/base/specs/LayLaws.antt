@@ -24,7 +24,7 @@ use Rattle.lattice.specs.declared.points.Point.{Point}
 use Rattle.lattice.specs.declared.records.Record.{Record}
 use Rattle.table.specs.Slots.{fitsLength, clearedOf}
 use Rattle.table.specs.Search.{findOf}
-use Rattle.table.specs.Entries.{enterAt, enterOf, listed}
+use Rattle.table.specs.Entries.{enterAt, enterOf}
 use Rattle.table.specs.declared.probe.Found.{Found}
 use Rattle.base.specs.Base.{centresIn, centreAt, isCentre, badPlace, cornerOf, internal, at0, cornerRecord, hexagonOf, Laid, Room, NoRoom, lay, layAt, layHexagon, layAll, laidOf, Base, outcome, fromLaid, unpaired, baseOf}
 use Rattle.base.specs.Marks.{Within, inMarks}

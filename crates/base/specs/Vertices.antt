@@ -1,7 +1,6 @@
 -- The points of a base and the record of each: what the laws for the floors above speak of.
 -- `inBase` the points of a base, `pointsIn` how many they are · `vertexOf` the record of a point · `GoodList` a list with nothing to refuse.
 -- Assumes nothing.
--- "Each centre gives itself and its six unit neighbours": point k of the hexagon at c
 use mathlib.Core.Path.{_≡_}
 use mathlib.Core.Bool.{Bool, true, false, cond, _||_}
 use mathlib.Core.List.{List}
@@ -10,12 +9,12 @@ use lib.Dec.{eqb}
 use lib.IntN.{ℤ}
 use Rattle.lattice.specs.Ranks.{classOf}
 use Rattle.table.specs.Search.{samePoint}
-use Rattle.table.specs.Entries.{listed}
 use Rattle.lattice.specs.declared.points.Point.{Point}
 use Rattle.lattice.specs.declared.records.Record.{Record}
 use Rattle.laws.specs.Rules.{among}
 use Rattle.base.specs.Base.{centreAt, centresIn, goodCentre, listedIn, cornerOf, centreRecord, cornerRecord, unpaired}
 
+-- "Each centre gives itself and its six unit neighbours": point k of the hexagon at c
 abbrev pub hexagonPoint : Point → ℕ → Point
 hexagonPoint c zero = c
 hexagonPoint c (suc j) = cornerOf c j
