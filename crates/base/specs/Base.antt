@@ -2,13 +2,13 @@
 -- `centreAt`, `isCentre` the centres of the list · `goodCentre`, `badAt`, `firstBad` the list judged · `cornerOf`, `internal`, `hexagonOf` the seven records of a hexagon ·
 -- `Laid`, `laidOf` all of them entered · `Base`, `baseOf` what the call answers.
 -- Assumes nothing.
-use mathlib.Core.Bool.{Bool, false, cond, _&&_, not, _||_}
+use mathlib.Core.Bool.{Bool, cond, _&&_, not, _||_}
 use mathlib.Core.List.{List}
 use Prim.Native.Nat.{ℕ, zero, suc, _+_, _*_, _%_, _/_}
 use lib.Dec.{eqb, ltb, leb}
 use lib.IntN.{ℤ, pos, natAbs}
 use lib.ListN.{length, getD}
-use Rattle.laws.specs.Rules.{upto}
+use Rattle.laws.specs.Rules.{upto, among}
 use Rattle.lattice.specs.Points.{classOf}
 use Rattle.lattice.specs.Points.{pt, turns, sumOf}
 use Rattle.table.specs.Search.{samePoint, findOf}
@@ -32,8 +32,7 @@ goodCentre p = leb (natAbs (p .a)) 250 && (leb (natAbs (p .b)) 250 && eqb (class
 
 -- the centre p is one of the first n of the list
 unfoldable pub listedIn : List ℤ → ℕ → Point → Bool
-listedIn cs zero p = false
-listedIn cs (suc n) p = samePoint (centreAt cs n) p || listedIn cs n p
+listedIn cs n p = among n (λ i. samePoint (centreAt cs i) p)
 
 -- the hexagons of a list, by their centres
 abbrev pub isCentre : List ℤ → Point → Bool

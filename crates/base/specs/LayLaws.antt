@@ -1,7 +1,7 @@
 -- The hexagons laid, step by step as the code goes.
 -- `corner-is` a corner by its numbers, `corner-within`, `centre-within` it is near · `corner-boundary`, `corner-six`, `corner-three`, `hexagon-centre`, `hexagon-corner` the records ·
--- `lay-there`, `lay-free`, `lay-full` one record · `hexagon-none`, `hexagon-more`, `hexagon-full` one hexagon · `all-none`, `all-more`, `all-full` the list · `base-unfit`, `base-unpaired`,
--- `base-bad`, `base-laid` what the call answers.
+-- `lay-there`, `lay-free`, `lay-full` one record · `hexagon-none`, `hexagon-more`, `hexagon-full` one hexagon · `all-none`, `all-more`, `all-full` the list · `base-by`, `base-unfit`,
+-- `base-unpaired`, `base-bad`, `base-laid` what the call answers.
 -- Assumes nothing.
 use mathlib.Core.Path.{_≡_, refl, sym, ap, _∙_, subst}
 use mathlib.Core.Bool.{Bool, true, false, cond, not, _||_}
@@ -24,9 +24,8 @@ use Rattle.lattice.specs.declared.points.Point.{Point}
 use Rattle.lattice.specs.declared.records.Record.{Record}
 use Rattle.table.specs.Slots.{fitsLength, clearedOf}
 use Rattle.table.specs.Search.{findOf}
-use Rattle.table.specs.Entries.{enterAt, enterOf, listed}
+use Rattle.table.specs.Entries.{enterAt, enterOf}
 use Rattle.table.specs.declared.probe.Found.{Found}
-use Rattle.lattice.specs.Places.{wide, high}
 use Rattle.base.specs.Base.{centresIn, centreAt, isCentre, badPlace, cornerOf, internal, at0, cornerRecord, hexagonOf, Laid, Room, NoRoom, lay, layAt, layHexagon, layAll, laidOf, Base, outcome, fromLaid, unpaired, baseOf}
 use Rattle.base.specs.Marks.{Within, inMarks}
 use Rattle.base.specs.MarkLaws.{good-is, marked-good, listed-at}
@@ -147,7 +146,7 @@ module _ (listed : Point → Bool) (p : Point) (x : Laid) where
 
 -- ---- all hexagons, in the order of the list
 
-hexagon-no-room : (listed : Point → Bool) (p : Point) (k : ℕ) → layHexagon listed p k NoRoom ≡ NoRoom
+pub hexagon-no-room : (listed : Point → Bool) (p : Point) (k : ℕ) → layHexagon listed p k NoRoom ≡ NoRoom
 hexagon-no-room listed p k = hexagon-full listed p NoRoom k 0 (let l : 0 ≤ k = omega arith in l) (hexagon-none listed p NoRoom)
 
 module _ (cs : List ℤ) (x : Laid) where
@@ -171,7 +170,8 @@ module _ (cs : List ℤ) (x : Laid) where
 -- ---- the call
 
 module _ (t : List ℕ) (cs : List ℤ) where
-  abbrev judged : Bool → Bool → Bool → Laid → Base
+  -- the outcome by the three judgements, and what was laid
+  abbrev pub judged : Bool → Bool → Bool → Laid → Base
   judged fit odd bad l =
       cond fit
       (cond odd (outcome 2 0 (clearedOf t))
@@ -179,23 +179,23 @@ module _ (t : List ℕ) (cs : List ℤ) where
       (fromLaid t l)))
       (outcome 1 0 t)
 
-  by : (fit odd bad : Bool) (l : Laid) → fitsLength (length t) ≡ fit → unpaired cs ≡ odd → ltb (badPlace cs) (centresIn cs) ≡ bad → laidOf t cs ≡ l → judged fit odd bad l ≡ baseOf t cs
+  pub base-by : (fit odd bad : Bool) (l : Laid) → fitsLength (length t) ≡ fit → unpaired cs ≡ odd → ltb (badPlace cs) (centresIn cs) ≡ bad → laidOf t cs ≡ l → judged fit odd bad l ≡ baseOf t cs
   unfolding baseOf
-  by fit odd bad l f o b e = sym (λ i. judged (f i) (o i) (b i) (e i))
+  base-by fit odd bad l f o b e = sym (λ i. judged (f i) (o i) (b i) (e i))
 
   pub base-unfit : fitsLength (length t) ≡ false → outcome 1 0 t ≡ baseOf t cs
-  base-unfit f = by false (unpaired cs) (ltb (badPlace cs) (centresIn cs)) (laidOf t cs) f refl refl refl
+  base-unfit f = base-by false (unpaired cs) (ltb (badPlace cs) (centresIn cs)) (laidOf t cs) f refl refl refl
 
   module _ (f : fitsLength (length t) ≡ true) where
     pub base-unpaired : unpaired cs ≡ true → outcome 2 0 (clearedOf t) ≡ baseOf t cs
-    base-unpaired o = by true true (ltb (badPlace cs) (centresIn cs)) (laidOf t cs) f o refl refl
+    base-unpaired o = base-by true true (ltb (badPlace cs) (centresIn cs)) (laidOf t cs) f o refl refl
 
     module _ (o : unpaired cs ≡ false) where
       pub base-bad : badPlace cs < centresIn cs → outcome 2 (badPlace cs) (clearedOf t) ≡ baseOf t cs
-      base-bad h = by true false true (laidOf t cs) f o (lt-ltb (badPlace cs) (centresIn cs) h) refl
+      base-bad h = base-by true false true (laidOf t cs) f o (lt-ltb (badPlace cs) (centresIn cs) h) refl
 
       pub base-laid : centresIn cs ≤ badPlace cs → (l : Laid) → l ≡ laidOf t cs → fromLaid t l ≡ baseOf t cs
-      base-laid h l e = by true false false l f o (le-ltb (badPlace cs) (centresIn cs) h) (sym e)
+      base-laid h l e = base-by true false false l f o (le-ltb (badPlace cs) (centresIn cs) h) (sym e)
 
   pub laid-is : layAll cs (centresIn cs) (Room (clearedOf t)) ≡ laidOf t cs
   unfolding laidOf

@@ -6,3 +6,7 @@ pub mod Marks
 -- their laws
 pub mod MarkLaws
 pub mod LayLaws
+-- what the floors above cite
+pub mod Vertices
+pub mod HoldLaws
+pub mod BaseLaws

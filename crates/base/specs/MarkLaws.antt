@@ -1,7 +1,7 @@
 -- The marks, and the list of centres that they stand for.
 -- `mark-clear`, `mark-adds` one bit more · `Good`, `good-is`, `reach-is` what a good centre has · `raised-is`, `number-below`, `number-one` its place, and that no two have one · `marks-none`, `marks-more` the marks are the
 -- first centres of the list, one after the other · `marked-is`, `unmarked-is`, `listed-marked`, `marked-good`, `bad-range`, `bad-listed` what the code's tests say of a centre · `first-none`, `first-stop`,
--- `first-good` the search for the first bad one · `listed-at` a centre of the list is listed.
+-- `first-good` the search for the first bad one · `first-past`, `none-bad`, `not-bad`, `is-good` none is · `listed-at`, `listed-is` what is listed.
 -- Assumes nothing.
 use mathlib.Core.Path.{_≡_, refl, sym, ap, _∙_, subst}
 use mathlib.Core.Bool.{Bool, true, false, cond, _&&_, _||_, not}
@@ -17,7 +17,7 @@ use lib.ListN.{length, getD, set, replicate, length-set, length-replicate}
 use lib.Seq.{getD-set-same, getD-set-other}
 use lib.Signed.{leZ}
 use Rattle.laws.specs.Bits.{bitOf, bit-set}
-use Rattle.laws.specs.Each.{both-left, both-right, not-both, and-false}
+use Rattle.laws.specs.Each.{both-left, both-right, not-both, and-false, among-at, at-among}
 use Rattle.laws.specs.Parts.{up, dn, apart, abs-is, add-is, eqℤ}
 use Rattle.laws.specs.Residue.{modZ, left3-parts, left3-minus, mod-below}
 use Rattle.lattice.specs.Points.{pt}
@@ -256,16 +256,44 @@ module _ (cs : List ℤ) (i : ℕ) where
       let e : n ≡ suc n - 1 = omega arith in
       ap (λ (b : Bool). cond b i (firstBad cs (i + 1) n)) h ∙ ap (firstBad cs (i + 1)) e
 
+-- where none is bad, the first bad one lies past the last
+pub first-past : (cs : List ℤ) (left i : ℕ) → ((k : ℕ) → i ≤ k → k < i + left → badAt cs k ≡ false) → firstBad cs i left ≡ i + left
+unfolding firstBad
+first-past cs zero i h = let e : i ≡ i + 0 = omega arith in e
+first-past cs (suc n) i h =
+    let e : i + 1 + n ≡ i + suc n = omega arith in
+    ap (λ (b : Bool). cond b i (firstBad cs (i + 1) n)) (h i (omega arith) (omega arith)) ∙ first-past cs n (i + 1) (λ k l m. h k (omega arith) (omega arith)) ∙ e
+
+-- where the first bad one lies past the last, none is bad
+pub none-bad : (cs : List ℤ) (left i : ℕ) → i + left ≤ firstBad cs i left → (k : ℕ) → i ≤ k → k < i + left → badAt cs k ≡ false
+unfolding firstBad
+none-bad cs zero i h k l m = absurd (omega arith)
+none-bad cs (suc n) i h k l m = go (badAt cs i) refl h (λ z. none-bad cs n (i + 1) z)
+  where
+    go : (b : Bool) → badAt cs i ≡ b → i + suc n ≤ cond b i (firstBad cs (i + 1) n) → (i + 1 + n ≤ firstBad cs (i + 1) n → (j : ℕ) → i + 1 ≤ j → j < i + 1 + n → badAt cs j ≡ false) → badAt cs k ≡ false
+    go true e h ih = absurd (omega arith)
+    go false e h ih = at (ℕ-discrete i k)
+      where
+        at : Dec (i ≡ k) → badAt cs k ≡ false
+        at (yes q) = ap (badAt cs) (sym q) ∙ e
+        at (no q) = ih (omega arith) k (omega arith) (omega arith)
+
+pub not-bad : (cs : List ℤ) (i : ℕ) → badAt cs i ≡ false → (goodCentre (centreAt cs i) ≡ true) × (listedIn cs i (centreAt cs i) ≡ false)
+not-bad cs i h = go (goodCentre (centreAt cs i)) refl h
+  where
+    go : (g : Bool) → goodCentre (centreAt cs i) ≡ g → not g || listedIn cs i (centreAt cs i) ≡ false → (goodCentre (centreAt cs i) ≡ true) × (listedIn cs i (centreAt cs i) ≡ false)
+    go true e k = (e, k)
+    go false e k = absurd (not-both refl k)
+
+pub is-good : (cs : List ℤ) (i : ℕ) → goodCentre (centreAt cs i) ≡ true → listedIn cs i (centreAt cs i) ≡ false → badAt cs i ≡ false
+is-good cs i g l = (λ k. not (g k) || l k)
+
 -- a centre of the list is listed
 pub listed-at : (cs : List ℤ) (n i : ℕ) → i < n → listedIn cs n (centreAt cs i) ≡ true
 unfolding listedIn
-listed-at cs zero i h = absurd (omega arith)
-listed-at cs (suc n) i h = go (ℕ-discrete n i) (λ l. listed-at cs n i l)
-  where
-    or-true : (a b : Bool) → b ≡ true → a || b ≡ true
-    or-true true b h = refl
-    or-true false b h = h
+listed-at cs n i h = at-among (λ k. samePoint (centreAt cs k) (centreAt cs i)) n i h (same-refl (centreAt cs i))
 
-    go : Dec (n ≡ i) → (i < n → listedIn cs n (centreAt cs i) ≡ true) → samePoint (centreAt cs n) (centreAt cs i) || listedIn cs n (centreAt cs i) ≡ true
-    go (yes e) ih = ap (λ (b : Bool). b || listedIn cs n (centreAt cs i)) (ap (λ (k : ℕ). samePoint (centreAt cs k) (centreAt cs i)) e ∙ same-refl (centreAt cs i))
-    go (no e) ih = or-true (samePoint (centreAt cs n) (centreAt cs i)) (listedIn cs n (centreAt cs i)) (ih (omega arith))
+-- and what is listed is a centre of the list
+pub listed-is : (cs : List ℤ) (n : ℕ) (p : Point) → listedIn cs n p ≡ true → (i : ℕ) × (i < n) × (centreAt cs i ≡ p)
+unfolding listedIn
+listed-is cs n p h = let x = among-at (λ k. samePoint (centreAt cs k) p) n h in (x .0, x .1, same-true (centreAt cs (x .0)) p (x .2))

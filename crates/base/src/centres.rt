@@ -14,11 +14,18 @@ use lattice::Depth;
 use lattice::Point;
 use lattice::class;
 
+// The range of a centre's numbers, and how many numbers b there can be beside an a.
+const LEAST: i32 = -250;
+
+const MOST: i32 = 250;
+
+const BESIDE: usize = 167;
+
 // A number lies in -250..250.
 fn in_reach(x: i32) -> bool
     ensures { λ r. ⌜ r ≡ leb (natAbs x) 250 ⌝ }
 {
-    (-250 <= x) & (x <= 250)
+    (LEAST <= x) & (x <= MOST)
 }
 
 // A centre in range, whose a - b is divisible by 3.
@@ -43,9 +50,9 @@ fn number(p: Point) -> usize
     requires { ⌜ goodCentre p ≡ true ⌝ }
     ensures { λ r. ⌜ (r ≡ numberOf p) × (r < places) ⌝ }
 {
-    let x = (p.a + 250) as usize;
-    let y = (p.b + 250) as usize;
-    x * 167 + y / 3
+    let x = (p.a + MOST) as usize;
+    let y = (p.b + MOST) as usize;
+    x * BESIDE + y / 3
 }
 
 // A point of depth 0 is one of the marked centres.

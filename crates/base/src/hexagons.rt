@@ -16,6 +16,11 @@ use lattice::class;
 use table::Found;
 use table::enter;
 
+// A hexagon has six corners, and a record more: its centre's.
+const CORNERS: usize = 6;
+
+const RECORDS: usize = 7;
+
 // The steps from a centre to its corners, 60 degrees each.
 const STEP_A: [i32; 6] = [1, 0, -1, -1, 0, 1];
 
@@ -48,7 +53,7 @@ fn is_internal(marks: &[u8; MARK_BYTES], q: Point) -> bool
     ensures { λ r. ⌜ r ≡ internal (inMarks (now (marks .entry))) q ⌝ }
 {
     let mut j = 0;
-    while j < 6 {
+    while j < CORNERS {
         if hexagon_marked(marks, corner(q, j)) {
             j += 1;
         } else {
@@ -114,7 +119,7 @@ fn lay_hexagon(table: &mut [u8], n: usize, marks: &[u8; MARK_BYTES], p: Point) -
     ensures { λ v. ⌜ laidBy v (now (table .exit)) ≡ layHexagon (inMarks (now (marks .entry))) p 7 (Room (now (table .entry))) ⌝ }
 {
     let mut k = 0;
-    while k < 7 {
+    while k < RECORDS {
         if lay_record(table, n, hexagon_record(marks, p, k)) {
             k += 1;
         } else {

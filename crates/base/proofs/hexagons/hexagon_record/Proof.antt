@@ -3,7 +3,6 @@ use borrow.Author.Needs.{needs}
 use mathlib.Core.Path.{sym, _∙_, ap, subst}
 use native.Mathlib.Omega.{arith}
 use Prim.Native.Nat.{_-_}
-use Rattle.lattice.specs.Places.{wide, high}
 use Rattle.base.proofs.hexagons.hexagon_record.Statement.{statement}
 use Rattle.base.specs.Marks.{inMarks, Within}
 use Rattle.base.specs.Base.{cornerRecord}
