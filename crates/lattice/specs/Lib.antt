@@ -17,3 +17,5 @@ pub mod Places
 pub mod GeometryLaws
 pub mod SideLaws
 pub mod SubdivisionLaws
+pub mod RankLaws
+pub mod RankSteps
