@@ -14,7 +14,9 @@ pub mod Flat
 pub mod PatternLaws
 pub mod StarLaws
 pub mod Places
-pub mod RankLaws
+pub mod RankBounds
 pub mod GeometryLaws
 pub mod SideLaws
 pub mod SubdivisionLaws
+pub mod RankLaws
+pub mod RankSteps

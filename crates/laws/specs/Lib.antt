@@ -1,10 +1,11 @@
 -- Laws that every floor cites; each file opens with an index of what it holds.
--- whole numbers for `omega`: Parts, Sizes, Linear, Multiples, Residue
+-- whole numbers for `omega`: Parts, Sizes, Linear, Multiples, Residue, Thirds
 pub mod Parts
 pub mod Sizes
 pub mod Linear
 pub mod Multiples
 pub mod Residue
+pub mod Thirds
 -- what the machine makes of them: Machine, Flags, Signs
 pub mod Machine
 pub mod Flags

@@ -6,7 +6,9 @@ use table::Slot;
 use table::read_slot;
 
 const SLOTS: usize = 40;
+
 const SLOT_WIDTH: usize = 12;
+
 const LINE_ROOM: usize = 64;
 
 // The first n bytes of a line.

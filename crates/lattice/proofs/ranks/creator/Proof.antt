@@ -5,7 +5,7 @@ use Prim.Native.Nat.{ℕ, _≤_, _<_, _-_}
 use native.Mathlib.Omega.{arith}
 use Rattle.lattice.proofs.ranks.creator.Statement.{statement}
 use Rattle.lattice.specs.Ranks.{rankOf, parentOf}
-use Rattle.lattice.specs.RankLaws.{parent-depth, creator-0, creator-1, creator-2}
+use Rattle.lattice.specs.RankBounds.{parent-depth, creator-0, creator-1, creator-2}
 use Rattle.lattice.specs.declared.points.Point.{Point}
 use Rattle.lattice.proofs.ranks.creator.Tie as tie
 

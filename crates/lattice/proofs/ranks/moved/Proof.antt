@@ -4,7 +4,7 @@ use mathlib.Core.Path.{sym, _∙_, ap, subst}
 use Rattle.lattice.proofs.ranks.moved.Statement.{statement}
 use Rattle.lattice.specs.Stars.{stepOf}
 use Rattle.lattice.specs.Ranks.{level}
-use Rattle.lattice.specs.RankLaws.{move-place, move-near}
+use Rattle.lattice.specs.RankBounds.{move-place, move-near}
 use Rattle.lattice.specs.Bounds.{Near}
 use Rattle.lattice.proofs.ranks.moved.Tie as tie
 

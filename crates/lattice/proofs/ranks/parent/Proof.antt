@@ -5,7 +5,7 @@ use Prim.Native.Nat.{_+_, _*_, _-_}
 use native.Mathlib.Omega.{arith}
 use Rattle.lattice.proofs.ranks.parent.Statement.{statement}
 use Rattle.lattice.specs.Ranks.{moveOf, parentOf}
-use Rattle.lattice.specs.RankLaws.{rank-top, birth-below, birth-parity}
+use Rattle.lattice.specs.RankBounds.{rank-top, birth-below, birth-parity}
 use Rattle.lattice.proofs.ranks.parent.Tie as tie
 
 birth-requires : tie.Need-birth-requires
