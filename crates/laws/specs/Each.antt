@@ -1,6 +1,6 @@
 -- A test of each number below n, or of one of them, as an equation of truth values: `upto` and `among` of Rules.
--- `upto-more`, `upto-fails` a loop's one step · `upto-each`, `each-upto` what it says · `among-at`, `at-among` the same of `among` · `both-left`, `both-right`, `and-false` conjunctions · `not-both` true is not
--- false · `true-fact`, `fact-true` the same as `T` · `same-test` two tests that pass together are one.
+-- `upto-more`, `upto-fails` a loop's one step · `upto-each`, `each-upto` what it says · `among-at`, `at-among` the same of `among` · `both-left`, `both-right`, `and-false` conjunctions · `not-both`, `never` true
+-- is not false · `true-fact`, `fact-true` the same as `T` · `same-test` two tests that pass together are one.
 -- Assumes nothing.
 use mathlib.Core.Path.{_≡_, refl, sym, _∙_, ap}
 use mathlib.Core.Bool.{Bool, true, false, _&&_, _||_}
@@ -12,6 +12,9 @@ use Rattle.laws.specs.Rules.{upto, among}
 
 pub not-both : {b : Bool} → b ≡ true → b ≡ false → ⊥
 not-both h k = let q : _≡_ {A = ℕ} 0 1 = cc in omega arith
+
+pub never : false ≡ true → ⊥
+never h = not-both h refl
 
 pub both-left : (a b : Bool) → a && b ≡ true → a ≡ true
 both-left true b h = refl

@@ -10,9 +10,8 @@ pub mod Thirds
 pub mod Machine
 pub mod Flags
 pub mod Signs
--- truth values, computed tables: Bools, Truths, Choices, Rules, Each
+-- truth values, computed tables: Bools, Choices, Rules, Each
 pub mod Bools
-pub mod Truths
 pub mod Choices
 pub mod Rules
 pub mod Each

@@ -17,7 +17,7 @@ use lib.ListN.{length, getD, set, length-append, List·getD-append}
 use lib.Seq.{sets}
 use Rattle.laws.specs.Sets.{sets-append}
 use Rattle.laws.specs.Stores.{set-sets}
-use Rattle.laws.specs.Truths.{never, both-left, both-right}
+use Rattle.laws.specs.Each.{never, both-left, both-right}
 use Rattle.text.specs.Decimal.{minus, digit, digitsBy, digits, numeral}
 use Rattle.text.specs.Reading.{isDigit, value, plain}
 

@@ -12,7 +12,7 @@ use lib.Dec.{leb}
 use lib.IntN.{ℤ, natAbs}
 use lib.ListN.{length, drop, length-append, length-drop}
 use lib.Seq.{drop-append-seam}
-use Rattle.laws.specs.Truths.{never}
+use Rattle.laws.specs.Each.{never}
 use Rattle.lattice.specs.Points.{pt}
 use Rattle.lattice.specs.Records.{validOf}
 use Rattle.lattice.specs.declared.points.Point.{Point}

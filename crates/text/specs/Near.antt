@@ -9,7 +9,7 @@ use native.Mathlib.Nat.{le-trans, mul-le-mul-left, pow-le-pow-right}
 use borrow.Author.Tests.{leb-true, ltb-true, eqb-true}
 use lib.Dec.{eqb, ltb, leb, lit<, lit≤}
 use lib.IntN.{ℤ, natAbs}
-use Rattle.laws.specs.Truths.{both-left, both-right}
+use Rattle.laws.specs.Each.{both-left, both-right}
 use Rattle.lattice.specs.Points.{normalAt}
 use Rattle.lattice.specs.Records.{within, orientationsOf, sameParity, suitsOf, validOf}
 use Rattle.lattice.specs.declared.records.Record.{Record}

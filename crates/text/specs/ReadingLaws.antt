@@ -14,7 +14,7 @@ use lib.Dec.{eqb, ltb, leb}
 use lib.IntN.{ℤ, negℤ, pos, negsuc, natAbs}
 use lib.ListN.{length, getD, drop, length-append, drop-of-length-le}
 use lib.Seq.{drop-nil, drop-cons, drop-drop, drop-append-seam, append-snoc}
-use Rattle.laws.specs.Truths.{never, both-left, both-right}
+use Rattle.laws.specs.Each.{never, both-left, both-right}
 use Rattle.text.specs.Decimal.{digits, numeral, ended, minus}
 use Rattle.text.specs.Reading.{isDigit, run, value, plain, plainly, begins, numberOf, numberAt, asWhole, asMinus, signedAt}
 use Rattle.text.specs.DecimalLaws.{Digits, none, more, digits-are, digits-some, digits-value, value-digits, value-grows, digits-plain, digit-low}
