@@ -29,7 +29,7 @@ corner-below : (c : tie.In-loop Inv-loop μ-loop) → c .before .loop .j < 6
 corner-below c = let s = c .before .before .before .before in omega (arith, asked-inner (s .pre) .top, c .loop-test .taken)
 
 chosen-requires : tie.Need-chosen-requires Inv-loop μ-loop
-chosen-requires c κs = let s = c .before .before .before .before in (s .pre .table, (asked-inner (s .pre), c .loop-test .taken))
+chosen-requires c κs = let s = c .before .before .before .before in (s .pre .table, (asked-inner (s .pre), omega (arith, c .loop-test .taken)))
 
 mul-points : tie.Need-mul-points Inv-loop μ-loop
 mul-points c = record { fits = omega (arith, corner-below (c .before .before .before .before)) }
