@@ -2,6 +2,7 @@
 pub mod Queries
 -- what the promises of the functions below cite besides
 pub mod Vertices
+pub mod Opposites
 -- their laws
 pub mod QueryLaws
 -- examples that compute

@@ -1,7 +1,7 @@
 -- The laws of the queries. For the reader: `neighbours-spelling`, `faces-spelling` two spellings of one point get the same answer.
 -- For the code: `vertex-refused`, `vertex-looked` the ways of `found`, `vertex-asked`, `asked-inner` what is known of a vertex that it finds · `neighbours-vertex`, `faces-vertex` a query is what
--- follows the vertex · `chosen-either` the opposite of a corner · `firstOnes`, `ones-more` six points, filled one by one · `neighbours-whole`, `neighbours-torn` and
--- `hasOpposite`, `opposite`, `faces-torn`, `faces-cornerless`, `faces-whole` the answers.
+-- follows the vertex · `chosen-either` the opposite of a corner · `firstOnes`, `ones-more` six points, filled one by one · `hasOpposite`, `opposite`,
+-- `faces-torn`, `faces-cornerless`, `faces-whole` the ways through the corners.
 -- Assumes nothing.
 use mathlib.Core.Path.{_≡_, refl, sym, ap, _∙_, subst}
 use mathlib.Core.Bool.{Bool, true, false, cond, _&&_}
@@ -17,7 +17,7 @@ use Rattle.laws.specs.Each.{and-false, true-fact, upto-fails}
 use Rattle.lattice.specs.Points.{normalOf}
 use Rattle.lattice.specs.Records.{validOf}
 use Rattle.lattice.specs.RecordLaws.{Inner, inner}
-use Rattle.lattice.specs.Stars.{firstAt, secondAt, nowhere, refused, given}
+use Rattle.lattice.specs.Stars.{firstAt, secondAt, nowhere, refused}
 use Rattle.lattice.specs.declared.points.Point.{Point}
 use Rattle.lattice.specs.declared.records.Record.{Record}
 use Rattle.lattice.specs.declared.stars.Answer.{Answer}
@@ -28,10 +28,9 @@ use Rattle.table.specs.Order.{inOrderOf, InOrder}
 use Rattle.table.specs.MapLaws.{lookup-valid, test-order, order-table}
 use Rattle.table.specs.declared.entries.Looked.{Looked}
 use Rattle.table.specs.declared.entries.Looked.the-variants.{Absent, Held}
-use Rattle.laws.specs.Linear.{same}
-use Rattle.lattice.specs.Flat.{table}
-use Rattle.queries.specs.Queries.{adjacentsThere, there, chosenAt, isAt, cornersThere, pointOr0, facesGiven, neighboursAt, facesAt, queryLooked, queryOf, neighboursOf, facesOf}
-use Rattle.queries.specs.Vertices.{vertexLooked, vertexOf, answerOf, Asked, orElse, eitherIn}
+use Rattle.queries.specs.Queries.{there, chosenAt, isAt, cornersThere, pointOr0, facesGiven, neighboursAt, facesAt, queryLooked, queryOf, neighboursOf, facesOf}
+use Rattle.queries.specs.Vertices.{vertexLooked, vertexOf, answerOf, Asked}
+use Rattle.queries.specs.Opposites.{orElse, eitherIn, facesIf}
 use Rattle.queries.specs.declared.vertices.Vertex.{Vertex}
 use Rattle.queries.specs.declared.vertices.Vertex.the-variants.{Refused, Star}
 
@@ -139,15 +138,9 @@ ones-more f j h p e = ap (set (firstOnes f j) j) e ∙ go j h
     go (suc (suc (suc (suc (suc zero))))) h = refl
     go (suc (suc (suc (suc (suc (suc j)))))) h = absurd (omega arith)
 
--- ---- the answers
+-- ---- the faces
 
 module _ (t : List ℕ) (v : Record) where
-  pub neighbours-whole : adjacentsThere t v ≡ true → given v ≡ neighboursAt t v
-  neighbours-whole h = ap (λ (z : Bool). cond z (given v) (refused 7)) (sym h)
-
-  pub neighbours-torn : adjacentsThere t v ≡ false → refused 7 ≡ neighboursAt t v
-  neighbours-torn h = ap (λ (z : Bool). cond z (given v) (refused 7)) (sym h)
-
   -- corner j has an opposite in the table, and which
   abbrev pub hasOpposite : ℕ → Bool
   hasOpposite j = isAt (chosenAt t v j)
@@ -155,18 +148,14 @@ module _ (t : List ℕ) (v : Record) where
   abbrev pub opposite : ℕ → Point
   opposite j = pointOr0 (chosenAt t v j)
 
-  -- the answer by the two tests
-  abbrev byTests : Bool → Bool → Answer
-  byTests x y = cond (x && y) (facesGiven t v) (refused 7)
+  pub faces-torn : (whole : Bool) → whole ≡ false → refused 7 ≡ facesIf t v whole
+  faces-torn whole h = ap (facesIf t v) (sym h)
 
-  pub faces-torn : adjacentsThere t v ≡ false → refused 7 ≡ facesAt t v
-  faces-torn a = ap (λ (x : Bool). byTests x (cornersThere t v)) (sym a)
-
-  pub faces-cornerless : (j : ℕ) → j < v .d → hasOpposite j ≡ false → refused 7 ≡ facesAt t v
+  pub faces-cornerless : (whole : Bool) (j : ℕ) → j < v .d → hasOpposite j ≡ false → refused 7 ≡ facesIf t v whole
   unfolding cornersThere
-  faces-cornerless j h e =
-      ap (λ (z : Bool). cond z (facesGiven t v) (refused 7)) (sym (and-false (adjacentsThere t v))) ∙ ap (byTests (adjacentsThere t v)) (sym (upto-fails hasOpposite j (v .d) h e))
+  faces-cornerless whole j h e =
+      ap (λ (z : Bool). cond z (facesGiven t v) (refused 7)) (sym (and-false whole) ∙ ap (λ (y : Bool). whole && y) (sym (upto-fails hasOpposite j (v .d) h e)))
 
-  pub faces-whole : adjacentsThere t v ≡ true → upto (v .d) hasOpposite ≡ true → (ps : List Point) → ps ≡ firstOnes opposite (v .d) → answerWith (v .d) ps ≡ facesAt t v
+  pub faces-whole : (whole : Bool) → whole ≡ true → upto (v .d) hasOpposite ≡ true → (ps : List Point) → ps ≡ firstOnes opposite (v .d) → answerWith (v .d) ps ≡ facesIf t v whole
   unfolding cornersThere
-  faces-whole a b ps e = ap (answerWith (v .d)) e ∙ ap (byTests true) (sym b) ∙ ap (λ (x : Bool). byTests x (cornersThere t v)) (sym a)
+  faces-whole whole h b ps e = ap (answerWith (v .d)) e ∙ ap (λ (y : Bool). cond y (facesGiven t v) (refused 7)) (sym b) ∙ ap (facesIf t v) (sym h)

@@ -1,5 +1,5 @@
--- What the promises below the two calls cite besides Queries: `vertexOf` the vertex that is asked, or the number of a refusal · `answerOf` what a query answers then (QueryLaws:
--- `query-vertex`) · `Asked` what is known of the vertex and its table · `eitherIn` the first of two points that is in the table.
+-- What both queries begin with, as `found` promises it: `vertexOf` the vertex that is asked, or the number of a refusal · `answerOf` what a query answers then (QueryLaws:
+-- `neighbours-vertex`, `faces-vertex`) · `Asked` what is known of the vertex and its table.
 -- Assumes nothing.
 use mathlib.Core.Path.{_≡_}
 use mathlib.Core.Bool.{true, cond}
@@ -17,9 +17,6 @@ use Rattle.table.specs.Entries.{lookUp}
 use Rattle.table.specs.Order.{inOrderOf}
 use Rattle.table.specs.declared.entries.Looked.{Looked}
 use Rattle.table.specs.declared.entries.Looked.the-variants.{Absent, Held}
-use Rattle.lattice.specs.declared.patterns.Spot.{Spot}
-use Rattle.lattice.specs.declared.patterns.Spot.the-variants.{At, Nothing}
-use Rattle.queries.specs.Queries.{there}
 use Rattle.queries.specs.declared.vertices.Vertex.{Vertex}
 use Rattle.queries.specs.declared.vertices.Vertex.the-variants.{Refused, Star}
 
@@ -42,11 +39,3 @@ pub record Asked (t : List ℕ) (n : ℕ) (v : Record) : Type 0 where
   pub table : Table t n
   pub valid : validOf v ≡ true
   pub inside : v .d ≡ 0 → ⊥
-
--- p if it is in the table, else q if it is (QueryLaws: `chosen-either`)
-abbrev pub orElse : Spot → Spot → Spot
-orElse (At p) q = At p
-orElse Nothing q = q
-
-abbrev pub eitherIn : List ℕ → Spot → Spot → Spot
-eitherIn t p q = orElse (there t p) (there t q)

@@ -1,7 +1,11 @@
 // The two calls. Refused, they answer count 0 and all zeros, as the star call does.
 ghost use mathlib.Core.Path.{_≡_};
-ghost use Rattle.queries.specs.Queries.{neighboursAt, facesAt, neighboursOf, facesOf};
+ghost use mathlib.Core.Bool.{true, cond};
+ghost use Rattle.lattice.specs.Records.{validOf};
+ghost use Rattle.lattice.specs.Stars.{refused, given};
+ghost use Rattle.queries.specs.Queries.{neighboursOf, facesOf};
 ghost use Rattle.queries.specs.Vertices.{Asked};
+ghost use Rattle.queries.specs.Opposites.{facesIf};
 use crate::opposites::adjacents_there;
 use crate::opposites::chosen;
 use crate::vertices::Vertex;
@@ -18,24 +22,20 @@ use table::slots_of;
 // Document 01's number for a star that the table does not hold whole.
 const TORN: u8 = 7;
 
-// The neighbours of a vertex: its star, if each of its adjacent points is in the table.
-fn neighbours_of(t: &[u8], v: Record, n: usize) -> Answer
-    requires { ⌜ Asked (now t) n v ⌝ }
-    ensures { λ r. ⌜ r ≡ neighboursAt (now (t .entry)) v ⌝ }
+// The neighbours of a vertex: its star, if that is whole, each adjacent point being in the table.
+fn neighbours_of(v: Record, whole: bool) -> Answer
+    requires { ⌜ (validOf v ≡ true) × (v .d ≡ 0 → ⊥) ⌝ }
+    ensures { λ r. ⌜ r ≡ cond whole (given v) (refused 7) ⌝ }
 {
-    if adjacents_there(t, v, n) {
-        star(v)
-    } else {
-        refuse(TORN)
-    }
+    if whole { star(v) } else { refuse(TORN) }
 }
 
-// The faces round a vertex: the chosen opposite of each corner. One pass over the corners, that ends at the first with none.
-fn faces_of(t: &[u8], v: Record, n: usize) -> Answer
+// The faces round a vertex whose star is whole: the chosen opposite of each corner. One pass over the corners, that ends at the first with none.
+fn faces_of(t: &[u8], v: Record, whole: bool, n: usize) -> Answer
     requires { ⌜ Asked (now t) n v ⌝ }
-    ensures { λ r. ⌜ r ≡ facesAt (now (t .entry)) v ⌝ }
+    ensures { λ r. ⌜ r ≡ facesIf (now (t .entry)) v whole ⌝ }
 {
-    if !adjacents_there(t, v, n) {
+    if !whole {
         return refuse(TORN);
     }
     let d = v.d;
@@ -69,7 +69,11 @@ pub fn neighbours(table: &[u8], a: i32, b: i32, m: u8) -> Answer
 {
     match found(table, a, b, m) {
         Vertex::Refused(number) => refuse(number),
-        Vertex::Star(v) => neighbours_of(table, v, slots_of(table)),
+        Vertex::Star(v) => {
+            let n = slots_of(table);
+            let whole = adjacents_there(table, v, n);
+            neighbours_of(v, whole)
+        }
     }
 }
 
@@ -80,6 +84,10 @@ pub fn faces(table: &[u8], a: i32, b: i32, m: u8) -> Answer
 {
     match found(table, a, b, m) {
         Vertex::Refused(number) => refuse(number),
-        Vertex::Star(v) => faces_of(table, v, slots_of(table)),
+        Vertex::Star(v) => {
+            let n = slots_of(table);
+            let whole = adjacents_there(table, v, n);
+            faces_of(table, v, whole, n)
+        }
     }
 }

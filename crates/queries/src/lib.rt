@@ -2,7 +2,7 @@
 //
 // Two public calls answer every input and change no byte: `neighbours` and `faces`. Both answer as `star` does, with the numbers 1, 3, 14 and 7 in that order.
 // The in-order test reads the whole table at each call. After it come at most 19 searches: the vertex, six adjacent points, two opposites at each of six corners.
-// The promises cite specs/: Queries.
+// The promises of the two cite specs/: Queries.
 mod answers;
 mod opposites;
 mod vertices;

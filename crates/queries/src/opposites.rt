@@ -6,7 +6,7 @@ ghost use Rattle.lattice.specs.Stars.{adjacentAt};
 ghost use Rattle.table.specs.Slots.{Table};
 ghost use Rattle.table.specs.Entries.{holds};
 ghost use Rattle.queries.specs.Queries.{adjacentsThere, there, chosenAt};
-ghost use Rattle.queries.specs.Vertices.{eitherIn};
+ghost use Rattle.queries.specs.Opposites.{eitherIn};
 use lattice::Point;
 use lattice::Record;
 use lattice::Spot;

@@ -1,10 +1,11 @@
 -- `queries::faces` meets its promise: by the vertex that was found. Assumes nothing.
-use mathlib.Core.Path.{_≡_, _∙_}
+use mathlib.Core.Path.{_≡_, ap, _∙_}
 use borrow.Author.Needs.{needs}
 use Rattle.laws.specs.Machine.{asked₂}
 use Rattle.queries.specs.Queries.{facesAt, facesOf}
-use Rattle.queries.specs.Vertices.{vertexOf, answerOf}
-use Rattle.queries.specs.QueryLaws.{vertex-asked, faces-vertex}
+use Rattle.queries.specs.Vertices.{vertexOf, answerOf, Asked}
+use Rattle.queries.specs.Opposites.{facesIf}
+use Rattle.queries.specs.QueryLaws.{vertex-asked, asked-inner, faces-vertex}
 use Rattle.queries.specs.declared.vertices.Vertex.{Vertex}
 use Rattle.queries.specs.declared.vertices.Vertex.the-variants.{Refused, Star}
 use Rattle.queries.proofs.answers.faces.Statement.{statement}
@@ -21,11 +22,17 @@ module _ (c : tie.After-found) where
   follows : (w : Vertex) → c .found .result ≡ w → answerOf (facesAt (start .args .table .now)) w ≡ facesOf (start .args .table .now) (start .args .a) (start .args .b) (start .args .m)
   follows w e = faces-vertex (start .args .table .now) (start .args .a) (start .args .b) (start .args .m) w (vertex w e)
 
-faces-of-requires : tie.Need-faces-of-requires
-faces-of-requires c κs =
+-- what is known of a vertex that has a star
+asked-there : (c : tie.After-slots-of) → Asked (start (c .before .before .before .before) .args .table .now) (c .slots-of .result) (c .before .before .v .given .0 .0)
+asked-there c =
     let k = c .before .before in
-    let f = k .before .before in
-    vertex-asked _ _ _ _ (k .v .given .0 .0) (vertex f (Star (k .v .given .0 .0)) (k .v .given .1)) _ (c .slots-of .ensures)
+    vertex-asked _ _ _ _ (k .v .given .0 .0) (vertex (k .before .before) (Star (k .v .given .0 .0)) (k .v .given .1)) _ (c .slots-of .ensures)
+
+adjacents-there-requires : tie.Need-adjacents-there-requires
+adjacents-there-requires c κs = let z = asked-there c in (z .table, asked-inner z)
+
+faces-of-requires : tie.Need-faces-of-requires
+faces-of-requires c κs = asked-there (c .before)
 
 returns : tie.Need-returns
 returns c =
@@ -34,8 +41,10 @@ returns c =
 
 returns-2 : tie.Need-returns-2
 returns-2 c =
-    let k = c .before .before .before in
-    c .faces-of .ensures ∙ follows (k .before .before) (Star (k .v .given .0 .0)) (k .v .given .1)
+    let h = c .before in
+    let k = h .before .before .before in
+    c .faces-of .ensures ∙ ap (facesIf (k .before .before .before .before .args .table .now) (k .v .given .0 .0)) (h .adjacents-there .ensures)
+    ∙ follows (k .before .before) (Star (k .v .given .0 .0)) (k .v .given .1)
 
 pub faces-spec : {M : Type 1} → statement M
 faces-spec =
@@ -46,6 +55,7 @@ faces-spec =
     (λ c κs. search needs)
     (λ c. search needs)
     (λ c κs. search needs)
+    adjacents-there-requires
     faces-of-requires
     returns
     returns-2)

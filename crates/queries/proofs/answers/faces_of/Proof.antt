@@ -14,23 +14,22 @@ use Rattle.queries.proofs.answers.faces_of.Statement.{statement}
 use Rattle.queries.proofs.answers.faces_of.Tie as tie
 
 abbrev Inv-loop : tie.InvT-loop
-Inv-loop t v n d points₀ j₀ points j = (j ≤ v .d) × (upto j (hasOpposite t v) ≡ true) × (points ≡ firstOnes (opposite t v) j)
+Inv-loop t v whole n d points₀ j₀ points j = (j ≤ v .d) × (upto j (hasOpposite t v) ≡ true) × (points ≡ firstOnes (opposite t v) j)
 
 abbrev μ-loop : tie.MeasureT-loop
-μ-loop t v n d points₀ j₀ points j = v .d - j
-
-adjacents-there-requires : tie.Need-adjacents-there-requires Inv-loop μ-loop
-adjacents-there-requires c κs = let s = c .before in (s .pre .table, asked-inner (s .pre))
+μ-loop t v whole n d points₀ j₀ points j = v .d - j
 
 returns : tie.Need-returns Inv-loop μ-loop
-returns c = c .refuse .ensures ∙ faces-torn _ _ (sym (c .before .before .adjacents-there .ensures) ∙ not-true _ (c .before .if1 .taken))
+returns c =
+    let a = c .before .before .before .args in
+    c .refuse .ensures ∙ faces-torn (a .t .now) (a .v) (a .whole) (not-true (a .whole) (c .before .if1 .taken))
 
 -- a corner that the loop has come to is one of six
 corner-below : (c : tie.In-loop Inv-loop μ-loop) → c .before .loop .j < 6
-corner-below c = let s = c .before .before .before .before .before in omega (arith, asked-inner (s .pre) .top, c .loop-test .taken)
+corner-below c = let s = c .before .before .before .before in omega (arith, asked-inner (s .pre) .top, c .loop-test .taken)
 
 chosen-requires : tie.Need-chosen-requires Inv-loop μ-loop
-chosen-requires c κs = let s = c .before .before .before .before .before in (s .pre .table, (asked-inner (s .pre), c .loop-test .taken))
+chosen-requires c κs = let s = c .before .before .before .before in (s .pre .table, (asked-inner (s .pre), omega (arith, c .loop-test .taken)))
 
 mul-points : tie.Need-mul-points Inv-loop μ-loop
 mul-points c = record { fits = omega (arith, corner-below (c .before .before .before .before)) }
@@ -43,7 +42,8 @@ returns-2 : tie.Need-returns-2 Inv-loop μ-loop
 returns-2 c =
     let k = c .before .before .before in
     let i = k .before in
-    c .refuse2 .ensures ∙ faces-cornerless _ _ (i .before .loop .j) (i .loop-test .taken) (ap isAt (sym (k .chosen .ensures) ∙ c .before .enum-told .given .1))
+    let a = i .before .before .before .before .args in
+    c .refuse2 .ensures ∙ faces-cornerless (a .t .now) (a .v) (a .whole) (i .before .loop .j) (i .loop-test .taken) (ap isAt (sym (k .chosen .ensures) ∙ c .before .enum-told .given .1))
 
 -- the corner has one: the next point
 loop-again : tie.Need-loop-again Inv-loop μ-loop
@@ -51,7 +51,7 @@ loop-again c =
     let p = c .before in
     let k = p .before .before in
     let l = k .before .before in
-    let a = l .before .before .before .before .args in
+    let a = l .before .before .before .args in
     let e = sym (k .chosen .ensures) ∙ p .p .given .1 in (
       omega (arith, k .before .loop-test .taken),
       upto-more (hasOpposite (a .t .now) (a .v)) (l .loop .j) (l .loop .inv .1) (ap isAt e),
@@ -62,10 +62,9 @@ loop-again c =
 returns-3 : tie.Need-returns-3 Inv-loop μ-loop
 returns-3 c =
     let l = c .before in
-    let h = l .before .before in
-    let a = h .before .before .args in
+    let a = l .before .before .before .args in
     let e : l .loop .j ≡ a .v .d = omega (arith, l .loop .inv .0, c .loop-test .left) in
-    faces-whole (a .t .now) (a .v) (sym (h .adjacents-there .ensures) ∙ not-false _ (l .before .if1 .left))
+    faces-whole (a .t .now) (a .v) (a .whole) (not-false (a .whole) (l .before .if1 .left))
     (sym (ap (λ (k : ℕ). upto k (hasOpposite (a .t .now) (a .v))) e) ∙ l .loop .inv .1)
     (l .loop .points) (l .loop .inv .2 ∙ ap (firstOnes (opposite (a .t .now) (a .v))) e)
 
@@ -75,7 +74,6 @@ faces-of-spec =
     (tie.spec
     Inv-loop
     μ-loop
-    adjacents-there-requires
     (λ c κs. search needs)
     returns
     (λ c. (omega arith, refl, refl))

@@ -1,10 +1,12 @@
 -- `queries::neighbours` meets its promise: by the vertex that was found. Assumes nothing.
-use mathlib.Core.Path.{_≡_, _∙_}
+use mathlib.Core.Path.{_≡_, ap, _∙_}
+use mathlib.Core.Bool.{Bool, cond}
 use borrow.Author.Needs.{needs}
 use Rattle.laws.specs.Machine.{asked₂}
+use Rattle.lattice.specs.Stars.{refused, given}
 use Rattle.queries.specs.Queries.{neighboursAt, neighboursOf}
-use Rattle.queries.specs.Vertices.{vertexOf, answerOf}
-use Rattle.queries.specs.QueryLaws.{vertex-asked, neighbours-vertex}
+use Rattle.queries.specs.Vertices.{vertexOf, answerOf, Asked}
+use Rattle.queries.specs.QueryLaws.{vertex-asked, asked-inner, neighbours-vertex}
 use Rattle.queries.specs.declared.vertices.Vertex.{Vertex}
 use Rattle.queries.specs.declared.vertices.Vertex.the-variants.{Refused, Star}
 use Rattle.queries.proofs.answers.neighbours.Statement.{statement}
@@ -21,11 +23,17 @@ module _ (c : tie.After-found) where
   follows : (w : Vertex) → c .found .result ≡ w → answerOf (neighboursAt (start .args .table .now)) w ≡ neighboursOf (start .args .table .now) (start .args .a) (start .args .b) (start .args .m)
   follows w e = neighbours-vertex (start .args .table .now) (start .args .a) (start .args .b) (start .args .m) w (vertex w e)
 
-neighbours-of-requires : tie.Need-neighbours-of-requires
-neighbours-of-requires c κs =
+-- what is known of a vertex that has a star
+asked-there : (c : tie.After-slots-of) → Asked (start (c .before .before .before .before) .args .table .now) (c .slots-of .result) (c .before .before .v .given .0 .0)
+asked-there c =
     let k = c .before .before in
-    let f = k .before .before in
-    vertex-asked _ _ _ _ (k .v .given .0 .0) (vertex f (Star (k .v .given .0 .0)) (k .v .given .1)) _ (c .slots-of .ensures)
+    vertex-asked _ _ _ _ (k .v .given .0 .0) (vertex (k .before .before) (Star (k .v .given .0 .0)) (k .v .given .1)) _ (c .slots-of .ensures)
+
+adjacents-there-requires : tie.Need-adjacents-there-requires
+adjacents-there-requires c κs = let z = asked-there c in (z .table, asked-inner z)
+
+neighbours-of-requires : tie.Need-neighbours-of-requires
+neighbours-of-requires c κs = let z = asked-there (c .before) in (z .valid, z .inside)
 
 returns : tie.Need-returns
 returns c =
@@ -34,8 +42,10 @@ returns c =
 
 returns-2 : tie.Need-returns-2
 returns-2 c =
-    let k = c .before .before .before in
-    c .neighbours-of .ensures ∙ follows (k .before .before) (Star (k .v .given .0 .0)) (k .v .given .1)
+    let h = c .before in
+    let k = h .before .before .before in
+    c .neighbours-of .ensures ∙ ap (λ (w : Bool). cond w (given (k .v .given .0 .0)) (refused 7)) (h .adjacents-there .ensures)
+    ∙ follows (k .before .before) (Star (k .v .given .0 .0)) (k .v .given .1)
 
 pub neighbours-spec : {M : Type 1} → statement M
 neighbours-spec =
@@ -46,6 +56,7 @@ neighbours-spec =
     (λ c κs. search needs)
     (λ c. search needs)
     (λ c κs. search needs)
+    adjacents-there-requires
     neighbours-of-requires
     returns
     returns-2)

@@ -2,7 +2,7 @@
 use mathlib.Core.Path.{_∙_}
 use borrow.Author.Needs.{needs}
 use Rattle.lattice.specs.declared.patterns.Spot.the-variants.{At}
-use Rattle.queries.specs.Vertices.{eitherIn}
+use Rattle.queries.specs.Opposites.{eitherIn}
 use Rattle.queries.specs.QueryLaws.{chosen-either}
 use Rattle.queries.proofs.opposites.chosen.Statement.{statement}
 use Rattle.queries.proofs.opposites.chosen.Tie as tie

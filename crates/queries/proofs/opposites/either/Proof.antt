@@ -4,7 +4,7 @@ use borrow.Author.Needs.{needs}
 use Rattle.lattice.specs.declared.patterns.Spot.{Spot}
 use Rattle.lattice.specs.declared.patterns.Spot.the-variants.{At, Nothing}
 use Rattle.queries.specs.Queries.{there}
-use Rattle.queries.specs.Vertices.{orElse, eitherIn}
+use Rattle.queries.specs.Opposites.{orElse, eitherIn}
 use Rattle.queries.proofs.opposites.either.Statement.{statement}
 use Rattle.queries.proofs.opposites.either.Tie as tie
 
