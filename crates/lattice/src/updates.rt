@@ -107,15 +107,15 @@ fn has_rule(back: u8, d: u8, k: u8) -> bool
 }
 
 // An old adjacent vertex that tears nothing: a boundary vertex, or one of level n with a rule.
-pub fn accepts(back: u8, n: u8, u: Record) -> bool
+pub fn accepts(back: u8, n: Level, u: Record) -> bool
     requires { ⌜ u .k < 252 ⌝ }
-    ensures { λ r. ⌜ r ≡ acceptsOf back n u ⌝ }
+    ensures { λ r. ⌜ r ≡ acceptsOf back (n .0) u ⌝ }
 {
     let d = u.d;
     if d == 0 {
         return true;
     }
-    if u.n.0 != n {
+    if u.n.0 != n.0 {
         return false;
     }
     has_rule(back, d, u.k)

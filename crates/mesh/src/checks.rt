@@ -23,7 +23,7 @@ fn adjacent_fits(t: &[u8], v: Record, j: u8, n: usize) -> bool
     ensures { λ r. ⌜ r ≡ adjacentFits (now (t .entry)) v j ⌝ }
 {
     let k = v.k;
-    let level = v.n.0;
+    let level = v.n;
     let l = look_up(t, adjacent_of(v, j), n);
     match l {
         Looked::Absent => false,

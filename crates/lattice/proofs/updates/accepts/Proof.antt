@@ -12,14 +12,20 @@ returns c = simp (eq-eqb (c .before .args .u .d) 0 (c .if1 .taken))
 
 returns-2 : tie.Need-returns-2
 unfolding acceptsOf
-returns-2 c = let u = c .before .before .before .args .u in simp (ne-eqb (u .d) 0 (c .before .before .if1 .left), ne-eqb (u .n .0) (c .before .before .before .args .n) (c .if2 .taken))
+returns-2 c =
+    let e = c .before .before .before in
+    let u = e .before .args .u in
+    simp (ne-eqb (u .d) 0 (e .if1 .left), ne-eqb (u .n .0) (e .before .args .n .0) (c .if2 .taken))
 
 has-rule-requires : tie.Need-has-rule-requires
 has-rule-requires c κs = search needs
 
 returns-3 : tie.Need-returns-3
 unfolding acceptsOf
-returns-3 c = let s = c .before .before .before .before in let u = s .args .u in c .has-rule .ensures ∙ simp (ne-eqb (u .d) 0 (c .before .before .before .if1 .left), eq-eqb (u .n .0) (s .args .n) (c .before .if2 .left))
+returns-3 c =
+    let e = c .before .before .before .before in
+    let u = e .before .args .u in
+    c .has-rule .ensures ∙ simp (ne-eqb (u .d) 0 (e .if1 .left), eq-eqb (u .n .0) (e .before .args .n .0) (c .before .if2 .left))
 
 pub accepts-spec : {M : Type 1} → statement M
 accepts-spec = tie.close (tie.spec returns returns-2 has-rule-requires returns-3)
