@@ -12,3 +12,8 @@ pub mod Link
 pub mod Subdivide
 pub mod Order
 pub mod GrownLaws
+pub mod Local
+pub mod LocalTests
+pub mod Hexagons
+pub mod Checked
+pub mod LocalGrown
