@@ -17,3 +17,5 @@ pub mod LocalTests
 pub mod Hexagons
 pub mod Checked
 pub mod LocalGrown
+pub mod GrownValid
+pub mod GrownLocal

@@ -83,7 +83,7 @@ between : (z : ℤ) → natAbs (z +ℤ pos 1) ≤ 251 → natAbs (z +ℤ negsuc 
 between z h k = omega (arith, add-is z (pos 1), add-is z (negsuc 0), abs-is z, abs-is (z +ℤ pos 1), abs-is (z +ℤ negsuc 0), apart z, apart (z +ℤ pos 1), apart (z +ℤ negsuc 0))
 
 -- a unit step, by its numerators
-unit-a : (p : Point) (j : ℕ) → p .m .0 ≡ 0 → j < 6 → moveOf p (2 * j) 0 .m .0 ≡ 0 → (moveOf p (2 * j) 0 .a ≡ p .a +ℤ one (2 * j) .a) × (moveOf p (2 * j) 0 .b ≡ p .b +ℤ one (2 * j) .b)
+pub unit-a : (p : Point) (j : ℕ) → p .m .0 ≡ 0 → j < 6 → moveOf p (2 * j) 0 .m .0 ≡ 0 → (moveOf p (2 * j) 0 .a ≡ p .a +ℤ one (2 * j) .a) × (moveOf p (2 * j) 0 .b ≡ p .b +ℤ one (2 * j) .b)
 unit-a p j m h z =
     let d : Dir (2 * j) 0 = (omega arith, omega arith) in
     let s = moveOf p (2 * j) 0 in (
