@@ -35,7 +35,7 @@ use Rattle.growth.specs.Order.{cnt, Seq, nil, next}
 use Rattle.growth.specs.OneStep as One
 
 -- ---- a subdivision has one result
-among : (f : ℕ → Point) (p : Point) (n : ℕ) → Dec ((j : ℕ) × (j < n) × (p ≡ f j))
+pub among : (f : ℕ → Point) (p : Point) (n : ℕ) → Dec ((j : ℕ) × (j < n) × (p ≡ f j))
 among f p zero = no (λ z. (let y = z .1 in omega arith))
 among f p (suc n) = go (point? p (f n)) (among f p n)
   where

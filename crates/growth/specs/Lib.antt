@@ -12,3 +12,10 @@ pub mod Link
 pub mod Subdivide
 pub mod Order
 pub mod GrownLaws
+pub mod Local
+pub mod LocalTests
+pub mod Hexagons
+pub mod Checked
+pub mod LocalGrown
+pub mod GrownValid
+pub mod GrownLocal

@@ -32,7 +32,7 @@ ra D p = modZ (wide D p) 3
 abbrev pub rb : ℕ → Point → ℕ
 rb D p = modZ (high D p) 3
 
-times-one : (z : ℤ) (k : ℕ) → k ≡ 0 → z *ℤ pos (3 ^ k) ≡ z
+pub times-one : (z : ℤ) (k : ℕ) → k ≡ 0 → z *ℤ pos (3 ^ k) ≡ z
 times-one z k e = ap (λ (k : ℕ). z *ℤ pos (3 ^ k)) e ∙ *ℤ-comm z (pos 1) ∙ same (1 ⊗ ‵ z) (‵ z) (omega arith)
 
 -- at a point's own depth it is what its numerators leave; at a greater depth nothing is left
@@ -182,10 +182,10 @@ vector-own e i d =
     (times-one (one e .a) (deepOf i - vector e i .m .0) z, times-one (one e .b) (deepOf i - vector e i .m .0) z)
 
 module _ (q : Point) (e i : ℕ) (d : Dir e i) (h : q .m .0 ≤ deepOf i) where
-  sum-a : wide (deepOf i) (moveOf q e i) ≡ wide (deepOf i) q +ℤ one e .a
+  pub sum-a : wide (deepOf i) (moveOf q e i) ≡ wide (deepOf i) q +ℤ one e .a
   sum-a = sum-wide q (vector e i) (deepOf i) h (omega (arith, step-deep e i d)) ∙ ap (λ (z : ℤ). wide (deepOf i) q +ℤ z) (vector-own e i d .0)
 
-  sum-b : high (deepOf i) (moveOf q e i) ≡ high (deepOf i) q +ℤ one e .b
+  pub sum-b : high (deepOf i) (moveOf q e i) ≡ high (deepOf i) q +ℤ one e .b
   sum-b = sum-high q (vector e i) (deepOf i) h (omega (arith, step-deep e i d)) ∙ ap (λ (z : ℤ). high (deepOf i) q +ℤ z) (vector-own e i d .1)
 
   pub step-depth : moveOf q e i .m .0 ≤ deepOf i
