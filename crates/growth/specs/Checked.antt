@@ -21,7 +21,8 @@ use Rattle.lattice.specs.Points.{isNormal}
 use Rattle.lattice.specs.Records.{within, suitsOf, validOf}
 use Rattle.lattice.specs.Stars.{adjacentAt}
 use Rattle.lattice.specs.Ranks as L
-use Rattle.lattice.specs.Ranks.{classOf, rankOf, birthOf, moveOf, parentOf}
+use Rattle.lattice.specs.Points.{classOf}
+use Rattle.lattice.specs.Ranks.{rankOf, birthOf, moveOf, parentOf}
 use Rattle.lattice.specs.RankLaws.{rank-between}
 use Rattle.lattice.specs.SideLaws.{Dir, turn1, turn6, turn11}
 use Rattle.lattice.specs.SubdivisionLaws.{Sited, sited, six-place}

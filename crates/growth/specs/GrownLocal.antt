@@ -18,7 +18,8 @@ use Rattle.laws.specs.Choices.{is-true, is-false, of-true, when-true, when-fals
 use Rattle.lattice.specs.Points.{isNormal}
 use Rattle.lattice.specs.Stars.{adjacentAt}
 use Rattle.lattice.specs.Ranks as L
-use Rattle.lattice.specs.Ranks.{classOf, rankOf, birthOf, moveOf, parentOf}
+use Rattle.lattice.specs.Points.{classOf}
+use Rattle.lattice.specs.Ranks.{rankOf, birthOf, moveOf, parentOf}
 use Rattle.lattice.specs.RankLaws.{rank-between}
 use Rattle.lattice.specs.SideLaws.{Dir}
 use Rattle.lattice.specs.declared.points.Point.{Point}

@@ -19,7 +19,8 @@ use Rattle.lattice.specs.Points.{isNormal, pt}
 use Rattle.lattice.specs.Patterns.{orient}
 use Rattle.lattice.specs.Stars.{adjacentAt}
 use Rattle.lattice.specs.Records.{validOf, suitsOf}
-use Rattle.lattice.specs.Ranks.{classOf, moveOf}
+use Rattle.lattice.specs.Points.{classOf}
+use Rattle.lattice.specs.Ranks.{moveOf}
 use Rattle.lattice.specs.RankLaws.{one}
 use Rattle.lattice.specs.Subdivision.{centreOf, newOf, backOf, fourTurn, updateOf}
 use Rattle.lattice.specs.SubdivisionLaws.{Sited, sited, valid-made, centre-valid, update-valid, new-valid}

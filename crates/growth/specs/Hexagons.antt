@@ -17,7 +17,8 @@ use Rattle.laws.specs.Rules.{_≡?_, _⇒_, rule}
 use Rattle.laws.specs.Residue.{modZ}
 use Rattle.laws.specs.Thirds.{three-below}
 use Rattle.lattice.specs.Points.{isNormal}
-use Rattle.lattice.specs.Ranks.{classOf, moveOf}
+use Rattle.lattice.specs.Points.{classOf}
+use Rattle.lattice.specs.Ranks.{moveOf}
 use Rattle.lattice.specs.GeometryLaws.{move-back}
 use Rattle.lattice.specs.SideLaws.{Dir}
 use Rattle.lattice.specs.RankLaws.{class-own, step-c, step-depth, even-row, one}

@@ -14,7 +14,8 @@ use Rattle.laws.specs.Bools.{and-left, and-right, and-both}
 use Rattle.laws.specs.Choices.{or-split, or-left, or-right, is-true, of-true, when-true, when-false}
 use Rattle.laws.specs.Rules.{upto, upto-at}
 use Rattle.lattice.specs.Stars.{adjacentAt}
-use Rattle.lattice.specs.Ranks.{classOf, rankOf, birthOf, moveOf, parentOf, creatorOf}
+use Rattle.lattice.specs.Points.{classOf}
+use Rattle.lattice.specs.Ranks.{rankOf, birthOf, moveOf, parentOf, creatorOf}
 use Rattle.lattice.specs.declared.points.Point.{Point}
 use Rattle.lattice.specs.declared.records.Record.{Record}
 use Rattle.growth.specs.Sheets.{Sheet, vertex, hexagonOf}

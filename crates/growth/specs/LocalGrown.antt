@@ -22,7 +22,8 @@ use Rattle.lattice.specs.Places.{wide, high}
 use Rattle.lattice.specs.Patterns.{orient}
 use Rattle.lattice.specs.Records.{validOf}
 use Rattle.lattice.specs.RecordLaws.{inner}
-use Rattle.lattice.specs.Ranks.{classOf, rankOf, moveOf, parentOf}
+use Rattle.lattice.specs.Points.{classOf}
+use Rattle.lattice.specs.Ranks.{rankOf, moveOf, parentOf}
 use Rattle.lattice.specs.RankLaws.{times-one, sum-a, sum-b, one}
 use Rattle.lattice.specs.SideLaws.{Dir}
 use Rattle.lattice.specs.SubdivisionLaws.{Sited, sited}
