@@ -29,7 +29,6 @@ use Rattle.table.specs.MapLaws.{lookup-valid, test-order, order-table}
 use Rattle.table.specs.declared.entries.Looked.{Looked}
 use Rattle.table.specs.declared.entries.Looked.the-variants.{Absent, Held}
 use Rattle.laws.specs.Linear.{same}
-use Rattle.lattice.specs.Flat.{table}
 use Rattle.queries.specs.Queries.{adjacentsThere, there, chosenAt, isAt, cornersThere, pointOr0, facesGiven, neighboursAt, facesAt, queryLooked, queryOf, neighboursOf, facesOf}
 use Rattle.queries.specs.Vertices.{vertexLooked, vertexOf, answerOf, Asked, orElse, eitherIn}
 use Rattle.queries.specs.declared.vertices.Vertex.{Vertex}
