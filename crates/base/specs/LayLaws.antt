@@ -18,7 +18,7 @@ use Rattle.laws.specs.Parts.{up-dn-eq, up-mul, dn-mul}
 use Rattle.laws.specs.Rules.{rule, _≤?_, _&_}
 use Rattle.laws.specs.Sizes.{abs-add}
 use Rattle.lattice.specs.Points.{pt, turns, normalOf, sumOf}
-use Rattle.lattice.specs.Flat.{alike, alike-eq}
+use Rattle.lattice.specs.PointLaws.{alike, alike-eq}
 use Rattle.lattice.specs.Points.{classOf}
 use Rattle.lattice.specs.declared.points.Point.{Point}
 use Rattle.lattice.specs.declared.records.Record.{Record}

@@ -16,7 +16,7 @@ use Rattle.laws.specs.Bools.{and-left, and-right, and-both, bool-is}
 use Rattle.laws.specs.Choices.{is-true, is-false, of-true, or-split, or-left, or-right}
 use Rattle.laws.specs.Parts.{add-is, abs-is, apart}
 use Rattle.laws.specs.Rules.{run, sound, complete}
-use Rattle.lattice.specs.Flat.{alike, alike-eq}
+use Rattle.lattice.specs.PointLaws.{alike, alike-eq}
 use Rattle.lattice.specs.Points.{isNormal, pt}
 use Rattle.lattice.specs.Places.{wide, high}
 use Rattle.lattice.specs.Patterns.{orient}

@@ -9,7 +9,7 @@ use mathlib.Core.List.{List, List·Memᴰ}
 use Prim.Native.Nat.{ℕ, _+_, _-_, _%_, _≤_, _<_}
 use lib.Dec.{T, eqb, ltb}
 use Rattle.laws.specs.Rules.{run}
-use Rattle.lattice.specs.Flat.{alike}
+use Rattle.lattice.specs.PointLaws.{alike}
 use Rattle.lattice.specs.Points.{isNormal}
 use Rattle.lattice.specs.Ranks.{rankOf, birthOf, parentOf, creatorOf}
 use Rattle.lattice.specs.declared.points.Point.{Point}

@@ -9,7 +9,7 @@ use Prim.Native.Nat.{ℕ, suc, _+_, _*_, _%_, _≤_, _<_}
 use lib.Dec.{T, T-prop}
 use Rattle.laws.specs.Rules.{run, sound, complete}
 use Rattle.laws.specs.Choices.{is-true, is-false, of-true}
-use Rattle.lattice.specs.Flat.{alike, alike-eq}
+use Rattle.lattice.specs.PointLaws.{alike, alike-eq}
 use Rattle.lattice.specs.Points.{isNormal}
 use Rattle.lattice.specs.Ranks.{rankOf, birthOf, moveOf}
 use Rattle.lattice.specs.GeometryLaws.{move-back, move-inj}

@@ -10,7 +10,7 @@ use Prim.Native.Nat.{ℕ, _+_, _*_, _<_}
 use lib.Dec.{T, eqb, leb}
 use lib.IntN.{natAbs}
 use Rattle.laws.specs.Rules.{run}
-use Rattle.lattice.specs.Flat.{alike}
+use Rattle.lattice.specs.PointLaws.{alike}
 use Rattle.lattice.specs.Points.{classOf}
 use Rattle.lattice.specs.Ranks.{moveOf}
 use Rattle.lattice.specs.Stars.{adjacentAt}

@@ -14,8 +14,7 @@ use Rattle.laws.specs.Rules.{Test, _≡?_, _≡ᶻ?_, _≤?_, _&_, _⇒_, run, 
 use Rattle.laws.specs.Linear.{same, told-≡, ‵, _⊕_, _⊝_, ⊟, _⊗_}
 use Rattle.laws.specs.Multiples.{add-times, neg-times, cancel}
 use Rattle.lattice.specs.Points.{pt, by3, isNormal, turn60Of, turn30Of, turns, lift, sumOf}
-use Rattle.lattice.specs.PointLaws.{turns-three}
-use Rattle.lattice.specs.Flat.{alike, alike-eq}
+use Rattle.lattice.specs.PointLaws.{alike, alike-eq, turns-three}
 use Rattle.lattice.specs.Places.{wide, high, sum-wide, sum-high, sum-depth, sum-assoc, unique, normal-low, Low, turn60-wide, turn60-high, away, sum-away, lift-lift, pow-over}
 use Rattle.lattice.specs.Patterns.{orient, three, four, five, six, rowsOf, patternOf, adjacentOf}
 use Rattle.lattice.specs.PatternLaws.{orient-depth, adjacent-close}

@@ -10,7 +10,7 @@ pub mod Examples
 pub mod PointLaws
 pub mod Bounds
 pub mod RecordLaws
-pub mod Flat
+pub mod Rows
 pub mod PatternLaws
 pub mod StarLaws
 pub mod Places

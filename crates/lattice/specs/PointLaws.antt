@@ -1,5 +1,5 @@
--- The laws of normalising and of turns.
--- `normal-step`, `normal-stop`, `normal-zero` one step of normalising · `turns-suc`, `turns-zero`, `turns-three` turns · `turn30-twice` the 30 degree rule twice.
+-- The laws of points, of normalising and of turns.
+-- `alike`, `alike-eq` two points are one, as a test · `normal-step`, `normal-stop`, `normal-zero` one step of normalising · `turns-suc`, `turns-zero`, `turns-three` turns · `turn30-twice` the 30 degree rule twice.
 -- Assumes nothing.
 use mathlib.Core.Path.{_≡_, refl, _∙_}
 use mathlib.Core.Bool.{true, false, _&&_}
@@ -8,9 +8,16 @@ use native.Mathlib.Omega.{arith}
 use lib.IntN.{ℤ, negℤ, pos, _+ℤ_, _*ℤ_, *ℤ-comm}
 use lib.Signed.{quotZ}
 use native.Mathlib.Numerals.{add-one}
+use Rattle.laws.specs.Rules.{Test, _≡?_, _≡ᶻ?_, _&_, Means}
 use Rattle.laws.specs.Linear.{same, ‵, _⊕_, _⊝_, ⊟, _⊗_}
 use Rattle.lattice.specs.Points.{pt, by3, normalOf, turn60Of, turn30Of, turns}
 use Rattle.lattice.specs.declared.points.Point.{Point}
+
+abbrev pub alike : Point → Point → Test
+alike p q = p .a ≡ᶻ? q .a & p .b ≡ᶻ? q .b & p .m .0 ≡? q .m .0
+
+pub alike-eq : (p q : Point) → Means (alike p q) → p ≡ q
+alike-eq p q r = λ i. pt (r .0 i) (r .1 .0 i) (r .1 .1 i)
 
 pub normal-step : (a b : ℤ) (d : ℕ) → 0 < d → by3 a && by3 b ≡ true → normalOf (quotZ a (pos 3)) (quotZ b (pos 3)) (d - 1) ≡ normalOf a b d
 unfolding normalOf

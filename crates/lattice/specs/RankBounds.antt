@@ -14,7 +14,7 @@ use Rattle.laws.specs.Residue.{modZ}
 use Rattle.lattice.specs.Stars.{scaleOf}
 use Rattle.lattice.specs.Points.{classOf}
 use Rattle.lattice.specs.Ranks.{rankOf, birthOf, level, moveOf, parentOf, creatorOf}
-use Rattle.lattice.specs.Flat.{alike, alike-eq}
+use Rattle.lattice.specs.PointLaws.{alike, alike-eq}
 use Rattle.lattice.specs.Patterns.{three, four, five, six, rowsOf, patternOf, orient, adjacentOf}
 use Rattle.lattice.specs.Places.{sum-depth}
 use Rattle.lattice.specs.Bounds.{Near}

@@ -1,9 +1,9 @@
-// The star patterns at orientation 0, a constant table, and their turns: document 01, "The twelve directions".
+// The star patterns at orientation 0, a constant table for each degree, and their turns: document 01, "The twelve directions".
 ghost use mathlib.Core.Path.{_≡_};
-ghost use Prim.Native.Nat.{_+_, _*_, _-_, _/_, _≤_, _<_};
-ghost use Rattle.lattice.specs.Patterns.{orient, adjacentOf, firstOf, secondOf};
+ghost use Prim.Native.Nat.{_≤_, _<_};
+ghost use Rattle.lattice.specs.Patterns.{patternOf, orient, adjacentOf, firstOf, secondOf};
 ghost use Rattle.lattice.specs.Bounds.{Hex};
-ghost use Rattle.lattice.specs.Flat.{rowOf, rowAt};
+ghost use Rattle.lattice.specs.Rows.{placeOf, pointOf};
 use crate::points::Depth;
 use crate::points::Point;
 use crate::points::turn30;
@@ -15,227 +15,71 @@ pub enum Spot {
     Nothing,
 }
 
-// Degrees 3, 4, 5 and 6 one after the other; three points a place: the adjacent one, the first opposite, the second. Here are their a, b and m;
-// a second opposite that is none has this depth.
+// A point [a, b, m] of the tables.
+struct P(i32, i32, u8);
+
+// A second opposite that is none has this depth there.
 const NO_DEPTH: u8 = 255;
 
-const PATTERN_A: [i32; 54] = [
-    1,
-    0,
-    0,
-    -1,
-    -1,
-    -2,
-    0,
-    1,
-    2,
-    1,
-    0,
-    0,
-    -1,
-    -1,
-    0,
-    -1,
-    0,
-    0,
-    1,
-    1,
-    0,
-    1,
-    0,
-    0,
-    -1,
-    -2,
-    -1,
-    -2,
-    -2,
-    -1,
-    -1,
-    0,
-    0,
-    1,
-    1,
-    0,
-    1,
-    2,
-    1,
-    0,
-    -2,
-    -1,
-    -1,
-    -4,
-    -2,
-    -1,
-    -2,
-    -1,
-    0,
-    2,
-    1,
-    1,
-    4,
-    2,
+const NONE: P = P(0, 0, NO_DEPTH);
+
+// A place of a star: adjacent | first opposite | second opposite.
+struct Place(P, P, P);
+
+// The places of each degree, in counter-clockwise order.
+const THREE: [Place; 3] = [
+    Place(P(1, 0, 0), P(0, 1, 0), P(0, 2, 0)),
+    Place(P(-1, 1, 0), P(-1, 0, 0), P(-2, 0, 0)),
+    Place(P(0, -1, 0), P(1, -1, 0), P(2, -2, 0)),
 ];
 
-const PATTERN_B: [i32; 54] = [
-    0,
-    1,
-    2,
-    1,
-    0,
-    0,
-    -1,
-    -1,
-    -2,
-    0,
-    1,
-    2,
-    1,
-    0,
-    0,
-    -1,
-    -2,
-    -1,
-    -2,
-    -1,
-    0,
-    0,
-    1,
-    0,
-    2,
-    2,
-    1,
-    1,
-    0,
-    0,
-    -1,
-    -2,
-    -1,
-    -2,
-    -1,
-    0,
-    0,
-    2,
-    1,
-    1,
-    4,
-    2,
-    1,
-    2,
-    1,
-    0,
-    -2,
-    -1,
-    -1,
-    -4,
-    -2,
-    -1,
-    -2,
-    -1,
+const FOUR: [Place; 4] = [
+    Place(P(1, 0, 0), P(0, 1, 0), P(0, 2, 0)),
+    Place(P(-1, 1, 0), P(-1, 0, 0), NONE),
+    Place(P(-1, -1, 1), P(0, -2, 1), P(0, -1, 0)),
+    Place(P(1, -2, 1), P(1, -1, 0), NONE),
 ];
 
-const PATTERN_M: [u8; 54] = [
-    0,
-    0,
-    0,
-    0,
-    0,
-    0,
-    0,
-    0,
-    0,
-    0,
-    0,
-    0,
-    0,
-    0,
-    255,
-    1,
-    1,
-    0,
-    1,
-    0,
-    255,
-    0,
-    0,
-    255,
-    1,
-    1,
-    0,
-    1,
-    1,
-    0,
-    1,
-    1,
-    0,
-    1,
-    0,
-    255,
-    0,
-    1,
-    0,
-    0,
-    1,
-    0,
-    0,
-    1,
-    0,
-    0,
-    1,
-    0,
-    0,
-    1,
-    0,
-    0,
-    1,
-    0,
+const FIVE: [Place; 5] = [
+    Place(P(1, 0, 0), P(0, 1, 0), NONE),
+    Place(P(-1, 2, 1), P(-2, 2, 1), P(-1, 1, 0)),
+    Place(P(-2, 1, 1), P(-2, 0, 1), P(-1, 0, 0)),
+    Place(P(-1, -1, 1), P(0, -2, 1), P(0, -1, 0)),
+    Place(P(1, -2, 1), P(1, -1, 0), NONE),
 ];
 
-// The row of place j of degree d.
-fn row(d: u8, j: u8) -> usize
+// Each place is the one before it, turned by 60 degrees.
+const SIX: [Place; 6] = [
+    Place(P(1, 0, 0), P(2, 2, 1), P(1, 1, 0)),
+    Place(P(0, 1, 0), P(-2, 4, 1), P(-1, 2, 0)),
+    Place(P(-1, 1, 0), P(-4, 2, 1), P(-2, 1, 0)),
+    Place(P(-1, 0, 0), P(-2, -2, 1), P(-1, -1, 0)),
+    Place(P(0, -1, 0), P(2, -4, 1), P(1, -2, 0)),
+    Place(P(1, -1, 0), P(4, -2, 1), P(2, -1, 0)),
+];
+
+// Place j of degree d.
+fn pattern(d: u8, j: u8) -> Place
     requires { ⌜ (3 ≤ d) × ((d ≤ 6) × (j < d)) ⌝ }
-    ensures { λ r. ⌜ r ≡ rowAt d j ⌝ }
+    ensures { λ r. ⌜ r ≡ placeOf (patternOf d j) ⌝ }
 {
-    (d * (d - 1) / 2 - 3 + j) as usize
-}
-
-fn adjacent_at(row: usize) -> Point
-    requires { ⌜ row < 18 ⌝ }
-    ensures { λ r. ⌜ r ≡ rowOf row .adjacent ⌝ }
-{
-    let i = row * 3;
-    Point {
-        a: PATTERN_A[i],
-        b: PATTERN_B[i],
-        m: Depth(PATTERN_M[i]),
+    let i = j as usize;
+    match d {
+        3 => THREE[i],
+        4 => FOUR[i],
+        5 => FIVE[i],
+        _ => SIX[i],
     }
 }
 
-fn first_at(row: usize) -> Point
-    requires { ⌜ row < 18 ⌝ }
-    ensures { λ r. ⌜ r ≡ rowOf row .first ⌝ }
+// The point that three numbers of a table are.
+fn point(p: P) -> Point
+    ensures { λ r. ⌜ r ≡ pointOf p ⌝ }
 {
-    let i = row * 3 + 1;
     Point {
-        a: PATTERN_A[i],
-        b: PATTERN_B[i],
-        m: Depth(PATTERN_M[i]),
-    }
-}
-
-fn second_at(row: usize) -> Spot
-    requires { ⌜ row < 18 ⌝ }
-    ensures { λ r. ⌜ r ≡ rowOf row .second ⌝ }
-{
-    let i = row * 3 + 2;
-    let m = PATTERN_M[i];
-    if m == NO_DEPTH {
-        Spot::Nothing
-    } else {
-        Spot::At(Point {
-            a: PATTERN_A[i],
-            b: PATTERN_B[i],
-            m: Depth(m),
-        })
+        a: p.0,
+        b: p.1,
+        m: Depth(p.2),
     }
 }
 
@@ -257,7 +101,7 @@ pub fn adjacent(d: u8, k: u8, j: u8) -> Point
     requires { ⌜ (3 ≤ d) × ((d ≤ 6) × (j < d)) ⌝ }
     ensures { λ r. ⌜ r ≡ adjacentOf d k j ⌝ }
 {
-    oriented(adjacent_at(row(d, j)), k)
+    oriented(point(pattern(d, j).0), k)
 }
 
 // The first opposite of corner j.
@@ -265,7 +109,7 @@ pub fn first(d: u8, k: u8, j: u8) -> Point
     requires { ⌜ (3 ≤ d) × ((d ≤ 6) × (j < d)) ⌝ }
     ensures { λ r. ⌜ r ≡ firstOf d k j ⌝ }
 {
-    oriented(first_at(row(d, j)), k)
+    oriented(point(pattern(d, j).1), k)
 }
 
 // The second opposite of corner j, or none.
@@ -273,8 +117,10 @@ pub fn second(d: u8, k: u8, j: u8) -> Spot
     requires { ⌜ (3 ≤ d) × ((d ≤ 6) × (j < d)) ⌝ }
     ensures { λ r. ⌜ r ≡ secondOf d k j ⌝ }
 {
-    match second_at(row(d, j)) {
-        Spot::At(p) => Spot::At(oriented(p, k)),
-        Spot::Nothing => Spot::Nothing,
+    let p = pattern(d, j).2;
+    if p.2 == NO_DEPTH {
+        Spot::Nothing
+    } else {
+        Spot::At(oriented(point(p), k))
     }
 }

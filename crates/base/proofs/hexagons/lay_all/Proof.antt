@@ -5,7 +5,6 @@ use mathlib.Core.List.{List}
 use Prim.Native.Nat.{ℕ, _+_, _≤_, _<_, _-_}
 use native.Mathlib.Omega.{arith}
 use lib.ListN.{length}
-use Rattle.lattice.specs.Flat.{table}
 use Rattle.table.specs.SlotLaws.{table-same}
 use Rattle.base.proofs.hexagons.lay_all.Statement.{statement}
 use Rattle.base.specs.Marks.{Within, laidBy}

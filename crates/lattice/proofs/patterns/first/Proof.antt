@@ -4,29 +4,23 @@ use mathlib.Core.Path.{_≡_, sym, _∙_, ap, subst}
 use Prim.Native.Nat.{_<_}
 use native.Mathlib.Omega.{arith}
 use Rattle.lattice.proofs.patterns.first.Statement.{statement}
-use Rattle.lattice.specs.Flat.{rowOf, row-bounds, flat-pattern}
-use Rattle.lattice.specs.Patterns.{Row, patternOf, orient}
+use Rattle.lattice.specs.Rows.{pointOf}
+use Rattle.lattice.specs.Patterns.{patternOf, orient}
 use Rattle.lattice.specs.Bounds.{Hex}
 use Rattle.lattice.specs.PatternLaws.{first-close}
 use Rattle.lattice.specs.declared.points.Point.{Point}
+use Rattle.lattice.specs.declared.patterns.Place.{Place}
 use Rattle.lattice.proofs.patterns.first.Tie as tie
 
-row-requires : tie.Need-row-requires
-row-requires c κs = search needs
+pattern-requires : tie.Need-pattern-requires
+pattern-requires c κs = search needs
 
-first-at-requires : tie.Need-first-at-requires
-first-at-requires c κs =
-    let s = c .before in
-    let e = c .row .ensures in
-    omega (arith, row-bounds (s .args .d) (s .pre .0) (s .pre .1 .0))
+point-requires : tie.Need-point-requires
+point-requires c κs = search needs
 
 -- the point that is turned
-read : (c : tie.After-first-at) → c .first-at .result ≡ patternOf (c .before .before .args .d) (c .before .before .args .j) .first
-read c =
-    let s = c .before .before in
-    c .first-at .ensures
-    ∙ ap (λ i. rowOf i .first) (c .before .row .ensures)
-    ∙ ap (λ (r : Row). r .first) (flat-pattern (s .args .d) (s .args .j) (s .pre .0) (s .pre .1 .0) (s .pre .1 .1))
+read : (c : tie.After-point) → c .point .result ≡ patternOf (c .before .before .args .d) (c .before .before .args .j) .first
+read c = c .point .ensures ∙ ap (λ (r : Place). pointOf (r .1)) (c .before .pattern .ensures)
 
 oriented-requires : tie.Need-oriented-requires
 oriented-requires c κs =
@@ -38,4 +32,4 @@ returns : tie.Need-returns
 returns c = c .oriented .ensures ∙ ap (orient (c .before .before .before .args .k)) (read (c .before))
 
 pub first-spec : {M : Type 1} → statement M
-first-spec = tie.close (tie.spec row-requires first-at-requires oriented-requires returns)
+first-spec = tie.close (tie.spec pattern-requires point-requires oriented-requires returns)

@@ -4,52 +4,54 @@ use mathlib.Core.Path.{_≡_, sym, _∙_, ap}
 use native.Mathlib.Omega.{arith}
 use Rattle.lattice.specs.declared.patterns.Spot.the-variants.{At}
 use Rattle.lattice.proofs.patterns.second.Statement.{statement}
-use Rattle.lattice.specs.Flat.{rowOf, row-bounds, flat-pattern}
-use Rattle.lattice.specs.Patterns.{Row, onSpot, patternOf, orient}
-use Rattle.lattice.specs.PatternLaws.{second-close}
+use Rattle.lattice.specs.Rows.{pointOf, held, held-none, held-at}
+use Rattle.lattice.specs.Patterns.{onSpot, patternOf, orient}
+use Rattle.lattice.specs.PatternLaws.{Close, second-close}
+use Rattle.lattice.specs.declared.patterns.P.{P}
+use Rattle.lattice.specs.declared.patterns.Place.{Place}
+use Rattle.lattice.specs.declared.points.Point.{Point}
+use Rattle.lattice.specs.declared.patterns.Spot.{Spot}
 use Rattle.lattice.proofs.patterns.second.Tie as tie
 
-row-requires : tie.Need-row-requires
-row-requires c κs = search needs
+pattern-requires : tie.Need-pattern-requires
+pattern-requires c κs = search needs
 
-second-at-requires : tie.Need-second-at-requires
-second-at-requires c κs =
-    let s = c .before in
-    let e = c .row .ensures in
-    omega (arith, row-bounds (s .args .d) (s .pre .0) (s .pre .1 .0))
+point-requires : tie.Need-point-requires
+point-requires c κs = search needs
 
--- the spot that is turned
-read : (c : tie.After-second-at) → c .second-at .result ≡ patternOf (c .before .before .args .d) (c .before .before .args .j) .second
+-- the second opposite, how the table has it, and that it lies near
+abbrev there : tie.Start → Spot
+there s = patternOf (s .args .d) (s .args .j) .second
+
+written : (c : tie.After-pattern) → c .pattern .result .2 ≡ held (there (c .before))
+written c = ap (λ (r : Place). r .2) (c .pattern .ensures)
+
+near : (s : tie.Start) (p : Point) → there s ≡ At p → Close p
+near s = second-close (s .args .d) (s .args .j) (s .pre .0) (s .pre .1 .0) (s .pre .1 .1)
+
+-- the point that is turned
+read : (c : tie.After-point) → At (c .point .result) ≡ there (c .before .before .before .before .before)
 read c =
-    let s = c .before .before in
-    c .second-at .ensures
-    ∙ ap (λ i. rowOf i .second) (c .before .row .ensures)
-    ∙ ap (λ (r : Row). r .second) (flat-pattern (s .args .d) (s .args .j) (s .pre .0) (s .pre .1 .0) (s .pre .1 .1))
-
-enum-known-p : tie.Need-enum-known-p
-enum-known-p c = search needs
+    let q = c .before .before .before .before in
+    let e = written q in
+    ap At (c .point .ensures ∙ ap pointOf e) ∙ sym (held-at (there (q .before)) (λ n. c .before .if1 .left (ap (λ (p : P). p .2) e ∙ n)))
 
 oriented-requires : tie.Need-oriented-requires
 oriented-requires c κs =
-    let q = c .before .before .before in
-    let s = q .before .before in
-    let p = c .before .p .given in
-    let n = second-close (s .args .d) (s .args .j) (s .pre .0) (s .pre .1 .0) (s .pre .1 .1) (p .0 .0) (sym (read q) ∙ p .1) in
+    let n = near (c .before .before .before .before .before) (c .point .result) (sym (read c)) in
     (n .hex, let d = n .depth in omega arith)
-
-enum-told : tie.Need-enum-told
-enum-told c = search needs
 
 returns : tie.Need-returns
 returns c =
-    let q = c .before .before .before .before in
-    let k = q .before .before .args .k in
-    ap At (c .oriented .ensures) ∙ ap (onSpot (orient k)) (sym (c .before .before .p .given .1) ∙ read q)
+    let q = c .before .before .before in
+    let n = held-none (there (q .before)) (λ p e. near (q .before) p e .depth) (sym (ap (λ (p : P). p .2) (written q)) ∙ c .if1 .taken) in
+    sym (ap (onSpot (orient (q .before .args .k))) n)
 
 returns-2 : tie.Need-returns-2
 returns-2 c =
-    let q = c .before .before in
-    ap (onSpot (orient (q .before .before .args .k))) (sym (c .enum-told .given .1) ∙ read q)
+    let k = c .before .before .before .before .before .before .args .k in
+    ap At (c .oriented .ensures) ∙ ap (onSpot (orient k)) (read (c .before))
 
 pub second-spec : {M : Type 1} → statement M
-second-spec = tie.close (tie.spec row-requires second-at-requires enum-known-p oriented-requires enum-told returns returns-2)
+second-spec =
+    tie.close (tie.spec pattern-requires point-requires oriented-requires returns returns-2)
