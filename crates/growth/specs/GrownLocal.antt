@@ -46,7 +46,7 @@ module _ (H : Point → Bool) (c : Pt → ℕ) (good : Good H c) where
   pub creator-full : (p : Pt) (i : ℕ) → rank p ≡ suc (suc i) → T c (creatorOf p i) i ≡ true → fullAt H c (creatorOf p i) (rank (creatorOf p i)) ≡ true
   creator-full p i f o = let l = T-lo c (creatorOf p i) i o in let k = creator-rank p i f in good (creatorOf p i) (omega arith)
 
-  parents-there : (p : Pt) (i t : ℕ) → rank p ≡ suc (suc i) → T c (creatorOf p i) i ≡ true → t < 3 → presAt H c (par p t (suc i)) (rank (par p t (suc i))) ≡ true
+  pub parents-there : (p : Pt) (i t : ℕ) → rank p ≡ suc (suc i) → T c (creatorOf p i) i ≡ true → t < 3 → presAt H c (par p t (suc i)) (rank (par p t (suc i))) ≡ true
   parents-there p i t f o ht =
       let (u, hu, k) = creator-ex p i f in
       go u hu k (creator-is p i u hu f k) (ℕ-discrete t u)
@@ -70,7 +70,7 @@ module _ (H : Point → Bool) (c : Counts) (good : M.Good H c) where
   R = recordOf H c
 
   -- a point is there where the model has it
-  there-is : (p : Pt) → presAt H (at c) p (rank p) ≡ true → Here R (p .at)
+  pub there-is : (p : Pt) → presAt H (at c) p (rank p) ≡ true → Here R (p .at)
   there-is p h =
       let (r, x) = look-here (presAt H (at c) p (rank p)) (intAt H p (rank p)) (p .at) (starAt (at c) p (rank p)) h in
       some-there R (p .at) r (record-is c H p ∙ rec-at H (at c) p (rank p) refl ∙ x)

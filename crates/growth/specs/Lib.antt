@@ -19,3 +19,5 @@ pub mod Checked
 pub mod LocalGrown
 pub mod GrownValid
 pub mod GrownLocal
+pub mod StarSteps
+pub mod Neighbours
