@@ -21,3 +21,4 @@ pub mod GrownValid
 pub mod GrownLocal
 pub mod StarSteps
 pub mod Neighbours
+pub mod Growth
