@@ -8,7 +8,7 @@
 use mathlib.Core.Path.{_≡_, refl, sym, _∙_, ap, subst, fun-ext}
 use mathlib.Core.Logic.{_≢_, _⊎_, inl, inr}
 use mathlib.Core.Bool.{Bool, true, false, _&&_}
-use mathlib.Core.Option.{Option, none, some}
+use mathlib.Core.Option.{Option, some}
 use mathlib.Core.List.{List, [], _∷_, List·Memᴰ, List·Memᴰ·head, List·Memᴰ·tail, List·Memᴰ·not-nil, List·Memᴰ·cases-cons}
 use Prim.Native.Nat.{ℕ, _+_, _*_, _%_, _≤_, _<_}
 use native.Mathlib.Omega.{arith}
@@ -22,16 +22,16 @@ use Rattle.lattice.specs.declared.points.Point.{Point}
 use Rattle.lattice.specs.declared.records.Record.{Record}
 use Rattle.growth.specs.Sheets.{Sheet, vertex, Whole, Step, Grown}
 use Rattle.growth.specs.Model.{Counts, recordOf, more, Good}
-use Rattle.growth.specs.Local.{localTest, Here, Local}
+use Rattle.growth.specs.Local.{localTest, Local}
 use Rattle.growth.specs.LocalTests.{tested, local-tested, there-some}
 use Rattle.growth.specs.Subdivide.{closed-whole, closed-step, closed-good, closed-adjacent}
-use Rattle.growth.specs.GrownLaws as Laws
 use Rattle.growth.specs.GrownLaws.{Closed}
-use Rattle.growth.specs.GrownValid as Valid
 use Rattle.growth.specs.GrownLocal.{closed-local}
 use Rattle.growth.specs.Checked.{Sound}
 use Rattle.growth.specs.LocalGrown.{Bounded, checked-closed}
 use Rattle.growth.specs.Neighbours.{closed-neighbours}
+use Rattle.growth.specs.GrownLaws as Laws
+use Rattle.growth.specs.GrownValid as Valid
 
 -- ---- M1: in the mesh of H and c a subdivision is not torn, and gives the mesh with one more; the counts stay good
 pub grow-step : (H : Point → Bool) (c : Counts) (v : Record) → Good H c → recordOf H c (v .at) ≡ some v → v .d ≡ 6

@@ -6,36 +6,35 @@
 use mathlib.Core.Path.{_≡_, refl, sym, _∙_, ap, subst}
 use mathlib.Core.Logic.{_≢_}
 use mathlib.Core.Bool.{Bool, true, false, cond}
-use mathlib.Core.Option.{Option, none, some}
-use Prim.Native.Nat.{ℕ, zero, suc, _+_, _*_, _%_, _/_, _-_, _≤_, _<_}
+use mathlib.Core.Option.{some}
+use Prim.Native.Nat.{ℕ, zero, suc, _+_, _*_, _%_, _≤_, _<_}
 use native.Mathlib.Omega.{arith}
 use native.Mathlib.Decide.{ℕ-discrete}
-use lib.Dec as D
 use lib.Dec.{eqb}
 use native.Mathlib.Nat.{le-trans}
 use Rattle.lattice.specs.Records.{orientationsOf, validOf}
 use Rattle.lattice.specs.RecordLaws.{Inner, inner}
 use Rattle.laws.specs.Choices.{is-true, of-true}
 use Rattle.lattice.specs.Stars.{adjacentAt}
-use Rattle.lattice.specs.Ranks.{moveOf, rankOf}
-use Rattle.lattice.specs.SideLaws.{Dir, turn2, turn6, turn10}
-use Rattle.growth.specs.StarSteps.{turnOf, downOf, star-step}
+use Rattle.lattice.specs.SideLaws.{Dir, turn2, turn10}
+use Rattle.lattice.specs.StarSteps.{turnOf, downOf, star-step}
 use Rattle.lattice.specs.declared.points.Point.{Point}
 use Rattle.lattice.specs.declared.records.Record.{Record}
-use Rattle.growth.specs.Sheets.{Sheet, vertex, inBase, insideBase}
-use Rattle.growth.specs.Model as M
+use Rattle.growth.specs.Sheets.{inBase}
 use Rattle.growth.specs.Model.{Counts, bySplits, recordOf}
-use Rattle.growth.specs.Normal.{Pt, rank, birth, move, back, birth-lt, birth-par, out-rank}
-use Rattle.growth.specs.Parents.{par, par-dir, par-back, par-rank, par-move, creatorOf, creator-new, aside-l, aside-r}
+use Rattle.growth.specs.Normal.{Pt, rank, birth, move, back, birth-lt, out-rank}
+use Rattle.growth.specs.Parents.{par, par-dir, par-back, par-rank, par-move, creator-new, aside-l, aside-r}
 use Rattle.growth.specs.BaseLaws.{base-in}
-use Rattle.growth.specs.Closed.{look, T, starAt, presAt, intAt, fullAt, rec, rec-at, Good}
+use Rattle.growth.specs.Closed.{T, starAt, presAt, intAt, rec-at, Good}
 use Rattle.growth.specs.Updates.{look-inside}
-use Rattle.growth.specs.OneStep as One
 use Rattle.growth.specs.Subdivide.{closed-adjacent, record-normal}
 use Rattle.growth.specs.Link.{at, record-is, good-in}
 use Rattle.growth.specs.Local.{Here}
 use Rattle.growth.specs.LocalTests.{some-there}
 use Rattle.growth.specs.GrownLocal.{parents-there, there-is}
+use lib.Dec as D
+use Rattle.growth.specs.Model as M
+use Rattle.growth.specs.OneStep as One
 
 -- ---- the steps of a star of degree 3, 4 or 5: s tells which of the three parents have been subdivided
 pub data Slot (s : ℕ → Bool) (k b e i : ℕ) : Type 0 where

@@ -19,3 +19,4 @@ pub mod SideLaws
 pub mod SubdivisionLaws
 pub mod RankLaws
 pub mod RankSteps
+pub mod StarSteps

@@ -1,8 +1,8 @@
 -- A star by steps: place j of a star of degree d, orientation k and level n is the step in direction k + `turnOf d j` of level n + `downOf d j` (`star-step`).
 -- One table over degree, place, orientation and the level's parity.
 -- Assumes nothing.
-use mathlib.Core.Path.{_≡_, refl, sym, _∙_, ap}
-use mathlib.Core.List.{List, [], _∷_}
+use mathlib.Core.Path.{_≡_, sym, _∙_, ap}
+use mathlib.Core.List.{[], _∷_}
 use mathlib.Core.Bool.{cond}
 use Prim.Native.Nat.{ℕ, zero, suc, _+_, _*_, _%_, _/_, _-_, _≤_, _<_}
 use native.Mathlib.Omega.{arith}
@@ -10,15 +10,16 @@ use lib.Dec.{eqb}
 use lib.IntN.{ℤ, pos}
 use lib.ListN.{getD}
 use Rattle.laws.specs.Rules.{Test, _≡?_, _≤?_, _≡ᶻ?_, _&_, _⇒_, Means, run, upto, upto-at, rule2}
-use Rattle.lattice.specs.Points.{pt, lift, sumOf}
+use Rattle.laws.specs.Parts.{up}
+use Rattle.lattice.specs.Points.{pt, lift}
 use Rattle.lattice.specs.Places.{wide, high}
 use Rattle.lattice.specs.Patterns.{orient, three, four, five, six, rowsOf, patternOf, adjacentOf}
 use Rattle.lattice.specs.PatternLaws.{orient-depth, adjacent-close}
 use Rattle.lattice.specs.Stars.{scaleOf, adjacentAt}
 use Rattle.lattice.specs.Ranks.{moveOf, level}
-use Rattle.lattice.specs.GeometryLaws.{Same, sum-same, scale-lift}
+use Rattle.lattice.specs.GeometryLaws.{sum-same, scale-lift}
 use Rattle.lattice.specs.declared.points.Point.{Point}
 use Rattle.lattice.specs.declared.records.Record.{Record}
 
 -- the directions of a star's adjacents, counted from its orientation, and how many levels down their steps are
 unfoldable pub turnOf : ℕ → ℕ → ℕ
