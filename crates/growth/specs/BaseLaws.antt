@@ -2,19 +2,16 @@
 -- `base-out` a point of rank 0 inside the base has its six unit neighbours there · `base-in` so have the points of rank 1 their three parents · `inside-in` what is inside is in it.
 -- Why: two unit neighbours of a corner that are a twelfth of a turn and a sixth apart are neighbours themselves (`fan`), so a hexagon round one corner is round the next.
 -- Assumes nothing.
-use mathlib.Core.Path.{_≡_, refl, sym, _∙_, ap, subst}
-use mathlib.Core.Logic.{_⊎_, inl, inr}
-use mathlib.Core.Bool.{Bool, true, false, cond, _&&_, _||_, true≢false}
-use Prim.Native.Nat.{ℕ, zero, suc, _+_, _*_, _%_, _/_, _≤_, _<_}
+use mathlib.Core.Path.{_≡_, sym, _∙_, subst}
+use mathlib.Core.Bool.{Bool, true, false, cond, _&&_, _||_}
+use Prim.Native.Nat.{ℕ, _+_, _*_, _%_, _≤_, _<_}
 use native.Mathlib.Omega.{arith}
 use native.Mathlib.Decide.{ℕ-discrete}
 use lib.Dec.{T, eqb}
-use borrow.Author.Tests.{eq-eqb, ne-eqb}
-use Rattle.laws.specs.Bools.{and-left, and-right, and-both}
+use Rattle.laws.specs.Bools.{and-left, and-right}
 use Rattle.laws.specs.Choices.{or-left, or-right}
 use Rattle.lattice.specs.SideLaws.{Dir}
 use Rattle.lattice.specs.Points.{classOf}
-use Rattle.lattice.specs.Ranks.{moveOf}
 use Rattle.lattice.specs.RankLaws.{ground-first, ground-base}
 use Rattle.lattice.specs.declared.points.Point.{Point}
 use Rattle.growth.specs.Normal.{Pt, rank, birth, move, back, fan, birth-lt, birth-par, out-rank, out-birth, in-rank}

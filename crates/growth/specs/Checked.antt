@@ -5,43 +5,41 @@
 -- `Sound`, `Bounded` what a table's sheet has · `centres`, `countsOf` H and c · `kids` · `checked-is`, `checked-good`, `checked-low`, `checked-base` · `checked-closed` M3.
 -- Assumes nothing.
 use mathlib.Core.Path.{_≡_, refl, sym, _∙_, ap, subst}
-use mathlib.Core.Logic.{_≢_, _⊎_, inl, inr}
-use mathlib.Core.Bool.{Bool, true, false, cond, _&&_, _||_, true≢false}
+use mathlib.Core.Logic.{_≢_}
+use mathlib.Core.Bool.{Bool, true, false, cond, _&&_, true≢false}
 use mathlib.Core.Option.{Option, none, some, Option·none-ne-some}
-use mathlib.Core.List.{List, [], _∷_, List·Memᴰ, List·Memᴰ·head, List·Memᴰ·tail, List·Memᴰ·not-nil, List·Memᴰ·cases-cons}
 use Prim.Native.Nat.{ℕ, zero, suc, _+_, _*_, _%_, _/_, _-_, _≤_, _<_}
 use native.Mathlib.Omega.{arith}
 use native.Mathlib.Decide.{ℕ-discrete}
 use lib.Dec.{eqb, ltb, leb, eqb→eq}
-use lib.Dec as D
-use borrow.Author.Tests.{eq-eqb, ne-eqb, eqb-true, ltb-true, ltb-false, lt-ltb, le-ltb}
+use borrow.Author.Tests.{eq-eqb, ne-eqb, ltb-true, ltb-false, lt-ltb, le-ltb}
 use Rattle.laws.specs.Bools.{and-left, and-right, and-both}
-use Rattle.laws.specs.Choices.{is-true, is-false, of-true}
+use Rattle.laws.specs.Choices.{is-true, of-true}
 use Rattle.lattice.specs.Points.{isNormal}
 use Rattle.lattice.specs.Records.{within, suitsOf, validOf}
-use Rattle.lattice.specs.Stars.{adjacentAt}
-use Rattle.lattice.specs.Ranks as L
 use Rattle.lattice.specs.Points.{classOf}
 use Rattle.lattice.specs.Ranks.{rankOf, birthOf, moveOf, parentOf}
 use Rattle.lattice.specs.RankLaws.{rank-between}
-use Rattle.lattice.specs.SideLaws.{Dir, turn1, turn6, turn11}
-use Rattle.lattice.specs.SubdivisionLaws.{Sited, sited, six-place}
+use Rattle.lattice.specs.SideLaws.{Dir, turn6}
+use Rattle.lattice.specs.SubdivisionLaws.{six-place}
 use Rattle.lattice.specs.RecordLaws.{inner}
 use Rattle.lattice.specs.declared.points.Point.{Point}
 use Rattle.lattice.specs.declared.records.Record.{Record}
-use Rattle.growth.specs.Sheets.{Sheet, vertex, hexagonOf, inBase, insideBase, Base}
-use Rattle.growth.specs.Model.{Counts, bySplits, recordOf, fullOf, Good, Low, Finite}
-use Rattle.growth.specs.Normal.{Pt, pt-eq, rank, birth, move, back, side-l, out-rank, out-birth}
+use Rattle.growth.specs.Sheets.{Sheet, vertex, hexagonOf, inBase, insideBase}
+use Rattle.growth.specs.Model.{Counts, bySplits}
+use Rattle.growth.specs.Normal.{Pt, rank, birth, move, side-l, out-rank, out-birth}
 use Rattle.growth.specs.Directions.{mod-12-4}
 use Rattle.growth.specs.Parents.{par, creatorOf, par-at, par-rank, par-back, par-dir, creator-ex, creator-is, creator-rank}
-use Rattle.growth.specs.Closed as C
-use Rattle.growth.specs.Closed.{look, T, starAt, presAt, intAt, fullAt, rec, rec-at}
-use Rattle.growth.specs.Link as K
-use Rattle.growth.specs.Link.{at, par-is, record-is, record-none, full-is}
-use Rattle.growth.specs.Updates.{splits-six, splits-less}
+use Rattle.growth.specs.Closed.{look, T, starAt, presAt, intAt, rec, rec-at}
+use Rattle.growth.specs.Link.{at, par-is}
+use Rattle.growth.specs.Updates.{splits-less}
 use Rattle.growth.specs.Hexagons.{hexagon-centre, hexagon-corner, in-any, any-in, inside-all, all-inside, centre-in, centre-inside}
-use Rattle.growth.specs.Local.{there, over, isThere, isOver, saidBy, expected, Here, Local}
-use Rattle.growth.specs.LocalTests.{there-some, some-there, over-six, six-over}
+use Rattle.growth.specs.Local.{there, over, isOver, saidBy, expected, Here, Local}
+use Rattle.growth.specs.LocalTests.{there-some, some-there, over-six}
+use lib.Dec as D
+use Rattle.lattice.specs.Ranks as L
+use Rattle.growth.specs.Closed as C
+use Rattle.growth.specs.Link as K
 
 -- what looking up in a table in order gives: valid records, each at its point
 abbrev pub Sound : Sheet → Type 0

@@ -2,20 +2,19 @@
 -- `T` subdivided at a level · `starAt`, `presAt`, `intAt`, `fullAt` the model's parts at rank f · `rec` the record · `bump` one more subdivision · `Good` the counts there are ·
 -- `T-..` laws of T · `full-..` of degree 6 · `rec-at`, `rec-look` opening a record.
 -- Assumes nothing.
-use mathlib.Core.Path.{_≡_, refl, sym, _∙_, ap, subst}
+use mathlib.Core.Path.{_≡_, refl, sym}
 use mathlib.Core.Logic.{_≢_}
 use mathlib.Core.Bool.{Bool, true, false, cond, _&&_, true≢false}
 use mathlib.Core.Option.{Option, none, some}
-use Prim.Native.Nat.{ℕ, zero, suc, _+_, _*_, _%_, _/_, _≤_, _<_}
+use Prim.Native.Nat.{ℕ, zero, suc, _+_, _%_, _≤_, _<_}
 use native.Mathlib.Omega.{arith}
 use lib.Dec.{ltb}
 use borrow.Author.Tests.{ltb-true, ltb-false, lt-ltb, le-ltb}
-use Rattle.laws.specs.Choices.{is-true, of-true}
 use Rattle.lattice.specs.declared.points.Point.{Point}
 use Rattle.lattice.specs.declared.records.Record.{Record}
 use Rattle.growth.specs.Sheets.{vertex, inBase, insideBase}
 use Rattle.growth.specs.Model.{bySplits}
-use Rattle.growth.specs.Normal.{Pt, pt-eq, rank, birth, move, same?, same-eq, same-refl, same-ne, pt?}
+use Rattle.growth.specs.Normal.{Pt, pt-eq, rank, birth, same?, same-refl, same-ne, pt?}
 use Rattle.growth.specs.Parents.{par, creatorOf}
 
 -- present or not, internal or not

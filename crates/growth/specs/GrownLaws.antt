@@ -4,34 +4,31 @@
 use mathlib.Core.Path.{_≡_, refl, sym, _∙_, ap, subst, fun-ext}
 use mathlib.Core.Logic.{_≢_, _⊎_, inl, inr}
 use mathlib.Core.Bool.{Bool, true, false, cond, _&&_, true≢false}
-use mathlib.Core.Option.{Option, none, some}
+use mathlib.Core.Option.{none, some}
 use mathlib.Core.List.{List, [], _∷_, List·Memᴰ, List·Memᴰ·head, List·Memᴰ·tail, List·Memᴰ·not-nil, List·Memᴰ·cases-cons}
-use Prim.Native.Nat.{ℕ, zero, suc, _+_, _*_, _%_, _/_, _-_, _≤_, _<_}
+use Prim.Native.Nat.{ℕ, zero, suc, _+_, _%_, _≤_, _<_}
 use native.Mathlib.Omega.{arith}
-use native.Mathlib.Decide.{ℕ-discrete}
 use lib.ListN.{length}
-use lib.Dec.{T, eqb, ltb}
-use borrow.Author.Tests.{eq-eqb, ne-eqb, le-ltb}
-use Rattle.laws.specs.Choices.{is-true, of-true, when-true, when-false}
+use lib.Dec.{T, eqb}
+use Rattle.laws.specs.Choices.{is-true, of-true}
 use Rattle.lattice.specs.Points.{isNormal}
 use Rattle.lattice.specs.Stars.{adjacentAt}
 use Rattle.lattice.specs.Points.{classOf}
-use Rattle.lattice.specs.Ranks.{rankOf, birthOf, parentOf}
-use Rattle.lattice.specs.RankLaws.{rank-between, ground-in, ground-out}
+use Rattle.lattice.specs.Ranks.{rankOf}
 use Rattle.lattice.specs.Subdivision.{newOf}
 use Rattle.lattice.specs.declared.points.Point.{Point}
 use Rattle.lattice.specs.declared.records.Record.{Record}
 use Rattle.growth.specs.Sheets.{Sheet, vertex, Whole, Step, inBase, insideBase, baseVertex, baseOf, Base, Grown, start, grow}
-use Rattle.growth.specs.Model.{Counts, subdivided, presentOf, internalOf, bySplits, recordOf, fullOf, more, Good, Low, Finite}
+use Rattle.growth.specs.Model.{Counts, bySplits, recordOf, more, Good, Low, Finite}
 use Rattle.growth.specs.Normal.{Pt, rank, birth, birth-lt, birth-par, pt-eq, point?, same?, same-refl}
 use Rattle.growth.specs.Parents.{par, par-rank, creatorOf, creator-rank}
 use Rattle.growth.specs.BaseLaws.{class-zero, class-one}
-use Rattle.growth.specs.Closed.{T-le, rec, look, presAt, intAt, starAt, rec-at, fullAt}
-use Rattle.growth.specs.Closed as C
-use Rattle.growth.specs.Link.{at, deep, shallow, look-is, record-is, record-none, full-is, full-normal, good-in, more-is}
-use Rattle.growth.specs.Subdivide.{more-other, Six, six-record, closed-whole, closed-step, closed-good}
-use Rattle.growth.specs.Order as O
+use Rattle.growth.specs.Closed.{T-le, rec, look, presAt, intAt, starAt, rec-at}
+use Rattle.growth.specs.Link.{at, deep, shallow, look-is, record-is, record-none, full-is, good-in, more-is}
+use Rattle.growth.specs.Subdivide.{more-other, six-record, closed-whole, closed-step, closed-good}
 use Rattle.growth.specs.Order.{cnt, Seq, nil, next}
+use Rattle.growth.specs.Closed as C
+use Rattle.growth.specs.Order as O
 use Rattle.growth.specs.OneStep as One
 
 -- ---- a subdivision has one result

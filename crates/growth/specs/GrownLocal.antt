@@ -4,50 +4,47 @@
 -- `closed-local` · `grown-local` M3.
 -- Assumes nothing.
 use mathlib.Core.Path.{_≡_, refl, sym, _∙_, ap, subst}
-use mathlib.Core.Logic.{_≢_, _⊎_, inl, inr}
-use mathlib.Core.Bool.{Bool, true, false, cond, _&&_, _||_, true≢false}
-use mathlib.Core.Option.{Option, none, some, Option·none-ne-some}
-use Prim.Native.Nat.{ℕ, zero, suc, _+_, _*_, _%_, _/_, _-_, _≤_, _<_}
+use mathlib.Core.Logic.{_≢_}
+use mathlib.Core.Bool.{Bool, true, false, cond, _&&_}
+use mathlib.Core.Option.{none, some}
+use Prim.Native.Nat.{ℕ, zero, suc, _+_, _*_, _%_, _-_, _≤_, _<_}
 use native.Mathlib.Omega.{arith}
 use native.Mathlib.Decide.{ℕ-discrete}
-use lib.Dec.{eqb, ltb, eqb→eq}
-use lib.Dec as D
-use borrow.Author.Tests.{eq-eqb, ne-eqb}
+use lib.Dec.{eqb, eqb→eq}
+use borrow.Author.Tests.{eq-eqb}
 use Rattle.laws.specs.Bools.{bool-is}
-use Rattle.laws.specs.Choices.{is-true, is-false, of-true, when-true, when-false}
+use Rattle.laws.specs.Choices.{is-true, of-true, when-true, when-false}
 use Rattle.lattice.specs.Points.{isNormal}
 use Rattle.lattice.specs.Stars.{adjacentAt}
-use Rattle.lattice.specs.Ranks as L
 use Rattle.lattice.specs.Points.{classOf}
 use Rattle.lattice.specs.Ranks.{rankOf, birthOf, moveOf, parentOf}
 use Rattle.lattice.specs.RankLaws.{rank-between}
-use Rattle.lattice.specs.SideLaws.{Dir}
 use Rattle.lattice.specs.declared.points.Point.{Point}
 use Rattle.lattice.specs.declared.records.Record.{Record}
-use Rattle.growth.specs.Sheets.{Sheet, vertex, hexagonOf, inBase, insideBase, Grown}
-use Rattle.growth.specs.Model as M
+use Rattle.growth.specs.Sheets.{Sheet, vertex, hexagonOf, inBase, insideBase}
 use Rattle.growth.specs.Model.{Counts, subdivided, presentOf, internalOf, bySplits, starRecord, recordOf}
 use Rattle.growth.specs.Normal.{Pt, rank, birth, move, out-rank}
 use Rattle.growth.specs.Parents.{par, creatorOf, par-rank, creator-ex, creator-is, creator-rank, parents-near}
-use Rattle.growth.specs.Closed as C
-use Rattle.growth.specs.Closed.{look, T, T-lo, T-lt, T-le, starAt, presAt, intAt, fullAt, rec, rec-at, Good}
+use Rattle.growth.specs.Closed.{look, T, T-lo, T-lt, starAt, presAt, intAt, fullAt, rec-at, Good}
 use Rattle.growth.specs.Updates.{splits-less, splits-some, look-inv, look-here, look-inside}
-use Rattle.growth.specs.OneStep as One
-use Rattle.growth.specs.Subdivide.{Six, six-record, closed-adjacent, record-normal}
-use Rattle.growth.specs.Link as K
+use Rattle.growth.specs.Subdivide.{six-record, closed-adjacent, record-normal}
 use Rattle.growth.specs.Link.{at, par-is, record-is, good-in}
 use Rattle.growth.specs.Hexagons.{hexagon-centre, in-any, any-in, inside-all, all-inside, centre-in, centre-inside, corner-ground, corner-not, corner-hexagon}
-use Rattle.growth.specs.Local.{there, over, saidBy, expected, Here, Local}
+use Rattle.growth.specs.Local.{over, saidBy, expected, Here, Local}
 use Rattle.growth.specs.LocalTests.{there-some, some-there, over-six, six-over}
-use Rattle.growth.specs.Checked.{shallower, deeper}
-use Rattle.growth.specs.GrownLaws.{Closed, grown-closed}
+use lib.Dec as D
+use Rattle.lattice.specs.Ranks as L
+use Rattle.growth.specs.Model as M
+use Rattle.growth.specs.Closed as C
+use Rattle.growth.specs.OneStep as One
+use Rattle.growth.specs.Link as K
 
 -- ---- the parents of a point that is there are there
 module _ (H : Point → Bool) (c : Pt → ℕ) (good : Good H c) where
   pub creator-full : (p : Pt) (i : ℕ) → rank p ≡ suc (suc i) → T c (creatorOf p i) i ≡ true → fullAt H c (creatorOf p i) (rank (creatorOf p i)) ≡ true
   creator-full p i f o = let l = T-lo c (creatorOf p i) i o in let k = creator-rank p i f in good (creatorOf p i) (omega arith)
 
-  parents-there : (p : Pt) (i t : ℕ) → rank p ≡ suc (suc i) → T c (creatorOf p i) i ≡ true → t < 3 → presAt H c (par p t (suc i)) (rank (par p t (suc i))) ≡ true
+  pub parents-there : (p : Pt) (i t : ℕ) → rank p ≡ suc (suc i) → T c (creatorOf p i) i ≡ true → t < 3 → presAt H c (par p t (suc i)) (rank (par p t (suc i))) ≡ true
   parents-there p i t f o ht =
       let (u, hu, k) = creator-ex p i f in
       go u hu k (creator-is p i u hu f k) (ℕ-discrete t u)
@@ -71,7 +68,7 @@ module _ (H : Point → Bool) (c : Counts) (good : M.Good H c) where
   R = recordOf H c
 
   -- a point is there where the model has it
-  there-is : (p : Pt) → presAt H (at c) p (rank p) ≡ true → Here R (p .at)
+  pub there-is : (p : Pt) → presAt H (at c) p (rank p) ≡ true → Here R (p .at)
   there-is p h =
       let (r, x) = look-here (presAt H (at c) p (rank p)) (intAt H p (rank p)) (p .at) (starAt (at c) p (rank p)) h in
       some-there R (p .at) r (record-is c H p ∙ rec-at H (at c) p (rank p) refl ∙ x)

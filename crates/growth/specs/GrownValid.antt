@@ -2,25 +2,22 @@
 -- Why: the corners of a centre within 250 are within 251, and a subdivision makes valid records (the lattice's SubdivisionLaws).
 -- Assumes nothing.
 use mathlib.Core.Path.{_≡_, refl, sym, _∙_, ap, subst}
-use mathlib.Core.Logic.{_≢_, _⊎_, inl, inr}
-use mathlib.Core.Bool.{Bool, true, false, cond, _&&_, _||_, true≢false}
-use mathlib.Core.Option.{Option, none, some, Option·none-ne-some, Option·some-injective}
-use Prim.Native.Nat.{ℕ, zero, suc, _+_, _*_, _%_, _-_, _^_, _≤_, _<_}
+use mathlib.Core.Bool.{Bool, true, false, cond, _&&_}
+use mathlib.Core.Option.{none, some, Option·none-ne-some, Option·some-injective}
+use Prim.Native.Nat.{ℕ, _+_, _*_, _%_, _^_, _≤_, _<_}
 use native.Mathlib.Omega.{arith}
 use native.Mathlib.Decide.{ℕ-discrete}
 use lib.Dec.{T, eqb, leb, eqb→eq, leb→le}
-use lib.IntN.{ℤ, _+ℤ_, natAbs}
-use borrow.Author.Tests.{eq-eqb, ne-eqb}
+use lib.IntN.{_+ℤ_, natAbs}
+use borrow.Author.Tests.{eq-eqb}
 use Rattle.laws.specs.Bools.{and-left, and-right, and-both}
 use Rattle.laws.specs.Choices.{is-true, of-true, or-left}
 use Rattle.laws.specs.Rules.{_≤?_, _&_, rule}
 use Rattle.laws.specs.Sizes.{abs-add}
-use Rattle.lattice.specs.Points.{isNormal, pt}
 use Rattle.lattice.specs.Patterns.{orient}
 use Rattle.lattice.specs.Stars.{adjacentAt}
 use Rattle.lattice.specs.Records.{validOf, suitsOf}
 use Rattle.lattice.specs.Points.{classOf}
-use Rattle.lattice.specs.Ranks.{moveOf}
 use Rattle.lattice.specs.RankLaws.{one}
 use Rattle.lattice.specs.Subdivision.{centreOf, newOf, backOf, fourTurn, updateOf}
 use Rattle.lattice.specs.SubdivisionLaws.{Sited, sited, valid-made, centre-valid, update-valid, new-valid}
@@ -28,7 +25,7 @@ use Rattle.lattice.specs.declared.points.Point.{Point}
 use Rattle.lattice.specs.declared.records.Record.{Record}
 use Rattle.growth.specs.Sheets.{Sheet, vertex, Whole, Step, hexagonOf, inBase, insideBase, baseVertex, baseOf, isCentre, Base, Grown, start, grow}
 use Rattle.growth.specs.Normal.{point?}
-use Rattle.growth.specs.Hexagons.{in-any, centre-in, hexagon-centre, hexagon-corner}
+use Rattle.growth.specs.Hexagons.{in-any, centre-in, hexagon-corner}
 use Rattle.growth.specs.GrownLaws.{among}
 use Rattle.growth.specs.Checked.{Sound}
 use Rattle.growth.specs.LocalGrown.{unit-a}

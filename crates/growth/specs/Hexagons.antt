@@ -2,15 +2,15 @@
 -- (`hexagon-centre`), each of which has that corner among its six (`hexagon-corner`), and each of the six corners of a centre has it among its three (`corner-hexagon`).
 -- `in-any`, `any-in`, `inside-all`, `all-inside` what `inBase` and `insideBase` say of a corner.
 -- Assumes nothing.
-use mathlib.Core.Path.{_≡_, refl, sym, _∙_, ap, subst}
+use mathlib.Core.Path.{_≡_, sym, _∙_, ap, subst}
 use mathlib.Core.Logic.{_≢_, _⊎_, inl, inr}
-use mathlib.Core.Bool.{Bool, true, false, cond, _&&_, _||_}
-use Prim.Native.Nat.{ℕ, zero, suc, _+_, _*_, _%_, _/_, _≤_, _<_}
+use mathlib.Core.Bool.{Bool, cond, _&&_, _||_}
+use Prim.Native.Nat.{ℕ, zero, suc, _+_, _*_, _%_, _/_, _<_}
 use native.Mathlib.Omega.{arith}
 use native.Mathlib.Decide.{ℕ-discrete}
 use lib.Dec.{T, eqb, eqb→eq}
-use lib.IntN.{ℤ, _-ℤ_}
-use borrow.Author.Tests.{eq-eqb, ne-eqb}
+use lib.IntN.{_-ℤ_}
+use borrow.Author.Tests.{eq-eqb}
 use Rattle.laws.specs.Bools.{and-left, and-right, and-both}
 use Rattle.laws.specs.Choices.{or-split, or-left, or-right, of-true, when-true, when-false}
 use Rattle.laws.specs.Rules.{_≡?_, _⇒_, rule}

@@ -1,21 +1,28 @@
--- The index of the crate.
+-- Grown meshes, their mathematics. What a reader has to believe: Sheets (document 01), Model (the closed form), Local (the test). What is proved of them: Growth.
 pub mod Sheets
+pub mod Model
+pub mod Local
+pub mod Growth
+-- how it is proved. Points and their parents, by steps alone
 pub mod Normal
 pub mod Directions
 pub mod Parents
-pub mod Model
+pub mod Hexagons
 pub mod BaseLaws
+-- M1, M4: one more subdivision
 pub mod Closed
 pub mod Updates
 pub mod OneStep
 pub mod Link
 pub mod Subdivide
+-- M2: grown is closed, and back
 pub mod Order
 pub mod GrownLaws
-pub mod Local
+pub mod GrownValid
+-- M3: the local test, both ways
 pub mod LocalTests
-pub mod Hexagons
 pub mod Checked
 pub mod LocalGrown
-pub mod GrownValid
 pub mod GrownLocal
+-- no neighbour query is torn
+pub mod Neighbours

@@ -1,29 +1,28 @@
 -- A private device: the model (specs/Model), at a normalised point, is the closed form that the proofs compute with (specs/Closed); at any other point there is no record.
 -- `record-is`, `full-is`, `record-none` · `good-in`, `good-out` the two ways to say that counts are good · `more-is` one more subdivision.
 -- Assumes nothing.
-use mathlib.Core.Path.{_≡_, refl, sym, _∙_, ap, subst}
-use mathlib.Core.Logic.{_≢_}
+use mathlib.Core.Path.{_≡_, refl, sym, _∙_, ap}
 use mathlib.Core.Bool.{Bool, true, false, cond, _&&_, true≢false}
-use mathlib.Core.Option.{Option, none, some}
-use Prim.Native.Nat.{ℕ, zero, suc, _+_, _*_, _%_, _-_, _≤_, _<_}
+use mathlib.Core.Option.{none, some}
+use Prim.Native.Nat.{ℕ, zero, suc, _+_, _*_, _-_, _≤_}
 use native.Mathlib.Omega.{arith}
 use lib.Dec.{ltb, eqb}
-use lib.Dec as D
 use borrow.Author.Tests.{eq-eqb, ne-eqb}
-use Rattle.laws.specs.Bools.{and-left, and-right, and-both}
-use Rattle.laws.specs.Choices.{is-true, is-false, of-true, when-true, when-false}
+use Rattle.laws.specs.Bools.{and-left}
+use Rattle.laws.specs.Choices.{is-true, of-true, when-true, when-false}
 use Rattle.lattice.specs.Points.{isNormal}
-use Rattle.lattice.specs.Ranks as L
 use Rattle.lattice.specs.Ranks.{rankOf, birthOf, parentOf}
 use Rattle.lattice.specs.RankLaws.{rank-between}
 use Rattle.lattice.specs.declared.points.Point.{Point}
 use Rattle.lattice.specs.declared.records.Record.{Record}
-use Rattle.growth.specs.Sheets.{vertex, inBase, insideBase}
-use Rattle.growth.specs.Model as M
+use Rattle.growth.specs.Sheets.{vertex, inBase}
 use Rattle.growth.specs.Model.{Counts, subdivided, presentOf, internalOf, bySplits, starRecord, recordOf, fullOf, more}
-use Rattle.growth.specs.Normal.{Pt, rank, birth, move, same?, same-eq, point?, same-refl, same-ne}
+use Rattle.growth.specs.Normal.{Pt, rank, birth, move, same?}
 use Rattle.growth.specs.Parents.{par, creatorOf}
 use Rattle.growth.specs.Closed.{look, T, starAt, bump, presAt, intAt, fullAt, rec, Good, rec-at}
+use lib.Dec as D
+use Rattle.lattice.specs.Ranks as L
+use Rattle.growth.specs.Model as M
 
 -- the counts at normalised points
 abbrev pub at : Counts → Pt → ℕ

@@ -1,18 +1,13 @@
 -- M3's test: what one record has to pass for the mesh to be grown. It reads at most 16 other records, so a table is judged in one pass.
 -- `there`, `over` what looking a point up tells · `localTest` the test, as code computes it · `Local` what it says, in the words of the model (specs/LocalTests has that it does).
 -- Assumes nothing.
-use mathlib.Core.Path.{_≡_, refl, sym, _∙_, ap, subst}
-use mathlib.Core.Logic.{_≢_, _⊎_, inl, inr}
+use mathlib.Core.Path.{_≡_}
+use mathlib.Core.Logic.{_≢_}
 use mathlib.Core.Bool.{Bool, true, false, cond, _&&_, _||_, not}
 use mathlib.Core.Option.{Option, none, some}
-use Prim.Native.Nat.{ℕ, zero, suc, _+_, _*_, _-_, _%_, _≤_, _<_}
-use native.Mathlib.Omega.{arith}
-use native.Mathlib.Decide.{ℕ-discrete}
-use lib.Dec.{T, eqb, ltb, leb, eqb→eq, leb→le, le→leb, T-not, not-T}
-use borrow.Author.Tests.{eq-eqb, ne-eqb}
-use Rattle.laws.specs.Bools.{and-left, and-right, and-both}
-use Rattle.laws.specs.Choices.{or-split, or-left, or-right, is-true, of-true, when-true, when-false}
-use Rattle.laws.specs.Rules.{upto, upto-at}
+use Prim.Native.Nat.{ℕ, _*_, _-_, _%_, _≤_, _<_}
+use lib.Dec.{T, eqb, ltb, leb}
+use Rattle.laws.specs.Rules.{upto}
 use Rattle.lattice.specs.Stars.{adjacentAt}
 use Rattle.lattice.specs.Points.{classOf}
 use Rattle.lattice.specs.Ranks.{rankOf, birthOf, moveOf, parentOf, creatorOf}

@@ -2,25 +2,23 @@
 -- `Bounded` a list holds all its points · `checked-closed` · `grownTest`, `grown-tested` the test of a whole list of records decides `Grown` (with specs/GrownLocal).
 -- Assumes nothing.
 use mathlib.Core.Path.{_≡_, refl, sym, _∙_, ap, subst}
-use mathlib.Core.Logic.{_≢_, _⊎_, inl, inr}
-use mathlib.Core.Bool.{Bool, true, false, cond, _&&_, _||_, true≢false}
-use mathlib.Core.Option.{Option, none, some, Option·none-ne-some}
-use mathlib.Core.List.{List, [], _∷_, List·Memᴰ, List·Memᴰ·head, List·Memᴰ·tail, List·Memᴰ·not-nil, List·Memᴰ·cases-cons}
-use Prim.Native.Nat.{ℕ, zero, suc, _+_, _*_, _%_, _/_, _-_, _^_, _≤_, _<_}
+use mathlib.Core.Logic.{_⊎_, inl, inr}
+use mathlib.Core.Bool.{Bool, true, false, cond, _&&_, true≢false}
+use mathlib.Core.Option.{Option, none, some}
+use mathlib.Core.List.{List, [], _∷_, List·Memᴰ, List·Memᴰ·not-nil, List·Memᴰ·cases-cons}
+use Prim.Native.Nat.{ℕ, zero, suc, _+_, _*_, _-_, _^_, _≤_, _<_}
 use native.Mathlib.Omega.{arith}
 use native.Mathlib.Decide.{ℕ-discrete}
-use lib.Dec.{T, eqb, leb, ltb, eqb→eq, le→leb}
-use borrow.Author.Tests.{eq-eqb, ne-eqb, eqb-true}
+use lib.Dec.{T, eqb, leb, le→leb}
+use borrow.Author.Tests.{eq-eqb, eqb-true}
 use lib.IntN.{ℤ, pos, negsuc, _+ℤ_, natAbs}
-use Rattle.laws.specs.Bools.{and-left, and-right, and-both, bool-is}
-use Rattle.laws.specs.Choices.{is-true, is-false, of-true, or-split, or-left, or-right}
+use Rattle.laws.specs.Bools.{and-both, bool-is}
+use Rattle.laws.specs.Choices.{is-true, of-true, or-split, or-left, or-right}
 use Rattle.laws.specs.Parts.{add-is, abs-is, apart}
 use Rattle.laws.specs.Rules.{run, sound, complete}
 use Rattle.lattice.specs.PointLaws.{alike, alike-eq}
-use Rattle.lattice.specs.Points.{isNormal, pt}
-use Rattle.lattice.specs.Places.{wide, high}
+use Rattle.lattice.specs.Points.{isNormal}
 use Rattle.lattice.specs.Patterns.{orient}
-use Rattle.lattice.specs.Records.{validOf}
 use Rattle.lattice.specs.RecordLaws.{inner}
 use Rattle.lattice.specs.Points.{classOf}
 use Rattle.lattice.specs.Ranks.{rankOf, moveOf, parentOf}
@@ -30,18 +28,17 @@ use Rattle.lattice.specs.SubdivisionLaws.{Sited, sited}
 use Rattle.lattice.specs.declared.points.Point.{Point}
 use Rattle.lattice.specs.declared.records.Record.{Record}
 use Rattle.growth.specs.Sheets.{Sheet, hexagonOf, isCentre, listed, Base}
-use Rattle.growth.specs.Model.{Counts, recordOf, Good, Low, Finite}
+use Rattle.growth.specs.Model.{recordOf, Good, Low}
 use Rattle.growth.specs.Normal.{Pt, rank}
 use Rattle.growth.specs.Parents.{par, par-rank}
-use Rattle.growth.specs.Closed.{rec}
-use Rattle.growth.specs.OneStep as One
 use Rattle.growth.specs.Link.{at, par-is, record-is, record-none, full-is}
 use Rattle.growth.specs.Hexagons.{hexagon-centre, corner-ground}
-use Rattle.growth.specs.Local.{there, Here, Local}
+use Rattle.growth.specs.Local.{Here, Local}
 use Rattle.growth.specs.LocalTests.{there-some, some-there}
 use Rattle.growth.specs.GrownLaws.{Closed}
-use Rattle.growth.specs.Checked as K
 use Rattle.growth.specs.Checked.{Sound, level6, countsOf, centres, shallower, deeper}
+use Rattle.growth.specs.OneStep as One
+use Rattle.growth.specs.Checked as K
 
 -- a list holds all points that are there
 abbrev pub Bounded : Sheet → Type 0

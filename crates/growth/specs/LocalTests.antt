@@ -4,13 +4,13 @@ use mathlib.Core.Path.{_≡_, refl, sym, _∙_, ap, subst}
 use mathlib.Core.Logic.{_≢_, _⊎_, inl, inr}
 use mathlib.Core.Bool.{Bool, true, false, cond, _&&_, _||_, not}
 use mathlib.Core.Option.{Option, none, some}
-use Prim.Native.Nat.{ℕ, zero, suc, _+_, _*_, _-_, _%_, _≤_, _<_}
+use Prim.Native.Nat.{ℕ, zero, suc, _*_, _-_, _%_, _≤_, _<_}
 use native.Mathlib.Omega.{arith}
 use native.Mathlib.Decide.{ℕ-discrete}
 use lib.Dec.{T, eqb, ltb, leb, eqb→eq, leb→le, ltb→lt, le→leb, lt→ltb, T-not, not-T}
-use borrow.Author.Tests.{eq-eqb, ne-eqb}
+use borrow.Author.Tests.{eq-eqb}
 use Rattle.laws.specs.Bools.{and-left, and-right, and-both}
-use Rattle.laws.specs.Choices.{or-split, or-left, or-right, is-true, of-true, when-true, when-false}
+use Rattle.laws.specs.Choices.{or-split, or-left, or-right, of-true, when-true, when-false}
 use Rattle.laws.specs.Rules.{upto, upto-at}
 use Rattle.lattice.specs.Stars.{adjacentAt}
 use Rattle.lattice.specs.Points.{classOf}
@@ -18,7 +18,6 @@ use Rattle.lattice.specs.Ranks.{rankOf, birthOf, moveOf, parentOf, creatorOf}
 use Rattle.lattice.specs.declared.points.Point.{Point}
 use Rattle.lattice.specs.declared.records.Record.{Record}
 use Rattle.growth.specs.Sheets.{Sheet, vertex, hexagonOf}
-use Rattle.growth.specs.Model.{bySplits}
 use Rattle.growth.specs.Updates.{splits-at}
 use Rattle.growth.specs.Local.{isThere, isOver, there, over, centreTest, cornerTest, deepTest, saidBy, expected, starTest, sixTest, localTest, Here, Local}
 

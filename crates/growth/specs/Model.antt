@@ -2,9 +2,8 @@
 -- `subdivided` whether q was subdivided at level i · `presentOf`, `internalOf`, `starRecord`, `recordOf` the record at a point · `fullOf` degree 6 · `more` one more subdivision · `Good`, `Low`, `Finite` which c there are.
 -- Ranks, birth orientations, parents and creators are the lattice's (its specs/Ranks).
 -- Assumes nothing.
-use mathlib.Core.Path.{_≡_}
 use mathlib.Core.Bool.{Bool, true, false, cond, _&&_}
-use mathlib.Core.Option.{Option, none, some}
+use mathlib.Core.Option.{none, some}
 use mathlib.Core.List.{List, List·Memᴰ}
 use Prim.Native.Nat.{ℕ, _+_, _-_, _%_, _≤_, _<_}
 use lib.Dec.{T, eqb, ltb}

@@ -1,11 +1,11 @@
 -- A private device: normalised points as a type of their own, so that the laws of steps and ranks hold of every one of them. Outside this crate nobody sees it.
 -- `Pt` · `rank`, `birth`, `move` · `back`, `inj`, `out-rank`, `out-birth`, `in-rank`, `creator`, `side-l`, `side-r`, `fan` the lattice's laws · `same?` two of them are one.
 -- Assumes nothing.
-use mathlib.Core.Path.{_≡_, refl, sym, _∙_, ap, subst}
+use mathlib.Core.Path.{_≡_, refl, sym, _∙_, ap}
 use mathlib.Core.Logic.{_≢_}
 use mathlib.Core.Bool.{Bool, true, false, true≢false}
 use mathlib.Core.HLevel.{isProp→PathP}
-use Prim.Native.Nat.{ℕ, suc, _+_, _*_, _%_, _≤_, _<_}
+use Prim.Native.Nat.{ℕ, suc, _+_, _%_, _≤_, _<_}
 use lib.Dec.{T, T-prop}
 use Rattle.laws.specs.Rules.{run, sound, complete}
 use Rattle.laws.specs.Choices.{is-true, is-false, of-true}
@@ -13,12 +13,12 @@ use Rattle.lattice.specs.PointLaws.{alike, alike-eq}
 use Rattle.lattice.specs.Points.{isNormal}
 use Rattle.lattice.specs.Ranks.{rankOf, birthOf, moveOf}
 use Rattle.lattice.specs.GeometryLaws.{move-back, move-inj}
-use Rattle.lattice.specs.SideLaws as Side
 use Rattle.lattice.specs.SideLaws.{Dir, vector}
 use Rattle.lattice.specs.SubdivisionLaws.{sum-normal}
 use Rattle.lattice.specs.RankLaws.{birth-below, birth-parity}
-use Rattle.lattice.specs.RankSteps as Rank
 use Rattle.lattice.specs.declared.points.Point.{Point}
+use Rattle.lattice.specs.SideLaws as Side
+use Rattle.lattice.specs.RankSteps as Rank
 
 pub record Pt : Type 0 where
   pub at : Point

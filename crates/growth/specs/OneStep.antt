@@ -7,7 +7,7 @@
 use mathlib.Core.Path.{_≡_, refl, sym, _∙_, ap}
 use mathlib.Core.Logic.{_≢_, _⊎_, inl, inr}
 use mathlib.Core.Bool.{Bool, true, false, true≢false}
-use mathlib.Core.Option.{Option, none, some}
+use mathlib.Core.Option.{none, some}
 use Prim.Native.Nat.{ℕ, zero, suc, _+_, _*_, _%_, _/_, _≤_, _<_}
 use native.Mathlib.Omega.{arith}
 use native.Mathlib.Decide.{ℕ-discrete}
@@ -16,13 +16,13 @@ use Rattle.lattice.specs.SideLaws.{Dir, turn1, turn6, turn11}
 use Rattle.lattice.specs.Subdivision.{updateOf, acceptsOf}
 use Rattle.lattice.specs.declared.points.Point.{Point}
 use Rattle.lattice.specs.declared.records.Record.{Record}
-use Rattle.growth.specs.Sheets.{vertex, inBase, insideBase}
+use Rattle.growth.specs.Sheets.{vertex, inBase}
 use Rattle.growth.specs.Model.{bySplits}
 use Rattle.growth.specs.Normal.{Pt, rank, birth, move, back, pt?, birth-lt, birth-par, out-rank, out-birth}
 use Rattle.growth.specs.Directions.{thirds, third-of, mod-12-4, below3, mod4, plus4′, plus8′}
-use Rattle.growth.specs.Parents.{par, creatorOf, aside-l, aside-r, par-dir, par-back, par-rank, par-inj, par-at, par-move, parent-of, creator-ex, creator-is, creator-new, parents-near}
-use Rattle.growth.specs.BaseLaws.{base-out, base-in, inside-in}
-use Rattle.growth.specs.Closed.{look, T, starAt, bump, bump-same, bump-other, T-other, T-same, T-le, T-lt, T-off, T-on, T-lo, T-mono, T-down, presAt, intAt, fullAt, rec, Good, full-all, full-make, full-par, full-zero, int-of-full, rec-at, rec-look}
+use Rattle.growth.specs.Parents.{par, creatorOf, aside-l, aside-r, par-dir, par-back, par-inj, parent-of, creator-ex, creator-is, creator-new, parents-near}
+use Rattle.growth.specs.BaseLaws.{base-out, inside-in}
+use Rattle.growth.specs.Closed.{look, T, starAt, bump, bump-same, bump-other, T-other, T-same, T-le, T-lt, T-off, T-on, T-mono, T-down, presAt, intAt, fullAt, rec, Good, full-all, full-par, full-zero, int-of-full, rec-at, rec-look}
 use Rattle.growth.specs.Updates.{update-split, accept-split, splits-six, splits-three, look-inside, look-update, look-accept}
 
 module _ (H : Point → Bool) (c : Pt → ℕ) where

@@ -4,9 +4,9 @@
 -- Assumes nothing.
 use mathlib.Core.Path.{_≡_, refl, sym, _∙_, ap, subst}
 use mathlib.Core.Logic.{_≢_}
-use mathlib.Core.Bool.{Bool, true, false, cond, _&&_, true≢false}
-use mathlib.Core.Option.{Option, none, some, Option·none-ne-some}
-use Prim.Native.Nat.{ℕ, zero, suc, _+_, _*_, _%_, _/_, _-_, _≤_, _<_}
+use mathlib.Core.Bool.{Bool, true, false}
+use mathlib.Core.Option.{Option, some, Option·none-ne-some}
+use Prim.Native.Nat.{ℕ, suc, _+_, _*_, _%_, _/_, _<_}
 use native.Mathlib.Omega.{arith}
 use lib.Dec.{T}
 use Rattle.laws.specs.Choices.{is-true, of-true}
@@ -18,13 +18,13 @@ use Rattle.lattice.specs.SideLaws.{Dir}
 use Rattle.lattice.specs.Subdivision.{centreOf, newOf, backOf, updateOf, acceptsOf}
 use Rattle.lattice.specs.declared.points.Point.{Point}
 use Rattle.lattice.specs.declared.records.Record.{Record}
-use Rattle.growth.specs.Sheets.{Sheet, vertex, Whole, Step}
+use Rattle.growth.specs.Sheets.{vertex, Whole, Step}
 use Rattle.growth.specs.Model.{Counts, recordOf, fullOf, more, Good}
 use Rattle.growth.specs.Normal.{Pt, rank, move, point?, same?, same-ne}
-use Rattle.growth.specs.Closed as C
-use Rattle.growth.specs.Closed.{rec, fullAt, presAt, bump}
-use Rattle.growth.specs.OneStep as One
+use Rattle.growth.specs.Closed.{rec, fullAt, bump}
 use Rattle.growth.specs.Link.{at, record-is, record-none, full-is, full-normal, good-in, more-is}
+use Rattle.growth.specs.Closed as C
+use Rattle.growth.specs.OneStep as One
 
 -- a point with a record is normalised
 pub record-normal : (H : Point → Bool) (c : Counts) (p : Point) (r : Record) → recordOf H c p ≡ some r → T (isNormal p)

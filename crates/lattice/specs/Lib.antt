@@ -20,3 +20,4 @@ pub mod SideLaws
 pub mod SubdivisionLaws
 pub mod RankLaws
 pub mod RankSteps
+pub mod StarSteps
