@@ -1,7 +1,7 @@
 -- Bytes stored part by part: parts written one after the other are the whole written at once.
 -- `Wrote` what a writer did · `wrote-then` the next part · `wrote-byte` one byte · `set-sets` a store past a run of stores may come first.
 -- Assumes nothing.
-use mathlib.Core.Path.{_≡_, refl, sym, _∙_, subst, ap}
+use mathlib.Core.Path.{_≡_, refl, _∙_, ap}
 use mathlib.Core.List.{List, [], _∷_, _++_}
 use Prim.Native.Nat.{ℕ, suc, _+_, _≤_}
 use native.Mathlib.Omega.{arith}

@@ -9,7 +9,7 @@ use Prim.Native.Nat.{ℕ, zero, suc, _+_, _*_, _%_, _/_, _≤_, _<_, _-_, _^_}
 use native.Mathlib.Omega.{arith}
 use native.Mathlib.Decide.{decLt, ℕ-discrete}
 use native.Mathlib.Nat.{pow-succ', one-le-pow}
-use borrow.Author.Tests.{lt-ltb, le-ltb, le-leb, lt-leb, eq-eqb, ne-eqb, leb-true, ltb-true}
+use borrow.Author.Tests.{lt-ltb, le-ltb, le-leb, eq-eqb, ne-eqb, leb-true, ltb-true}
 use lib.Dec.{eqb, ltb, leb}
 use lib.IntN.{ℤ, pos, negsuc, natAbs}
 use lib.Signed.{ltZ}
@@ -19,7 +19,7 @@ use Rattle.laws.specs.Sets.{sets-append}
 use Rattle.laws.specs.Stores.{set-sets}
 use Rattle.laws.specs.Truths.{never, both-left, both-right}
 use Rattle.text.specs.Decimal.{minus, digit, digitsBy, digits, numeral}
-use Rattle.text.specs.Reading.{isDigit, run, value, plain, plainly}
+use Rattle.text.specs.Reading.{isDigit, value, plain}
 
 -- more steps than n give the same digits
 enough : (f g n : ℕ) → n ≤ f → n ≤ g → digitsBy f n ≡ digitsBy g n

@@ -50,45 +50,49 @@ far = 9999999
 abbrev pub near : ℕ
 near = 255
 
--- what is made of a field and the position past it, where there is one
-abbrev pub onNumber : {X : Type 0} → X → (ℕ → ℕ → X) → Number → X
-onNumber none f NoNumber = none
-onNumber none f (Natural n q) = f n q
+-- what a field and the position past it make, in order; `none` where there is no such field
+abbrev pub onNumber : {X : Type 0} → Number → X → (ℕ → ℕ → X) → X
+onNumber NoNumber none f = none
+onNumber (Natural n q) none f = f n q
 
-abbrev pub onSigned : {X : Type 0} → X → (ℤ → ℕ → X) → Signed → X
-onSigned none f NoWhole = none
-onSigned none f (Whole z q) = f z q
+abbrev pub onSigned : {X : Type 0} → Signed → X → (ℤ → ℕ → X) → X
+onSigned NoWhole none f = none
+onSigned (Whole z q) none f = f z q
 
-abbrev pub onPlace : {X : Type 0} → X → (Point → ℕ → X) → Place → X
-onPlace none f Nowhere = none
-onPlace none f (At p q) = f p q
+abbrev pub onPlace : {X : Type 0} → Place → X → (Point → ℕ → X) → X
+onPlace Nowhere none f = none
+onPlace (At p q) none f = f p q
 
+-- a, b and m, each ended by a tab
 unfoldable pub placeAt : List ℕ → ℕ → Place
 placeAt t p =
-    onSigned Nowhere (λ a past-a.
-    onSigned Nowhere (λ b past-b.
-    onNumber Nowhere (λ m past-m. At (pt a b m) past-m)
-    (numberAt t past-b near tab)) (signedAt t past-a far tab)) (signedAt t p far tab)
+    onSigned (signedAt t p far tab) Nowhere λ a past-a.
+    onSigned (signedAt t past-a far tab) Nowhere λ b past-b.
+    onNumber (numberAt t past-b near tab) Nowhere λ m past-m.
+    At (pt a b m) past-m
 
+-- the record of the vertex at p
 abbrev pub rec : Point → ℕ → ℕ → ℕ → Record
 rec p d k n = record { at = p; d = d; k = k; n = record { 0 = n } }
 
+-- d and k, each ended by a tab, and n, ended by the line feed
 unfoldable pub starAt : List ℕ → ℕ → Point → Line
 starAt t q p =
-    onNumber Bad (λ d past-d.
-    onNumber Bad (λ k past-k.
-    onNumber Bad (λ n next. Good (rec p d k n) next)
-    (numberAt t past-k near feed)) (numberAt t past-d near tab)) (numberAt t q near tab)
+    onNumber (numberAt t q near tab) Bad λ d past-d.
+    onNumber (numberAt t past-d near tab) Bad λ k past-k.
+    onNumber (numberAt t past-k near feed) Bad λ n next.
+    Good (rec p d k n) next
 
 -- the line at p, its record valid or not
 unfoldable pub spelledAt : List ℕ → ℕ → Line
-spelledAt t p = cond (leb (length t) p) End (onPlace Bad (λ at past-m. starAt t past-m at) (placeAt t p))
+spelledAt t p = cond (leb (length t) p) End (onPlace (placeAt t p) Bad λ at past-m. starAt t past-m at)
 
+-- "record not valid"
 abbrev pub judged : Line → Line
 judged End = End
 judged Bad = Bad
 judged (Good r next) = cond (validOf r) (Good r next) Bad
 
--- the line of a valid record at p: "line malformed or record not valid" is Bad
+-- the line of a valid record at p; "line malformed or record not valid" is Bad
 unfoldable pub lineAt : List ℕ → ℕ → Line
 lineAt t p = judged (spelledAt t p)

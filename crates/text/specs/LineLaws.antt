@@ -1,13 +1,13 @@
 -- Why written and parsed lines are one format: a written line parses to its record (`line-write`), and only a written line parses (`line-read`). So the bytes at a
 -- position settle the answer: `line-one` no two valid records' lines stand there, `line-prefix` no line begins another, `line-bad` all else is Bad, `line-end` the end of the file.
--- `lines-join`, `lines-next` the lines of several records, one after the other.
+-- `line-next` how far a line goes · `lines-join`, `lines-next` the lines of several records, one after the other.
 -- Assumes nothing.
 use mathlib.Core.Path.{_≡_, refl, sym, _∙_, subst, ap}
 use mathlib.Core.Bool.{Bool, true, false, cond}
 use mathlib.Core.List.{List, [], _∷_, _++_, append-assoc}
 use Prim.Native.Nat.{ℕ, _+_, _≤_, _<_}
 use native.Mathlib.Omega.{arith}
-use borrow.Author.Tests.{le-leb, lt-leb, leb-true, leb-false}
+use borrow.Author.Tests.{le-leb, lt-leb}
 use lib.Dec.{leb}
 use lib.IntN.{ℤ, natAbs}
 use lib.ListN.{length, drop, length-append, length-drop}
@@ -92,28 +92,28 @@ not-bad e = absurd (let z : _≡_ {A = ℕ} 0 1 = cc in omega arith)
 not-end : {X : Type 0} {r : Record} {q : ℕ} → End ≡ Good r q → X
 not-end e = absurd (let z : _≡_ {A = ℕ} 0 1 = cc in omega arith)
 
--- a point is read field by field, the last first
+-- a point is read field by field: what is left of it behind a and b, behind a, and at its start
+abbrev withM : ℤ → ℤ → Number → Place
+withM a b n = onNumber n Nowhere (λ m past. At (pt a b m) past)
+
+abbrev withB : List ℕ → ℤ → Signed → Place
+withB t a s = onSigned s Nowhere (λ b past. withM a b (numberAt t past near tab))
+
+abbrev withA : List ℕ → Signed → Place
+withA t s = onSigned s Nowhere (λ a past. withB t a (signedAt t past far tab))
+
 module _ (t : List ℕ) (x : Point) (q : ℕ) where
-  abbrev withM : ℤ → ℤ → Number → Place
-  withM a b = onNumber Nowhere (λ m past. At (pt a b m) past)
-
-  abbrev withB : ℤ → Signed → Place
-  withB a = onSigned Nowhere (λ b past. withM a b (numberAt t past near tab))
-
-  abbrev withA : Signed → Place
-  withA = onSigned Nowhere (λ a past. withB a (signedAt t past far tab))
-
   m-read : (a b : ℤ) (p : ℕ) (n : Number) → numberAt t p near tab ≡ n → withM a b n ≡ At x q → (m : ℕ) × (pt a b m ≡ x) × Stands t p (ended (digits m) tab) q
   m-read a b p NoNumber e h = nowhere h
   m-read a b p (Natural m r) e h = let w = place-is h in (m, w .0, subst (Stands t p (ended (digits m) tab)) (w .1) (number-read t p near tab m r e))
 
-  b-read : (a : ℤ) (p : ℕ) (s : Signed) → signedAt t p far tab ≡ s → withB a s ≡ At x q → (b : ℤ) × (m : ℕ) × (pt a b m ≡ x) × Stands t p (ended (numeral b) tab ++ ended (digits m) tab) q
+  b-read : (a : ℤ) (p : ℕ) (s : Signed) → signedAt t p far tab ≡ s → withB t a s ≡ At x q → (b : ℤ) × (m : ℕ) × (pt a b m ≡ x) × Stands t p (ended (numeral b) tab ++ ended (digits m) tab) q
   b-read a p NoWhole e h = nowhere h
   b-read a p (Whole b r) e h =
       let w = m-read a b r (numberAt t r near tab) refl h in
       (b, w .0, w .1, stands-join (signed-read t p far tab b r e .0) (w .2))
 
-  a-read : (p : ℕ) (s : Signed) → signedAt t p far tab ≡ s → withA s ≡ At x q → Stands t p (pointText x) q
+  a-read : (p : ℕ) (s : Signed) → signedAt t p far tab ≡ s → withA t s ≡ At x q → Stands t p (pointText x) q
   unfolding pointText
   a-read p NoWhole e h = nowhere h
   a-read p (Whole a r) e h =
@@ -124,28 +124,28 @@ pub place-read : (t : List ℕ) (p q : ℕ) (x : Point) → placeAt t p ≡ At x
 unfolding placeAt
 place-read t p q x h = a-read t x q p (signedAt t p far tab) refl h
 
--- and so is the rest of a line
+-- and so is the rest of a line, behind d and k, behind d, and at its start
+abbrev withN : Point → ℕ → ℕ → Number → Line
+withN x d k v = onNumber v Bad (λ n next. Good (rec x d k n) next)
+
+abbrev withK : List ℕ → Point → ℕ → Number → Line
+withK t x d v = onNumber v Bad (λ k past. withN x d k (numberAt t past near feed))
+
+abbrev withD : List ℕ → Point → Number → Line
+withD t x v = onNumber v Bad (λ d past. withK t x d (numberAt t past near tab))
+
 module _ (t : List ℕ) (x : Point) (s : Record) (q : ℕ) where
-  abbrev withN : ℕ → ℕ → Number → Line
-  withN d k = onNumber Bad (λ n next. Good (rec x d k n) next)
-
-  abbrev withK : ℕ → Number → Line
-  withK d = onNumber Bad (λ k past. withN d k (numberAt t past near feed))
-
-  abbrev withD : Number → Line
-  withD = onNumber Bad (λ d past. withK d (numberAt t past near tab))
-
-  n-read : (d k p : ℕ) (v : Number) → numberAt t p near feed ≡ v → withN d k v ≡ Good s q → (n : ℕ) × (rec x d k n ≡ s) × Stands t p (ended (digits n) feed) q
+  n-read : (d k p : ℕ) (v : Number) → numberAt t p near feed ≡ v → withN x d k v ≡ Good s q → (n : ℕ) × (rec x d k n ≡ s) × Stands t p (ended (digits n) feed) q
   n-read d k p NoNumber e h = not-bad h
   n-read d k p (Natural n r) e h = let w = good-is h in (n, w .0, subst (Stands t p (ended (digits n) feed)) (w .1) (number-read t p near feed n r e))
 
-  k-read : (d p : ℕ) (v : Number) → numberAt t p near tab ≡ v → withK d v ≡ Good s q → (k : ℕ) × (n : ℕ) × (rec x d k n ≡ s) × Stands t p (ended (digits k) tab ++ ended (digits n) feed) q
+  k-read : (d p : ℕ) (v : Number) → numberAt t p near tab ≡ v → withK t x d v ≡ Good s q → (k : ℕ) × (n : ℕ) × (rec x d k n ≡ s) × Stands t p (ended (digits k) tab ++ ended (digits n) feed) q
   k-read d p NoNumber e h = not-bad h
   k-read d p (Natural k r) e h =
       let w = n-read d k r (numberAt t r near feed) refl h in
       (k, w .0, w .1, stands-join (number-read t p near tab k r e) (w .2))
 
-  d-read : (p : ℕ) (v : Number) → numberAt t p near tab ≡ v → withD v ≡ Good s q → (x ≡ s .at) × Stands t p (starText (s .d) (s .k) (s .n .0)) q
+  d-read : (p : ℕ) (v : Number) → numberAt t p near tab ≡ v → withD t x v ≡ Good s q → (x ≡ s .at) × Stands t p (starText (s .d) (s .k) (s .n .0)) q
   unfolding starText
   d-read p NoNumber e h = not-bad h
   d-read p (Natural d r) e h =
@@ -158,7 +158,7 @@ pub spelled-read : (t : List ℕ) (p q : ℕ) (r : Record) → spelledAt t p ≡
 unfolding spelledAt starAt lineOf
 spelled-read t p q r = go (leb (length t) p) (placeAt t p) refl
   where
-    go : (b : Bool) (x : Place) → placeAt t p ≡ x → cond b End (onPlace Bad (λ at past. starAt t past at) x) ≡ Good r q → Stands t p (lineOf r) q
+    go : (b : Bool) (x : Place) → placeAt t p ≡ x → cond b End (onPlace x Bad (λ at past. starAt t past at)) ≡ Good r q → Stands t p (lineOf r) q
     go true x e h = not-end h
     go false Nowhere e h = not-bad h
     go false (At x past) e h =
@@ -180,6 +180,14 @@ line-read t p q r = go (spelledAt t p) refl
     go End e h = not-end h
     go Bad e h = not-bad h
     go (Good s k) e h = sure s k (validOf s) refl e h
+
+-- a reader that takes a line comes on by 12 bytes or more, and stays within the file
+pub line-next : (t : List ℕ) (p q : ℕ) (r : Record) → lineAt t p ≡ Good r q → (p + 12 ≤ q) × (q ≤ length t)
+line-next t p q r e =
+    let s = line-read t p q r e .1 in
+    let least = line-least r in
+    let within = stands-within s (omega arith) in
+    (omega (arith, s .past), omega (arith, s .past, ap length (s .here), length-append (lineOf r) (drop q t), length-drop p t))
 
 -- ---- the bytes settle the answer
 
@@ -207,7 +215,7 @@ over End = true
 over Bad = false
 over (Good r q) = false
 
-on-over : (f : ℕ → ℕ → Line) → ((n q : ℕ) → over (f n q) ≡ false) → (v : Number) → over (onNumber Bad f v) ≡ false
+on-over : (f : ℕ → ℕ → Line) → ((n q : ℕ) → over (f n q) ≡ false) → (v : Number) → over (onNumber v Bad f) ≡ false
 unfolding over
 on-over f h NoNumber = refl
 on-over f h (Natural n q) = h n q
@@ -215,9 +223,8 @@ on-over f h (Natural n q) = h n q
 star-over : (t : List ℕ) (p : ℕ) (x : Point) → over (starAt t p x) ≡ false
 unfolding starAt over
 star-over t p x =
-    on-over (λ d past-d. onNumber Bad (λ k past-k. onNumber Bad (λ n next. Good (rec x d k n) next) (numberAt t past-k near feed)) (numberAt t past-d near tab))
-    (λ d past-d. on-over (λ k past-k. onNumber Bad (λ n next. Good (rec x d k n) next) (numberAt t past-k near feed))
-    (λ k past-k. on-over (λ n next. Good (rec x d k n) next) (λ n next. refl) (numberAt t past-k near feed)) (numberAt t past-d near tab))
+    on-over (λ d past-d. withK t x d (numberAt t past-d near tab))
+    (λ d past-d. on-over (λ k past-k. withN x d k (numberAt t past-k near feed)) (λ k past-k. on-over (λ n next. Good (rec x d k n) next) (λ n next. refl) (numberAt t past-k near feed)) (numberAt t past-d near tab))
     (numberAt t p near tab)
 
 judged-over : (l : Line) → over l ≡ false → over (judged l) ≡ false
@@ -235,7 +242,7 @@ line-over : (t : List ℕ) (p : ℕ) → p < length t → over (lineAt t p) ≡ 
 unfolding lineAt spelledAt over
 line-over t p h = judged-over (spelledAt t p) (rw (lt-leb (length t) p h) (go (placeAt t p)))
   where
-    go : (x : Place) → over (onPlace Bad (λ at past. starAt t past at) x) ≡ false
+    go : (x : Place) → over (onPlace x Bad (λ at past. starAt t past at)) ≡ false
     go Nowhere = refl
     go (At x past) = star-over t past x
 

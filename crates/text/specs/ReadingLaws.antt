@@ -9,7 +9,7 @@ use Prim.Native.Nat.{ℕ, zero, suc, _+_, _*_, _≤_, _<_, _-_}
 use native.Mathlib.Omega.{arith}
 use native.Mathlib.Numerals.{add-one}
 use native.Mathlib.Decide.{decLt}
-use borrow.Author.Tests.{lt-ltb, le-ltb, le-leb, lt-leb, eq-eqb, ne-eqb, leb-true, eqb-true}
+use borrow.Author.Tests.{le-leb, lt-leb, eq-eqb, ne-eqb, leb-true, eqb-true}
 use lib.Dec.{eqb, ltb, leb}
 use lib.IntN.{ℤ, negℤ, pos, negsuc, natAbs}
 use lib.ListN.{length, getD, drop, length-append, drop-of-length-le}
@@ -20,7 +20,6 @@ use Rattle.text.specs.Reading.{isDigit, run, value, plain, plainly, begi
 use Rattle.text.specs.DecimalLaws.{Digits, none, more, digits-are, digits-some, digits-value, value-digits, value-grows, digits-plain, digit-low}
 use Rattle.text.specs.declared.decimal.Number.{Number}
 use Rattle.text.specs.declared.decimal.Number.the-variants.{Natural, NoNumber}
-use Rattle.text.specs.declared.decimal.Signed.{Signed}
 use Rattle.text.specs.declared.decimal.Signed.the-variants.{Whole, NoWhole}
 
 -- ---- bytes at a position

@@ -1,14 +1,11 @@
 // Decimal numbers in bytes: no plus sign, no leading zero, minus only before a nonzero number. Each ends with a byte of the caller's choice, a tab or a line feed.
 ghost use mathlib.Core.Path.{_≡_};
-ghost use mathlib.Core.Bool.{true, cond, _&&_};
-ghost use mathlib.Core.List.{[], _∷_};
 ghost use Prim.Native.Nat.{_+_, _-_, _≤_, _<_};
 ghost use lib.IntN.{negℤ, pos, natAbs};
 ghost use lib.ListN.{length, drop};
 ghost use Rattle.laws.specs.Stores.{Wrote};
 ghost use Rattle.text.specs.Decimal.{minus, digits, numeral, ended};
 ghost use Rattle.text.specs.Reading.{isDigit, plainly, begins, numberAt, signedAt};
-ghost use Rattle.text.specs.declared.decimal.Number.the-variants.{Natural, NoNumber};
 
 // What stands where a number is looked for: a number and the position past the byte that ends it, or none.
 pub enum Number {
@@ -65,7 +62,7 @@ pub fn read_number(t: &[u8], at: usize, most: u32, stop: u8) -> Number
         }
         i += 1;
     }
-    Number::NoNumber
+    Number::NoNumber // the file ends, and nothing ended the number
 }
 
 // A minus sign stands at a position.

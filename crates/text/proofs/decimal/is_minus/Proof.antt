@@ -1,9 +1,9 @@
 use mathlib.Core.Path.{sym, ap}
 use lib.ListN.{drop-of-length-le}
 use lib.Seq.{drop-cons}
+use borrow.Author.Needs.{needs}
 use Rattle.text.specs.Decimal.{minus}
 use Rattle.text.specs.Reading.{begins}
-use borrow.Author.Needs.{needs}
 use Rattle.text.proofs.decimal.is_minus.Statement.{statement}
 use Rattle.text.proofs.decimal.is_minus.Tie as tie
 

@@ -4,14 +4,13 @@ use borrow.Author.Needs.{needs}
 use borrow.Author.Tests.{not-true, not-false}
 use mathlib.Core.Path.{_≡_, sym, _∙_, ap, subst}
 use mathlib.Core.Bool.{Bool, true, false, cond, _&&_}
-use Prim.Native.Nat.{ℕ, _+_, _*_, _-_, _≤_, _<_}
+use Prim.Native.Nat.{ℕ, _+_, _*_, _-_, _≤_}
 use native.Mathlib.Omega.{arith}
 use lib.Dec.{eqb}
 use lib.ListN.{length, getD}
 use Rattle.text.specs.Reading.{isDigit, numberAt}
 use Rattle.text.specs.DecimalLaws.{digit-low, digit-high}
 use Rattle.text.specs.ReadingLaws.{Reading, reading-begins, reading-goes, reading-over, reading-lacks, reading-ends}
-use Rattle.text.specs.declared.decimal.Number.{Number}
 use Rattle.text.specs.declared.decimal.Number.the-variants.{Natural, NoNumber}
 use Rattle.text.proofs.decimal.read_number.Statement.{statement}
 use Rattle.text.proofs.decimal.read_number.Tie as tie

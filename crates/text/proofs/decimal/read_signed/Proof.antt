@@ -1,16 +1,14 @@
 -- `text::decimal::read_signed` meets its contract. Assumes nothing.
 use borrow.Author.Needs.{needs}
 use native.Mathlib.Omega.{arith}
-use mathlib.Core.Path.{_≡_, sym, _∙_, ap}
-use mathlib.Core.Bool.{true, false}
-use Prim.Native.Nat.{ℕ, _+_, _≤_, _<_, _^_}
-use lib.IntN.{ℤ, pos}
+use mathlib.Core.Path.{sym, _∙_, ap}
+use Prim.Native.Nat.{_+_, _<_, _^_}
+use lib.IntN.{ℤ}
 use mir.Syntax.{w32}
 use mir.Facts.{toZ-ofZ, toZ-pos}
 use Rattle.text.specs.Decimal.{minus}
 use Rattle.text.specs.ReadingLaws.{begins-within, number-most, signed-minus, signed-plus, minus-none, minus-some}
 use Rattle.text.specs.declared.decimal.Number.the-variants.{Natural, NoNumber}
-use Rattle.text.specs.declared.decimal.Signed.{Signed}
 use Rattle.text.specs.declared.decimal.Signed.the-variants.{Whole}
 use Rattle.text.proofs.decimal.read_signed.Statement.{statement}
 use Rattle.text.proofs.decimal.read_signed.Tie as tie

@@ -3,19 +3,17 @@
 use borrow.Author.Needs.{needs}
 use native.Mathlib.Omega.{arith}
 use mathlib.Core.Path.{_≡_, sym, _∙_}
-use lib.IntN.{natAbs}
 use mir.Syntax.{w32}
-use mir.Val.{toZ, ofZ, SFits}
+use mir.Val.{SFits}
 use mir.Facts.{toZ-ofZ}
-use Prim.Native.Nat.{_≤_}
 use Rattle.laws.specs.Sizes.{fits}
 use Rattle.lattice.specs.Points.{pt}
 use Rattle.text.specs.Decimal.{tab}
 use Rattle.text.specs.Reading.{numberAt, signedAt}
 use Rattle.text.specs.ReadingLaws.{number-most, signed-read}
 use Rattle.text.specs.Line.{far, near, placeAt}
-use Rattle.text.specs.declared.decimal.Number.the-variants.{Natural, NoNumber}
-use Rattle.text.specs.declared.decimal.Signed.the-variants.{Whole, NoWhole}
+use Rattle.text.specs.declared.decimal.Number.the-variants.{Natural}
+use Rattle.text.specs.declared.decimal.Signed.the-variants.{Whole}
 use Rattle.text.specs.declared.line.Place.the-variants.{At}
 use Rattle.text.proofs.line.read_point.Statement.{statement}
 use Rattle.text.proofs.line.read_point.Tie as tie

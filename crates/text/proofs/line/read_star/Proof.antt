@@ -7,7 +7,7 @@ use Rattle.text.specs.Decimal.{tab, feed}
 use Rattle.text.specs.Reading.{numberAt}
 use Rattle.text.specs.ReadingLaws.{number-most}
 use Rattle.text.specs.Line.{near, starAt}
-use Rattle.text.specs.declared.decimal.Number.the-variants.{Natural, NoNumber}
+use Rattle.text.specs.declared.decimal.Number.the-variants.{Natural}
 use Rattle.text.proofs.line.read_star.Statement.{statement}
 use Rattle.text.proofs.line.read_star.Tie as tie
 
