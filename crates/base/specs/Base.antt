@@ -1,14 +1,14 @@
 -- Document 01, "Base": a list of centres judged, and the records it lays into a table. What the promise cites: `baseOf`.
--- `centreAt` a centre of the list · `goodCentre`, `badAt`, `firstBad` the list judged · `cornerOf`, `internal`, `hexagonOf` the seven records of a hexagon · `laidOf` all of them entered ·
--- `Laid`, `baseOf` what the call answers.
+-- `centreAt`, `isCentre` the centres of the list · `goodCentre`, `badAt`, `firstBad` the list judged · `cornerOf`, `internal`, `hexagonOf` the seven records of a hexagon ·
+-- `Laid`, `laidOf` all of them entered · `Base`, `baseOf` what the call answers.
 -- Assumes nothing.
-use mathlib.Core.Bool.{Bool, false, cond, _&&_, not, _||_}
+use mathlib.Core.Bool.{Bool, cond, _&&_, not, _||_}
 use mathlib.Core.List.{List}
 use Prim.Native.Nat.{ℕ, zero, suc, _+_, _*_, _%_, _/_}
 use lib.Dec.{eqb, ltb, leb}
 use lib.IntN.{ℤ, pos, natAbs}
 use lib.ListN.{length, getD}
-use Rattle.laws.specs.Rules.{upto}
+use Rattle.laws.specs.Rules.{upto, among}
 use Rattle.lattice.specs.Ranks.{classOf}
 use Rattle.lattice.specs.Points.{pt, turns, sumOf}
 use Rattle.table.specs.Search.{samePoint, findOf}
@@ -32,8 +32,11 @@ goodCentre p = leb (natAbs (p .a)) 250 && (leb (natAbs (p .b)) 250 && eqb (class
 
 -- the centre p is one of the first n of the list
 unfoldable pub listedIn : List ℤ → ℕ → Point → Bool
-listedIn cs zero p = false
-listedIn cs (suc n) p = samePoint (centreAt cs n) p || listedIn cs n p
+listedIn cs n p = among n (λ i. samePoint (centreAt cs i) p)
+
+-- the hexagons of a list, by their centres
+abbrev pub isCentre : List ℤ → Point → Bool
+isCentre cs p = listedIn cs (centresIn cs) p
 
 -- "a centre out of range, of the wrong remainder, or repeated"; "of two equal ones the later is bad"
 abbrev pub badAt : List ℤ → ℕ → Bool
@@ -47,20 +50,20 @@ firstBad cs i (suc left) = cond (badAt cs i) i (firstBad cs (i + 1) left)
 abbrev pub badPlace : List ℤ → ℕ
 badPlace cs = firstBad cs 0 (centresIn cs)
 
--- ---- the records of a hexagon
+-- ---- the records of a hexagon, where `listed` says which hexagons are, by their centres
 -- "corners in directions 0, 60, .. 300 degrees": corner j of the hexagon at p
 abbrev pub cornerOf : Point → ℕ → Point
 cornerOf p j = sumOf p (turns j (pt (pos 1) (pos 0) 0))
 
--- a unit neighbour of a corner that could be a centre is listed
-abbrev pub hexagonListed : List ℤ → Point → ℕ → Bool
-hexagonListed cs q j = not (eqb (classOf (cornerOf q j)) 0) || listedIn cs (centresIn cs) (cornerOf q j)
+-- a unit neighbour of a corner is the centre of no hexagon, or of one that is listed
+abbrev pub hexagonListed : (Point → Bool) → Point → Bool
+hexagonListed listed p = not (eqb (classOf p) 0) || listed p
 
 -- "A corner is internal when all three hexagons round it are listed"
-unfoldable pub internal : List ℤ → Point → Bool
-internal cs q = upto 6 (hexagonListed cs q)
+unfoldable pub internal : (Point → Bool) → Point → Bool
+internal listed q = upto 6 (λ j. hexagonListed listed (cornerOf q j))
 
-abbrev at0 : Point → ℕ → ℕ → Record
+abbrev pub at0 : Point → ℕ → ℕ → Record
 at0 p d k = record { at = p; d = d; k = k; n = record { 0 = 0 } }
 
 -- "A centre has d 3, k 0."
@@ -68,15 +71,13 @@ abbrev pub centreRecord : Point → Record
 centreRecord p = at0 p 3 0
 
 -- "with a-b leaving 1 on division by 3 it has d 6, k 0; leaving 2, d 3, k 2. Other corners have degree 0. All m and n are 0."
-unfoldable pub cornerRecord : List ℤ → Point → Record
-unfolding internal listedIn
-cornerRecord cs q = cond (internal cs q) (cond (eqb (classOf q) 1) (at0 q 6 0) (at0 q 3 2)) (at0 q 0 0)
+unfoldable pub cornerRecord : (Point → Bool) → Point → Record
+cornerRecord listed q = cond (internal listed q) (cond (eqb (classOf q) 1) (at0 q 6 0) (at0 q 3 2)) (at0 q 0 0)
 
 -- record i of the hexagon at p: "centre first, then corners"
-unfoldable pub hexagonOf : List ℤ → Point → ℕ → Record
-unfolding cornerRecord
-hexagonOf cs p zero = centreRecord p
-hexagonOf cs p (suc j) = cornerRecord cs (cornerOf p j)
+unfoldable pub hexagonOf : (Point → Bool) → Point → ℕ → Record
+hexagonOf listed p zero = centreRecord p
+hexagonOf listed p (suc j) = cornerRecord listed (cornerOf p j)
 
 -- ---- the records entered
 -- a table so far, or no slot left for a record
@@ -95,19 +96,17 @@ lay NoRoom r = NoRoom
 lay (Room t) r = layAt t r (findOf t (r .at))
 
 -- the first k of the seven records of the hexagon at p
-unfoldable pub layHexagon : List ℤ → Point → ℕ → Laid → Laid
-layHexagon cs p zero l = l
-layHexagon cs p (suc k) l = lay (layHexagon cs p k l) (hexagonOf cs p k)
+unfoldable pub layHexagon : (Point → Bool) → Point → ℕ → Laid → Laid
+layHexagon listed p zero l = l
+layHexagon listed p (suc k) l = lay (layHexagon listed p k l) (hexagonOf listed p k)
 
 -- "Records enter in list order": the first n hexagons
 unfoldable pub layAll : List ℤ → ℕ → Laid → Laid
-unfolding layHexagon hexagonOf
 layAll cs zero l = l
-layAll cs (suc n) l = layHexagon cs (centreAt cs n) 7 (layAll cs n l)
+layAll cs (suc n) l = layHexagon (isCentre cs) (centreAt cs n) 7 (layAll cs n l)
 
 -- "The lent table is first cleared to 255"
 unfoldable pub laidOf : List ℕ → List ℤ → Laid
-unfolding layAll
 laidOf t cs = layAll cs (centresIn cs) (Room (clearedOf t))
 
 -- ---- the call
@@ -117,13 +116,13 @@ pub record Base : Type 0 where
   pub place : ℕ
   pub bytes : List ℕ
 
-abbrev result : ℕ → ℕ → List ℕ → Base
-result n p t = record { number = n; place = p; bytes = t }
+abbrev pub outcome : ℕ → ℕ → List ℕ → Base
+outcome n p t = record { number = n; place = p; bytes = t }
 
 -- "8: too few free slots"
 abbrev pub fromLaid : List ℕ → Laid → Base
-fromLaid t (Room u) = result 0 0 u
-fromLaid t NoRoom = result 8 0 (clearedOf t)
+fromLaid t (Room u) = outcome 0 0 u
+fromLaid t NoRoom = outcome 8 0 (clearedOf t)
 
 -- "base list empty, of odd length"
 abbrev pub unpaired : List ℤ → Bool
@@ -131,10 +130,9 @@ unpaired cs = eqb (length cs) 0 || not (eqb (length cs % 2) 0)
 
 -- "Base 1, 2, 8. .. Base gives the 0-based place, counted in centres, of the first bad centre, else 0; an empty or odd list gives place 0, its centres unread."
 unfoldable pub baseOf : List ℕ → List ℤ → Base
-unfolding firstBad laidOf
 baseOf t cs =
     cond (fitsLength (length t))
-    (cond (unpaired cs) (result 2 0 (clearedOf t))
-    (cond (ltb (badPlace cs) (centresIn cs)) (result 2 (badPlace cs) (clearedOf t))
+    (cond (unpaired cs) (outcome 2 0 (clearedOf t))
+    (cond (ltb (badPlace cs) (centresIn cs)) (outcome 2 (badPlace cs) (clearedOf t))
     (fromLaid t (laidOf t cs))))
-    (result 1 0 t)
+    (outcome 1 0 t)

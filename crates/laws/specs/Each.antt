@@ -1,14 +1,14 @@
--- A test of each number below n, as an equation of truth values: `upto` of Rules.
--- `upto-more`, `upto-fails` a loop's one step · `upto-each`, `each-upto` what it says · `both-left`, `both-right`, `and-false` conjunctions · `not-both` true is not
+-- A test of each number below n, or of one of them, as an equation of truth values: `upto` and `among` of Rules.
+-- `upto-more`, `upto-fails` a loop's one step · `upto-each`, `each-upto` what it says · `among-at`, `at-among` the same of `among` · `both-left`, `both-right`, `and-false` conjunctions · `not-both` true is not
 -- false · `true-fact`, `fact-true` the same as `T` · `same-test` two tests that pass together are one.
 -- Assumes nothing.
 use mathlib.Core.Path.{_≡_, refl, sym, _∙_, ap}
-use mathlib.Core.Bool.{Bool, true, false, _&&_}
+use mathlib.Core.Bool.{Bool, true, false, _&&_, _||_}
 use Prim.Native.Nat.{ℕ, zero, suc, _+_, _<_}
 use native.Mathlib.Omega.{arith}
 use native.Mathlib.Decide.{decLt}
 use lib.Dec.{T}
-use Rattle.laws.specs.Rules.{upto}
+use Rattle.laws.specs.Rules.{upto, among}
 
 pub not-both : {b : Bool} → b ≡ true → b ≡ false → ⊥
 not-both h k = let q : _≡_ {A = ℕ} 0 1 = cc in omega arith
@@ -50,6 +50,27 @@ each-upto P (suc n) h =
     let a = each-upto P n (λ i l. h i (omega arith)) in
     let b : n < suc n = omega arith in
     ap (λ (x : Bool). x && upto n P) (h n b) ∙ a
+
+-- a number at which the test passes, and back
+pub among-at : (P : ℕ → Bool) (n : ℕ) → among n P ≡ true → (i : ℕ) × (i < n) × (P i ≡ true)
+among-at P zero h = absurd (not-both h refl)
+among-at P (suc n) h = go (P n) refl h (λ k. among-at P n k)
+  where
+    go : (b : Bool) → P n ≡ b → b || among n P ≡ true → (among n P ≡ true → (i : ℕ) × (i < n) × (P i ≡ true)) → (i : ℕ) × (i < suc n) × (P i ≡ true)
+    go true e k ih = (n, omega arith, e)
+    go false e k ih = let x = ih k in (x .0, omega (arith, x .1), x .2)
+
+pub at-among : (P : ℕ → Bool) (n i : ℕ) → i < n → P i ≡ true → among n P ≡ true
+at-among P zero i h e = absurd (omega arith)
+at-among P (suc n) i h e = go (P n) refl (λ l. at-among P n i l e)
+  where
+    go : (b : Bool) → P n ≡ b → (i < n → among n P ≡ true) → b || among n P ≡ true
+    go true f ih = refl
+    go false f ih = ih (last (decLt i n))
+      where
+        last : Dec (i < n) → i < n
+        last (yes l) = l
+        last (no l) = let q : n ≡ i = omega arith in absurd (not-both (ap P q ∙ e) f)
 
 -- the same as a fact, `T` of lib.Dec
 pub true-fact : (b : Bool) → b ≡ true → T b

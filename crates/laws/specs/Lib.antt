@@ -15,7 +15,8 @@ pub mod Truths
 pub mod Choices
 pub mod Rules
 pub mod Each
--- lists and bytes: Sets, Stores, Words
+-- lists and bytes: Sets, Stores, Words, Bits
 pub mod Sets
 pub mod Stores
 pub mod Words
+pub mod Bits

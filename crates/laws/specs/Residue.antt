@@ -1,5 +1,5 @@
 -- The remainder on division that is never negative, `modZ`, and how it is had from the machine's, whose sign is the dividend's.
--- `mod-below` · `rem-neg`, `rem-pos` from the machine's remainder · `rem-asked`, `sum-cast`, `sum-is`, `rem-cast`, `rem-is` the same at 64 bits · `left3-minus` a difference by 3.
+-- `mod-below` · `rem-neg`, `rem-pos` from the machine's remainder · `rem-asked`, `sum-cast`, `sum-is`, `rem-cast`, `rem-is` the same at 64 bits · `left3-parts`, `left3-plus`, `left3-minus` a number, a sum and a difference by 3.
 -- Assumes nothing.
 use mathlib.Core.Path.{_≡_, refl, sym, _∙_, subst, ap}
 use mathlib.Core.Logic.{_⊎_, inl, inr, ⊎-elim}
@@ -17,7 +17,7 @@ use lib.Dec.{T}
 use native.Mathlib.Decide.{decLt}
 use mathlib.Core.Option.{none}
 use Rattle.laws.specs.Sizes.{fits, mag-quot}
-use Rattle.laws.specs.Parts.{up, dn, minus-is}
+use Rattle.laws.specs.Parts.{up, dn, add-is, minus-is}
 
 -- what z leaves on division by n: never negative
 abbrev pub modZ : ℤ → ℕ → ℕ
@@ -117,7 +117,7 @@ module _ (s : ℤ) (n : ℕ) (f : SFits w64 s) (h : 0 < n) (m : n ≤ 65536) whe
     rem-is = ap natAbs erem
 
 -- ---- division by 3, as `omega` reads it
-left3-parts : (z : ℤ) → modZ z 3 ≡ (up z + 2 * dn z) % 3
+pub left3-parts : (z : ℤ) → modZ z 3 ≡ (up z + 2 * dn z) % 3
 left3-parts (pos x) = omega arith
 left3-parts (negsuc x) = go (x % 3) refl
   where
@@ -128,6 +128,10 @@ left3-parts (negsuc x) = go (x % 3) refl
         let two : 0 + 2 * suc x ≡ 3 * (2 * (x / 3) + 2) = omega arith in
         let none : (0 + 2 * suc x) % 3 ≡ 0 = ap (λ (n : ℕ). n % 3) two ∙ mul-mod-right 3 (2 * (x / 3) + 2) in
         omega arith
+
+-- what a sum leaves
+pub left3-plus : (x y : ℤ) → modZ (x +ℤ y) 3 ≡ (modZ x 3 + modZ y 3) % 3
+left3-plus x y = omega (arith, add-is x y, left3-parts x, left3-parts y, left3-parts (x +ℤ y))
 
 -- what a difference leaves
 pub left3-minus : (x y : ℤ) → modZ (x -ℤ y) 3 ≡ (modZ x 3 + 3 - modZ y 3) % 3

@@ -1,5 +1,5 @@
 -- A rule that holds at each number below n, by one test that antt computes: `rule n f tt k h`. A `Test` computes (`run`) and says what it tests (`Means`).
--- `upto`, `upto-at` a plain truth value below n · `Test`, `run`, `Means`, `sound`, `complete`, `rule` · `eqZ` equality of whole numbers as a test.
+-- `upto`, `upto-at` a plain truth value at each number below n, `among` at one of them · `Test`, `run`, `Means`, `sound`, `complete`, `rule` · `eqZ` equality of whole numbers as a test.
 -- Assumes nothing.
 use mathlib.Core.Path.{_≡_, sym, subst}
 use mathlib.Core.Bool.{Bool, true, false, _&&_, not, _||_}
@@ -14,6 +14,11 @@ use Rattle.laws.specs.Bools.{and-left, and-right, and-both, then-of, of-
 abbrev pub upto : ℕ → (ℕ → Bool) → Bool
 upto zero f = true
 upto (suc n) f = f n && upto n f
+
+-- the test passes at a number below n
+abbrev pub among : ℕ → (ℕ → Bool) → Bool
+among zero f = false
+among (suc n) f = f n || among n f
 
 pub upto-at : (n : ℕ) (f : ℕ → Bool) → T (upto n f) → (k : ℕ) → k < n → T (f k)
 upto-at zero f t k h = absurd (omega arith)

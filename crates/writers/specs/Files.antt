@@ -4,11 +4,11 @@
 -- Assumes nothing.
 use mathlib.Core.Bool.{Bool, false, cond, _&&_, _||_, not}
 use mathlib.Core.List.{List, [], _∷_, _++_}
-use Prim.Native.Nat.{ℕ, zero, suc}
+use Prim.Native.Nat.{ℕ}
 use lib.Dec.{eqb, ltb}
 use lib.ListN.{length, drop}
 use lib.Signed.{ltZ}
-use Rattle.laws.specs.Rules.{eqZ}
+use Rattle.laws.specs.Rules.{eqZ, among}
 use Rattle.writers.specs.Sorting.{sortBy}
 use Rattle.lattice.specs.Stars.{adjacentAt}
 use Rattle.lattice.specs.declared.points.Point.{Point}
@@ -33,14 +33,9 @@ sorted rs = sortBy before rs
 abbrev pub fullFile : List ℕ → List ℕ
 fullFile t = lines (sorted (recordsOf t))
 
--- the test passes at some number below n
-abbrev pub someBelow : ℕ → (ℕ → Bool) → Bool
-someBelow zero f = false
-someBelow (suc n) f = f n || someBelow n f
-
 -- "adjacency read from the degree 6 star": p is one of the six adjacent points of q, and q has degree 6
 abbrev pub sixNames : Point → Record → Bool
-sixNames p q = eqb (q .d) 6 && someBelow 6 (λ j. samePoint (adjacentAt q j) p)
+sixNames p q = eqb (q .d) 6 && among 6 (λ j. samePoint (adjacentAt q j) p)
 
 -- the test passes at some record of a list
 abbrev pub someOf : (Record → Bool) → List Record → Bool
