@@ -66,13 +66,14 @@ pub record Outcome : Type 0 where
 abbrev pub outcome : ℕ → ℕ → List ℕ → Outcome
 outcome n b o = record { number = n; bytes = b; out = o }
 
--- "Writers 1, 13", "0 if refused", "Refused .. writers change no lent byte", "Writers leave output past the file as found."
+-- "output shorter than the file"; "Writers leave output past the file as found."
+unfoldable pub putOf : List ℕ → List ℕ → Outcome
+putOf file out = cond (ltb (length out) (length file)) (outcome 13 0 out) (outcome 0 (length file) (file ++ drop (length file) out))
+
+-- "Writers 1, 13", "0 if refused", "Refused .. writers change no lent byte."
 unfoldable pub writeOf : List ℕ → List ℕ → List ℕ → Outcome
-writeOf file t out =
-    cond (inOrderOf t)
-    (cond (ltb (length out) (length file)) (outcome 13 0 out)
-    (outcome 0 (length file) (file ++ drop (length file) out)))
-    (outcome 1 0 out)
+unfolding putOf
+writeOf file t out = cond (inOrderOf t) (putOf file out) (outcome 1 0 out)
 
 abbrev pub writeFullOf : List ℕ → List ℕ → Outcome
 writeFullOf t out = writeOf (fullFile t) t out

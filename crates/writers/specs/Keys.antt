@@ -8,10 +8,11 @@ use native.Mathlib.Omega.{arith}
 use native.Mathlib.Decide.{decLt, ℕ-discrete}
 use native.Mathlib.Nat.{mod-add-div}
 use lib.ListN.{length, getD, set, drop}
-use lib.Seq.{sets, length-sets, drop-set-lt}
+use lib.Dec.{eqb}
+use lib.Seq.{sets, length-sets, drop-set-lt, drop-drop}
 use Rattle.laws.specs.Words.{wordAt, wordBytes, word-of, word-back}
 use Rattle.laws.specs.Sets.{getD-sets-below, getD-sets-above, getD-sets-in}
-use Rattle.writers.specs.Tally.{tally, tally-swap}
+use Rattle.writers.specs.Tally.{bit, tally, tally-none, tally-more, tally-change, tally-swap}
 use Rattle.writers.specs.Heaps.{above, Heap, heap-none, Sunk, sunk-start, sunk-step, sunk-stop}
 
 -- a word's bound, and the bytes of a key
@@ -78,6 +79,14 @@ word-before vs o p q h = word-kept o (sets o p vs) q (λ c l. getD-sets-below vs
 
 word-after : (vs o : List ℕ) (p q : ℕ) → p + length vs ≤ q → wordAt (sets o p vs) q ≡ wordAt o q
 word-after vs o p q h = word-kept o (sets o p vs) q (λ c l. getD-sets-above vs o p (q + c) (omega arith))
+
+-- keys that stand before what is stored stay
+pub key-before : (vs o : List ℕ) (p i : ℕ) → keyWidth * i + keyWidth ≤ p → keyIn (sets o p vs) i ≡ keyIn o i
+unfolding keyIn
+key-before vs o p i h =
+    let a = word-before vs o p (keyWidth * i) (omega arith) in
+    let b = word-before vs o p (keyWidth * i + 4) (omega arith) in
+    λ z. a z + words * b z
 
 module _ (o : List ℕ) (i v : ℕ) (room : keyWidth * i + keyWidth ≤ length o) (small : v < 18446744073709551616) where
   abbrev lo : List ℕ
@@ -234,3 +243,48 @@ sifted-start o k = record { same = λ v. refl; heap = heap-none (keyIn o) k; lon
 
 pub sifted-then : {o o₁ o₂ : List ℕ} {lo lo′ k : ℕ} → Sifted o lo k o₁ → Sifted o₁ lo′ k o₂ → Sifted o lo′ k o₂
 sifted-then a b = record { same = λ v. b .same v ∙ a .same v; heap = b .heap; long = b .long ∙ a .long; past = b .past ∙ a .past }
+
+-- ---- the greatest key taken off a heap of k + 1
+
+pub record Popped (o : List ℕ) (k : ℕ) (o′ : List ℕ) : Type 0 where
+  pub less : (v : ℕ) → tally (keyIn o′) k v + bit (eqb (keyIn o 0) v) ≡ tally (keyIn o) (k + 1) v
+  pub heap : Heap (keyIn o′) 0 k
+  pub long : length o′ ≡ length o
+  pub past : drop (keyWidth * (k + 1)) o′ ≡ drop (keyWidth * (k + 1)) o
+
+module _ (o o₁ : List ℕ) (k : ℕ) (h : Heap (keyIn o) 0 (k + 1)) (p : Put o 0 (keyIn o k) o₁) where
+  pub pop-heap : Heap (keyIn o₁) (0 + 1) k
+  pop-heap c some l a =
+      let x = p .others c (omega arith) in
+      let y = p .others (above c) (omega arith) in
+      let z = h c some (omega arith) (omega arith) in
+      omega arith
+
+  pop-less : (v : ℕ) → tally (keyIn o₁) k v + bit (eqb (keyIn o 0) v) ≡ tally (keyIn o) (k + 1) v
+  pop-less v = go (ℕ-discrete k 0)
+    where
+      go : Dec (k ≡ 0) → tally (keyIn o₁) k v + bit (eqb (keyIn o 0) v) ≡ tally (keyIn o) (k + 1) v
+      go (yes e) =
+          let a = tally-more (keyIn o) k v in
+          let b : tally (keyIn o₁) k v ≡ 0 = ap (λ (x : ℕ). tally (keyIn o₁) x v) e ∙ tally-none (keyIn o₁) v in
+          let c : tally (keyIn o) k v ≡ 0 = ap (λ (x : ℕ). tally (keyIn o) x v) e ∙ tally-none (keyIn o) v in
+          let d : bit (eqb (keyIn o k) v) ≡ bit (eqb (keyIn o 0) v) = ap (λ (x : ℕ). bit (eqb (keyIn o x) v)) e in
+          omega arith
+      go (no e) =
+          let a = tally-more (keyIn o) k v in
+          let b = tally-change (keyIn o) (keyIn o₁) k 0 v (omega arith) (λ j l ne. p .others j ne) in
+          let c : bit (eqb (keyIn o₁ 0) v) ≡ bit (eqb (keyIn o k) v) = ap (λ (x : ℕ). bit (eqb x v)) (p .here) in
+          omega arith
+
+  pub pop-popped : (o₂ : List ℕ) → Sifted o₁ 0 k o₂ → Popped o k o₂
+  pop-popped o₂ s = record {
+    less = λ v. let a = s .same v in let b = pop-less v in omega arith;
+    heap = s .heap;
+    long = s .long ∙ p .long;
+    past = past-both ∙ p .past (keyWidth * (k + 1)) (omega arith);
+  }
+    where
+      past-both : drop (keyWidth * (k + 1)) o₂ ≡ drop (keyWidth * (k + 1)) o₁
+      past-both =
+          let e : keyWidth * (k + 1) ≡ keyWidth * k + keyWidth = omega arith in
+          ap (λ (n : ℕ). drop n o₂) e ∙ sym (drop-drop keyWidth (keyWidth * k) o₂) ∙ ap (drop keyWidth) (s .past) ∙ drop-drop keyWidth (keyWidth * k) o₁ ∙ ap (λ (n : ℕ). drop n o₁) (sym e)

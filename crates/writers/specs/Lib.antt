@@ -8,3 +8,7 @@ pub mod Tally
 pub mod Heaps
 pub mod Keys
 pub mod Ranks
+pub mod Kept
+pub mod KeptLaws
+pub mod LeftLaws
+pub mod CallLaws
