@@ -10,6 +10,8 @@ mod order;
 mod probe;
 mod slots;
 
+pub use bytes::put_word;
+pub use bytes::word;
 pub use entries::Looked;
 pub use entries::enter;
 pub use entries::look_up;

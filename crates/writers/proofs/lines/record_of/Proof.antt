@@ -1,0 +1,22 @@
+-- `writers::record_of` meets its promise. Assumes nothing.
+use mathlib.Core.Path.{_≡_, sym, _∙_, ap}
+use borrow.Author.Needs.{needs}
+use Rattle.writers.specs.Kept.{recordIn}
+use Rattle.writers.proofs.lines.record_of.Statement.{statement}
+use Rattle.writers.proofs.lines.record_of.Tie as tie
+
+returns : tie.Need-returns
+returns c = ap recordIn (sym (c .enum-told .given .1) ∙ c .before .before .read-slot .ensures)
+
+returns-2 : tie.Need-returns-2
+returns-2 c = let h = c .before in ap recordIn (sym (h .r .given .1) ∙ h .before .before .read-slot .ensures)
+
+pub record-of-spec : {M : Type 1} → statement M
+record-of-spec =
+    tie.close
+    (tie.spec
+    (λ c κs. search needs)
+    (λ c. search needs)
+    (λ c. search needs)
+    returns
+    returns-2)

@@ -1,0 +1,68 @@
+-- What the code writes of a table, slot by slot: the records that are not marked to be left out, and their keys.
+-- `markedAt` the bit of a slot · `keptAt` what is written of a slot · `standing`, `keysBelow` the records and the keys of the first slots · `recordOf` the record of a key.
+-- Assumes nothing.
+use mathlib.Core.Path.{_≡_}
+use mathlib.Core.Bool.{Bool, cond, _&&_}
+use mathlib.Core.List.{List, [], _∷_, _++_}
+use Prim.Native.Nat.{ℕ, zero, suc, _+_, _/_, _%_}
+use lib.Dec.{eqb}
+use lib.IntN.{pos}
+use lib.ListN.{getD}
+use Rattle.laws.specs.Bits.{bitOf}
+use Rattle.lattice.specs.Points.{pt}
+use Rattle.lattice.specs.declared.records.Record.{Record}
+use Rattle.table.specs.Slots.{slotAt}
+use Rattle.table.specs.Entries.{listed}
+use Rattle.table.specs.declared.slots.Slot.{Slot}
+use Rattle.table.specs.declared.slots.Slot.the-variants.{Free, Holds}
+use Rattle.writers.specs.Keys.{Put}
+use Rattle.writers.specs.Ranks.{keyOf}
+
+-- one bit a slot
+abbrev pub places : ℕ
+places = 65536
+
+abbrev pub markBytes : ℕ
+markBytes = 8192
+
+unfoldable pub markedAt : List ℕ → ℕ → Bool
+markedAt m i = eqb (bitOf (getD m (i / 8) 0) (i % 8)) 1
+
+-- nothing of a free slot, nor of a record of degree 3 that is marked
+abbrev pub keptOf : Bool → Slot → Slot
+keptOf b Free = Free
+keptOf b (Holds r) = cond (b && eqb (r .d) 3) Free (Holds r)
+
+unfoldable pub keptAt : List ℕ → List ℕ → ℕ → Slot
+unfolding markedAt
+keptAt t m i = keptOf (markedAt m i) (slotAt t i)
+
+-- the records of the first slots, where slot i is f i
+unfoldable pub standing : (ℕ → Slot) → ℕ → List Record
+standing f zero = []
+standing f (suc i) = standing f i ++ listed (f i)
+
+-- their keys
+abbrev pub keyed : ℕ → Slot → List ℕ
+keyed i Free = []
+keyed i (Holds r) = keyOf r i ∷ []
+
+unfoldable pub keysBelow : (ℕ → Slot) → ℕ → List ℕ
+keysBelow f zero = []
+keysBelow f (suc i) = keysBelow f i ++ keyed i (f i)
+
+-- the record of a key: that of its slot
+abbrev pub nobody : Record
+nobody = record { at = pt (pos 0) (pos 0) 0; d = 0; k = 0; n = record { 0 = 0 } }
+
+abbrev pub recordIn : Slot → Record
+recordIn Free = nobody
+recordIn (Holds r) = r
+
+abbrev pub recordOf : List ℕ → ℕ → Record
+recordOf t v = recordIn (slotAt t (v % places))
+
+-- keys vs, at most one, stored from key k on
+abbrev pub Added : List ℕ → ℕ → List ℕ → List ℕ → ℕ → Type 0
+Added o k [] o′ k′ = (o′ ≡ o) × (k′ ≡ k)
+Added o k (v ∷ vs) o′ k′ = Put o k v o′ × (k′ ≡ k + 1)

@@ -1,0 +1,298 @@
+-- The records that are kept, their keys, and what sorting the keys does to the records.
+-- `standing-none`, `standing-more`, `keys-none`, `keys-more` slot by slot · `keys-length`, `keys-grow` · `keys-sorted` the records of the sorted keys are the records in file order ·
+-- `keys-inside` a key's slot is in the table · `lines-sorted` as many bytes in any order · `Filled` the keys in the output: `filled-none`, `filled-more`.
+-- Assumes nothing.
+use mathlib.Core.Path.{_≡_, refl, sym, ap, _∙_, subst}
+use mathlib.Core.Logic.{_⊎_, inl, inr}
+use mathlib.Core.Bool.{Bool, true, false, cond, _&&_}
+use mathlib.Core.List.{List, [], _∷_, _++_, map, map-append, append-nil, List·Memᴰ, List·Memᴰ·append-cases, List·Memᴰ·eq-of-singleton, List·Memᴰ·not-nil}
+use Prim.Native.Nat.{ℕ, zero, suc, _+_, _*_, _%_, _≤_, _<_}
+use native.Mathlib.Omega.{arith}
+use native.Mathlib.Decide.{ℕ-discrete, decLt, decLe}
+use borrow.Author.Tests.{lt-ltb, le-ltb}
+use lib.Dec.{eqb, ltb}
+use lib.ListN.{length, getD, drop, length-append}
+use lib.Seq.{getD-append-seam}
+use Rattle.lattice.specs.Records.{validOf}
+use Rattle.lattice.specs.declared.records.Record.{Record}
+use Rattle.table.specs.Slots.{slotWidth, slotsOf, slotAt}
+use Rattle.table.specs.Order.{InOrder}
+use Rattle.table.specs.Entries.{listed}
+use Rattle.table.specs.declared.slots.Slot.{Slot}
+use Rattle.table.specs.declared.slots.Slot.the-variants.{Free, Holds}
+use Rattle.text.specs.Line.{lineOf, lines}
+use Rattle.text.specs.LineLaws.{lines-join}
+use Rattle.text.specs.Near.{Near, valid-near}
+use Rattle.writers.specs.Sorting.{insertBy, sortBy}
+use Rattle.writers.specs.SortLaws.{sort-map, mem-sort}
+use Rattle.writers.specs.Files.{before, sorted}
+use Rattle.writers.specs.Tally.{nth}
+use Rattle.writers.specs.Keys.{keyWidth, keyIn, Put}
+use Rattle.writers.specs.Ranks.{rankOf, keyOf, Close, rank-earlier, rank-one}
+use Rattle.writers.specs.Kept.{places, markedAt, keptOf, keptAt, standing, keyed, keysBelow, recordIn, recordOf, Added}
+
+-- ---- slot by slot
+
+pub standing-none : (f : ℕ → Slot) → standing f 0 ≡ []
+unfolding standing
+standing-none f = refl
+
+pub standing-more : (f : ℕ → Slot) (i : ℕ) → standing f (i + 1) ≡ standing f i ++ listed (f i)
+unfolding standing
+standing-more f i = let e : i + 1 ≡ suc i = omega arith in ap (standing f) e
+
+pub keys-none : (f : ℕ → Slot) → keysBelow f 0 ≡ []
+unfolding keysBelow
+keys-none f = refl
+
+pub keys-more : (f : ℕ → Slot) (i : ℕ) → keysBelow f (i + 1) ≡ keysBelow f i ++ keyed i (f i)
+unfolding keysBelow
+keys-more f i = let e : i + 1 ≡ suc i = omega arith in ap (keysBelow f) e
+
+pub keys-length : (f : ℕ → Slot) (i : ℕ) → length (keysBelow f i) ≡ length (standing f i)
+unfolding keysBelow standing
+keys-length f zero = refl
+keys-length f (suc i) =
+    let a = keys-length f i in
+    let b = length-append (keysBelow f i) (keyed i (f i)) in
+    let c = length-append (standing f i) (listed (f i)) in
+    let d = one (f i) in
+    omega arith
+  where
+    one : (s : Slot) → length (keyed i s) ≡ length (listed s)
+    one Free = refl
+    one (Holds r) = refl
+
+pub keys-grow : (f : ℕ → Slot) (i n : ℕ) → i ≤ n → length (keysBelow f i) ≤ length (keysBelow f n)
+unfolding keysBelow
+keys-grow f i zero h = let e : i ≡ 0 = omega arith in subst (λ (k : ℕ). length (keysBelow f k) ≤ 0) (sym e) (omega arith)
+keys-grow f i (suc n) h = go (decLe i n) (λ l. keys-grow f i n l)
+  where
+    go : Dec (i ≤ n) → (i ≤ n → length (keysBelow f i) ≤ length (keysBelow f n)) → length (keysBelow f i) ≤ length (keysBelow f n ++ keyed n (f n))
+    go (yes l) ih = let a = ih l in omega (arith, length-append (keysBelow f n) (keyed n (f n)))
+    go (no l) ih = let e : i ≡ suc n = omega arith in subst (λ (k : ℕ). length (keysBelow f k) ≤ length (keysBelow f (suc n))) (sym e) (omega arith)
+
+-- how many slots are kept is at most how many there are
+pub keys-few : (f : ℕ → Slot) (n : ℕ) → length (keysBelow f n) ≤ n
+unfolding keysBelow
+keys-few f zero = omega arith
+keys-few f (suc n) =
+    let a = keys-few f n in
+    let b = length-append (keysBelow f n) (keyed n (f n)) in
+    let c = one (f n) in
+    omega arith
+  where
+    one : (s : Slot) → length (keyed n s) ≤ 1
+    one Free = omega arith
+    one (Holds r) = omega arith
+
+-- a key, and the slot that it comes from
+pub record Comes (f : ℕ → Slot) (n v : ℕ) : Type 0 where
+  pub slot : ℕ
+  pub rec : Record
+  pub below : slot < n
+  pub holds : f slot ≡ Holds rec
+  pub is : v ≡ keyOf rec slot
+
+pub keys-come : (f : ℕ → Slot) (n v : ℕ) → List·Memᴰ v (keysBelow f n) → Comes f n v
+unfolding keysBelow
+keys-come f zero v m = absurd (List·Memᴰ·not-nil m)
+keys-come f (suc n) v m = go (f n) refl (List·Memᴰ·append-cases (keysBelow f n) m) (λ k. keys-come f n v k)
+  where
+    go : (s : Slot) → f n ≡ s → List·Memᴰ v (keysBelow f n) ⊎ List·Memᴰ v (keyed n (f n)) → (List·Memᴰ v (keysBelow f n) → Comes f n v) → Comes f (suc n) v
+    go s e (inl k) ih = let x = ih k in record { slot = x .slot; rec = x .rec; below = omega (arith, x .below); holds = x .holds; is = x .is }
+    go Free e (inr k) ih = absurd (List·Memᴰ·not-nil (subst (λ (s : Slot). List·Memᴰ v (keyed n s)) e k))
+    go (Holds r) e (inr k) ih = record { slot = n; rec = r; below = omega arith; holds = e; is = List·Memᴰ·eq-of-singleton (subst (λ (s : Slot). List·Memᴰ v (keyed n s)) e k) }
+
+key-slot : (r : Record) (i : ℕ) → i < places → keyOf r i % places ≡ i
+unfolding keyOf
+key-slot r i h = omega arith
+
+close : (r : Record) → validOf r ≡ true → Close (r .at)
+close r v = let n = valid-near r v in record { a = n .a; b = n .b; m = n .m }
+
+-- ---- of a table in order, where f keeps some of its slots
+
+module _ (t : List ℕ) (o : InOrder t) (f : ℕ → Slot) (part : (i : ℕ) (r : Record) → f i ≡ Holds r → slotAt t i ≡ Holds r) where
+  few : (i : ℕ) → i < slotsOf t → i < places
+  few i h = omega (arith, o .fits .most)
+
+  come-record : (v : ℕ) (c : Comes f (slotsOf t) v) → recordOf t v ≡ c .rec
+  come-record v c =
+      ap (λ (x : ℕ). recordIn (slotAt t (x % places))) (c .is)
+      ∙ ap (λ (i : ℕ). recordIn (slotAt t i)) (key-slot (c .rec) (c .slot) (few (c .slot) (c .below)))
+      ∙ ap recordIn (part (c .slot) (c .rec) (c .holds))
+
+  -- a key's slot is in the table
+  pub keys-inside : (v : ℕ) → List·Memᴰ v (keysBelow f (slotsOf t)) → slotWidth * (v % places) + slotWidth ≤ length t
+  keys-inside v m =
+      let c = keys-come f (slotsOf t) v m in
+      let e : v % places ≡ c .slot = ap (λ (x : ℕ). x % places) (c .is) ∙ key-slot (c .rec) (c .slot) (few (c .slot) (c .below)) in
+      omega (arith, c .below, o .fits .long)
+
+  pub keys-map : (k : ℕ) → k ≤ slotsOf t → map (recordOf t) (keysBelow f k) ≡ standing f k
+  unfolding keysBelow standing
+  keys-map zero h = refl
+  keys-map (suc k) h =
+      map-append (recordOf t) (keysBelow f k) (keyed k (f k)) ∙ (λ i. keys-map k (omega arith) i ++ one (f k) refl i)
+    where
+      one : (s : Slot) → f k ≡ s → map (recordOf t) (keyed k s) ≡ listed s
+      one Free e = refl
+      one (Holds r) e = λ i. (ap (λ (x : ℕ). recordIn (slotAt t x)) (key-slot r k (few k (omega arith))) ∙ ap recordIn (part k r e)) i ∷ []
+
+  key-order : (r s : Record) (i j : ℕ) → i < places → j < places → (rankOf (r .at) ≡ rankOf (s .at) → i ≡ j) → ltb (keyOf r i) (keyOf s j) ≡ ltb (rankOf (r .at)) (rankOf (s .at))
+  unfolding keyOf
+  key-order r s i j hi hj one = go (decLt (rankOf (r .at)) (rankOf (s .at))) (decLt (rankOf (s .at)) (rankOf (r .at)))
+    where
+      x : ℕ
+      x = rankOf (r .at)
+
+      y : ℕ
+      y = rankOf (s .at)
+
+      go : Dec (rankOf (r .at) < rankOf (s .at)) → Dec (rankOf (s .at) < rankOf (r .at)) → ltb (rankOf (r .at) * 65536 + i) (rankOf (s .at) * 65536 + j) ≡ ltb (rankOf (r .at)) (rankOf (s .at))
+      go (yes l) m = lt-ltb (rankOf (r .at) * 65536 + i) (rankOf (s .at) * 65536 + j) (omega arith) ∙ sym (lt-ltb (rankOf (r .at)) (rankOf (s .at)) l)
+      go (no l) (yes m) = le-ltb (rankOf (r .at) * 65536 + i) (rankOf (s .at) * 65536 + j) (omega arith) ∙ sym (le-ltb (rankOf (r .at)) (rankOf (s .at)) (omega arith))
+      go (no l) (no m) =
+          let e : rankOf (r .at) ≡ rankOf (s .at) = omega arith in
+          let q = one e in
+          le-ltb (rankOf (r .at) * 65536 + i) (rankOf (s .at) * 65536 + j) (omega arith) ∙ sym (le-ltb (rankOf (r .at)) (rankOf (s .at)) (omega arith))
+
+  keys-order : (v w : ℕ) → List·Memᴰ v (keysBelow f (slotsOf t)) → List·Memᴰ w (keysBelow f (slotsOf t)) → ltb v w ≡ before (recordOf t v) (recordOf t w)
+  keys-order v w m n =
+      let c = keys-come f (slotsOf t) v m in
+      let d = keys-come f (slotsOf t) w n in
+      let hc = part (c .slot) (c .rec) (c .holds) in
+      let hd = part (d .slot) (d .rec) (d .holds) in
+      let cc′ = close (c .rec) (o .valid (c .slot) (c .rec) (c .below) hc) in
+      let cd = close (d .rec) (o .valid (d .slot) (d .rec) (d .below) hd) in
+      (λ i. ltb (c .is i) (d .is i))
+      ∙ key-order (c .rec) (d .rec) (c .slot) (d .slot) (few (c .slot) (c .below)) (few (d .slot) (d .below))
+      (λ e. o .once (c .slot) (d .slot) (c .rec) (d .rec) (c .below) (d .below) hc hd (rank-one (c .rec .at) (d .rec .at) cc′ cd e))
+      ∙ sym (rank-earlier (c .rec .at) (d .rec .at) cc′ cd)
+      ∙ sym (λ i. before (come-record v c i) (come-record w d i))
+
+  -- the records of the sorted keys are the records in file order
+  pub keys-sorted : map (recordOf t) (sortBy ltb (keysBelow f (slotsOf t))) ≡ sorted (standing f (slotsOf t))
+  keys-sorted = sort-map ltb before (recordOf t) (keysBelow f (slotsOf t)) keys-order ∙ ap sorted (keys-map (slotsOf t) (omega arith))
+
+-- ---- as many bytes in any order
+
+lines-insert : (lt : Record → Record → Bool) (r : Record) (rs : List Record) → length (lines (insertBy lt r rs)) ≡ length (lineOf r) + length (lines rs)
+unfolding insertBy lines
+lines-insert lt r [] = length-append (lineOf r) []
+lines-insert lt r (s ∷ rs) = go (lt r s) (lines-insert lt r rs)
+  where
+    go : (b : Bool) → length (lines (insertBy lt r rs)) ≡ length (lineOf r) + length (lines rs) → length (lines (cond b (r ∷ s ∷ rs) (s ∷ insertBy lt r rs))) ≡ length (lineOf r) + length (lineOf s ++ lines rs)
+    go true e = length-append (lineOf r) (lineOf s ++ lines rs)
+    go false e =
+        let a = length-append (lineOf s) (lines (insertBy lt r rs)) in
+        let b = length-append (lineOf s) (lines rs) in
+        omega arith
+
+pub lines-sorted : (lt : Record → Record → Bool) (rs : List Record) → length (lines (sortBy lt rs)) ≡ length (lines rs)
+unfolding sortBy lines
+lines-sorted lt [] = refl
+lines-sorted lt (r ∷ rs) =
+    let a = lines-insert lt r (sortBy lt rs) in
+    let b = lines-sorted lt rs in
+    let c = length-append (lineOf r) (lines rs) in
+    omega arith
+
+-- ---- the keys in the output
+
+-- the keys ks were stored, k of them
+pub record Filled (o ks o′ : List ℕ) (k : ℕ) : Type 0 where
+  pub count : k ≡ length ks
+  pub keys : (j : ℕ) → j < length ks → keyIn o′ j ≡ nth ks j
+  pub long : length o′ ≡ length o
+  pub past : (n : ℕ) → keyWidth * length ks ≤ n → drop n o′ ≡ drop n o
+
+pub filled-none : (o : List ℕ) → Filled o [] o 0
+filled-none o = record { count = refl; keys = λ j l. absurd (omega arith); long = refl; past = λ n h. refl }
+
+nth-left : (xs ys : List ℕ) (j : ℕ) → j < length xs → nth (xs ++ ys) j ≡ nth xs j
+nth-left [] ys j h = absurd (omega arith)
+nth-left (x ∷ xs) ys zero h = refl
+nth-left (x ∷ xs) ys (suc j) h = nth-left xs ys j (omega arith)
+
+filled-put : (o ks o₁ o₂ : List ℕ) (k v : ℕ) → Filled o ks o₁ k → Put o₁ k v o₂ → Filled o (ks ++ v ∷ []) o₂ (k + 1)
+filled-put o ks o₁ o₂ k v f p = record {
+  count = omega (arith, f .count, length-append ks (v ∷ []));
+  keys = λ j l. go j (omega (arith, length-append ks (v ∷ []))) (ℕ-discrete j (length ks));
+  long = p .long ∙ f .long;
+  past = λ n h. p .past n (omega (arith, f .count, length-append ks (v ∷ []))) ∙ f .past n (omega (arith, length-append ks (v ∷ [])));
+}
+  where
+    go : (j : ℕ) → j < length ks + 1 → Dec (j ≡ length ks) → keyIn o₂ j ≡ nth (ks ++ v ∷ []) j
+    go j l (yes e) = ap (keyIn o₂) (e ∙ sym (f .count)) ∙ p .here ∙ sym (getD-append-seam ks v [] 0) ∙ ap (nth (ks ++ v ∷ [])) (sym e)
+    go j l (no e) = let c = f .count in p .others j (λ q. e (q ∙ c)) ∙ f .keys j (omega arith) ∙ sym (nth-left ks (v ∷ []) j (omega arith))
+
+pub filled-more : (f : ℕ → Slot) (i : ℕ) (o o₁ o₂ : List ℕ) (k k₂ : ℕ) → Filled o (keysBelow f i) o₁ k → Added o₁ k (keyed i (f i)) o₂ k₂ → Filled o (keysBelow f (i + 1)) o₂ k₂
+filled-more f i o o₁ o₂ k k₂ w a = subst (λ (ks : List ℕ). Filled o ks o₂ k₂) (sym (keys-more f i)) (go (f i) a)
+  where
+    go : (s : Slot) → Added o₁ k (keyed i s) o₂ k₂ → Filled o (keysBelow f i ++ keyed i s) o₂ k₂
+    go Free b = subst (λ (ks : List ℕ). Filled o ks o₂ k₂) (sym (append-nil (keysBelow f i))) (moved b)
+      where
+        moved : (o₂ ≡ o₁) × (k₂ ≡ k) → Filled o (keysBelow f i) o₂ k₂
+        moved e = subst (λ (x : List ℕ). Filled o (keysBelow f i) x k₂) (sym (e .0)) (subst (Filled o (keysBelow f i) o₁) (sym (e .1)) w)
+    go (Holds r) b = subst (Filled o (keysBelow f i ++ keyOf r i ∷ []) o₂) (sym (b .1)) (filled-put o (keysBelow f i) o₁ o₂ k (keyOf r i) w (b .0))
+
+-- ---- what the code's steps say
+
+pub kept-at : (t m : List ℕ) (i : ℕ) (s : Slot) → slotAt t i ≡ s → keptOf (markedAt m i) s ≡ keptAt t m i
+unfolding keptAt
+kept-at t m i s e = ap (keptOf (markedAt m i)) (sym e)
+
+pub kept-gone : (t m : List ℕ) (i : ℕ) (r : Record) (b : Bool) → slotAt t i ≡ Holds r → b ≡ markedAt m i → b && eqb (r .d) 3 ≡ true → Free ≡ keptAt t m i
+kept-gone t m i r b e f h = sym (ap (λ (x : Bool). cond x Free (Holds r)) (ap (λ (x : Bool). x && eqb (r .d) 3) (sym f) ∙ h)) ∙ kept-at t m i (Holds r) e
+
+pub kept-stays : (t m : List ℕ) (i : ℕ) (r : Record) (b : Bool) → slotAt t i ≡ Holds r → b ≡ markedAt m i → b && eqb (r .d) 3 ≡ false → Holds r ≡ keptAt t m i
+kept-stays t m i r b e f h = sym (ap (λ (x : Bool). cond x Free (Holds r)) (ap (λ (x : Bool). x && eqb (r .d) 3) (sym f) ∙ h)) ∙ kept-at t m i (Holds r) e
+
+-- what is kept stands in the table
+pub kept-part : (t m : List ℕ) (i : ℕ) (r : Record) → keptAt t m i ≡ Holds r → slotAt t i ≡ Holds r
+unfolding keptAt
+kept-part t m i r = go (slotAt t i) (markedAt m i)
+  where
+    free : Free ≡ Holds r → ⊥
+    free e = let z : _≡_ {A = ℕ} 0 1 = cc in omega arith
+
+    held : (q : Record) (b : Bool) → cond b Free (Holds q) ≡ Holds r → Holds q ≡ Holds r
+    held q true e = absurd (free e)
+    held q false e = e
+
+    go : (s : Slot) (b : Bool) → keptOf b s ≡ Holds r → s ≡ Holds r
+    go Free b e = absurd (free e)
+    go (Holds q) b e = held q (b && eqb (q .d) 3) e
+
+pub kept-valid : (t : List ℕ) → InOrder t → (m : List ℕ) (i : ℕ) (r : Record) → i < slotsOf t → keptAt t m i ≡ Holds r → validOf r ≡ true
+kept-valid t o m i r l e = o .valid i r l (kept-part t m i r e)
+
+pub kept-close : (t : List ℕ) → InOrder t → (m : List ℕ) (i : ℕ) (r : Record) → i < slotsOf t → keptAt t m i ≡ Holds r → Close (r .at)
+kept-close t o m i r l e = close r (kept-valid t o m i r l e)
+
+pub slot-room : (t : List ℕ) → InOrder t → (i : ℕ) → i < slotsOf t → (slotWidth * i + slotWidth ≤ length t) × (i < places)
+slot-room t o i l = (omega (arith, o .fits .long), omega (arith, o .fits .most))
+
+pub written-none : (s : Slot) → s ≡ Free → 0 ≡ length (lines (listed s))
+unfolding lines
+written-none s e = ap (λ (x : Slot). length (lines (listed x))) (sym e)
+
+pub written-one : (s : Slot) (r : Record) → s ≡ Holds r → length (lineOf r) ≡ length (lines (listed s))
+unfolding lines
+written-one s r e = let a = length-append (lineOf r) [] in let b : length (lineOf r) ≡ length (lineOf r ++ []) = omega arith in b ∙ ap (λ (x : Slot). length (lines (listed x))) (sym e)
+
+pub standing-start : (f : ℕ → Slot) → 0 ≡ length (lines (standing f 0))
+unfolding standing lines
+standing-start f = refl
+
+pub standing-length : (f : ℕ → Slot) (i : ℕ) → length (lines (standing f (i + 1))) ≡ length (lines (standing f i)) + length (lines (listed (f i)))
+standing-length f i = ap (λ (x : List Record). length (lines x)) (standing-more f i) ∙ ap length (lines-join (standing f i) (listed (f i))) ∙ length-append (lines (standing f i)) (lines (listed (f i)))
+
+pub keys-room : (f : ℕ → Slot) (i n : ℕ) → i < n → length (keysBelow f i) + length (keyed i (f i)) ≤ length (keysBelow f n)
+keys-room f i n h =
+    let a = keys-grow f (i + 1) n (omega arith) in
+    let b = ap length (keys-more f i) in
+    let c = length-append (keysBelow f i) (keyed i (f i)) in
+    omega arith

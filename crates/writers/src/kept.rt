@@ -1,0 +1,88 @@
+// The records that are written, slot by slot: how long their lines are, and their keys into the output.
+ghost use mathlib.Core.Path.{_≡_};
+ghost use Prim.Native.Nat.{_+_, _*_, _≤_, _<_};
+ghost use lib.ListN.{length};
+ghost use Rattle.table.specs.Slots.{slotWidth, slotsOf};
+ghost use Rattle.table.specs.Order.{InOrder};
+ghost use Rattle.table.specs.Entries.{listed};
+ghost use Rattle.text.specs.Line.{lines};
+ghost use Rattle.writers.specs.Keys.{keyWidth};
+ghost use Rattle.writers.specs.Kept.{places, keptAt, standing, keyed, keysBelow, Added};
+ghost use Rattle.writers.specs.KeptLaws.{Filled};
+use crate::keys::put_key;
+use crate::marks::MARK_BYTES;
+use crate::marks::marked;
+use crate::ranks::pack;
+use table::Slot;
+use table::read_slot;
+use text::line_length;
+
+// What is written of slot i.
+fn kept(table: &[u8], marks: &[u8; MARK_BYTES], i: usize) -> Slot
+    requires { ⌜ (slotWidth * i + slotWidth ≤ length (now table)) × (i < places) ⌝ }
+    ensures { λ s. ⌜ s ≡ keptAt (now (table .entry)) (now (marks .entry)) i ⌝ }
+{
+    let s = read_slot(table, i);
+    match s {
+        Slot::Free => Slot::Free,
+        Slot::Holds(r) => {
+            let gone = marked(marks, i) & (r.d == 3);
+            if gone { Slot::Free } else { Slot::Holds(r) }
+        }
+    }
+}
+
+// The bytes that are written of slot i.
+fn length_at(table: &[u8], marks: &[u8; MARK_BYTES], i: usize) -> usize
+    requires { ⌜ InOrder (now table) × (i < slotsOf (now table)) ⌝ }
+    ensures { λ w. ⌜ (w ≡ length (lines (listed (keptAt (now (table .entry)) (now (marks .entry)) i)))) × (w ≤ 26) ⌝ }
+{
+    match kept(table, marks, i) {
+        Slot::Free => 0,
+        Slot::Holds(r) => line_length(r),
+    }
+}
+
+// The length of the file.
+pub fn file_length(table: &[u8], marks: &[u8; MARK_BYTES], n: usize) -> usize
+    requires { ⌜ InOrder (now table) × (n ≡ slotsOf (now table)) ⌝ }
+    ensures { λ w. ⌜ w ≡ length (lines (standing (keptAt (now (table .entry)) (now (marks .entry))) n)) ⌝ }
+{
+    let mut i = 0;
+    let mut total = 0;
+    while i < n {
+        total += length_at(table, marks, i);
+        i += 1;
+    }
+    total
+}
+
+// Stores the key of slot i as key k, if the slot is written, and gives how many keys there are then.
+fn put_kept(table: &[u8], marks: &[u8; MARK_BYTES], i: usize, out: &mut [u8], k: usize) -> usize
+    requires { ⌜ InOrder (now table) × (i < slotsOf (now table)) ⌝ }
+    requires { ⌜ keyWidth * (k + length (keyed i (keptAt (now table) (now marks) i))) ≤ length (now out) ⌝ }
+    ensures { λ r. ⌜ Added (now (out .entry)) k (keyed i (keptAt (now (table .entry)) (now (marks .entry)) i)) (now (out .exit)) r ⌝ }
+{
+    match kept(table, marks, i) {
+        Slot::Free => k,
+        Slot::Holds(r) => {
+            put_key(out, k, pack(r, i));
+            k + 1
+        }
+    }
+}
+
+// Stores the keys of all that is written, and gives how many there are.
+pub fn put_keys(table: &[u8], marks: &[u8; MARK_BYTES], n: usize, out: &mut [u8]) -> usize
+    requires { ⌜ InOrder (now table) × (n ≡ slotsOf (now table)) ⌝ }
+    requires { ⌜ keyWidth * length (keysBelow (keptAt (now table) (now marks)) n) ≤ length (now out) ⌝ }
+    ensures { λ k. ⌜ Filled (now (out .entry)) (keysBelow (keptAt (now (table .entry)) (now (marks .entry))) n) (now (out .exit)) k ⌝ }
+{
+    let mut i = 0;
+    let mut k = 0;
+    while i < n {
+        k = put_kept(table, marks, i, out, k);
+        i += 1;
+    }
+    k
+}

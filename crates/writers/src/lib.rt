@@ -1,0 +1,63 @@
+// The files of a table: document 01, "Files", written into lent bytes.
+//
+// Two public calls answer every table and output: `write_full` and `write_reduced`. kept.rt goes through the slots, marks.rt says which records
+// are left out, keys.rt sorts, lines.rt writes. The promises cite specs/Files.
+ghost use mathlib.Core.Path.{_≡_};
+ghost use Rattle.table.specs.Order.{InOrder};
+ghost use Rattle.table.specs.Slots.{slotsOf};
+ghost use Rattle.writers.specs.Files.{outcome, putOf, writeFullOf};
+ghost use Rattle.writers.specs.LeftLaws.{fileOf};
+
+mod kept;
+mod keys;
+mod lines;
+mod marks;
+mod ranks;
+
+use crate::kept::file_length;
+use crate::kept::put_keys;
+use crate::keys::make_heap;
+use crate::lines::write_lines;
+use crate::marks::MARK_BYTES;
+use table::in_order;
+use table::slots_of;
+
+// The number that document 01 gives, and the bytes written, 0 if refused.
+pub struct Written {
+    pub number: u8,
+    pub bytes: u64,
+}
+
+fn answer(number: u8, bytes: u64) -> Written
+    ensures { λ r. ⌜ (r .number ≡ number) × (r .bytes ≡ bytes) ⌝ }
+{
+    Written { number, bytes }
+}
+
+// Writes the file of the records that are not marked.
+fn write_kept(table: &[u8], marks: &[u8; MARK_BYTES], n: usize, out: &mut [u8]) -> Written
+    requires { ⌜ InOrder (now table) × (n ≡ slotsOf (now table)) ⌝ }
+    ensures { λ r. ⌜ outcome (r .number) (r .bytes) (now (out .exit)) ≡ putOf (fileOf (now (table .entry)) (now (marks .entry))) (now (out .entry)) ⌝ }
+{
+    let total = file_length(table, marks, n);
+    if out.len() < total {
+        return answer(13, 0);
+    }
+    let k = put_keys(table, marks, n, out);
+    make_heap(out, k);
+    write_lines(table, marks, out, k, total);
+    answer(0, total as u64)
+}
+
+// Writes the full file of a table: every record, in the order of lines. Refused with 1 or 13, no byte is changed; bytes past the file never are.
+// In time n log n for n slots, as long as the searches are short, with no memory but the output and 8 KiB of stack.
+pub fn write_full(table: &[u8], out: &mut [u8]) -> Written
+    ensures { λ r. ⌜ outcome (r .number) (r .bytes) (now (out .exit)) ≡ writeFullOf (now (table .entry)) (now (out .entry)) ⌝ }
+{
+    if !in_order(table) {
+        return answer(1, 0);
+    }
+    let n = slots_of(table);
+    let marks = [0; MARK_BYTES];
+    write_kept(table, &marks, n, out)
+}
