@@ -15,14 +15,14 @@ use Rattle.mesh.specs.Subdivide.{fitsAt}
 use Rattle.mesh.proofs.checks.adjacent_fits.Tie as tie
 
 adjacent-of-requires : tie.Need-adjacent-of-requires
-adjacent-of-requires c κs = let r = c .before .pre .1 .0 in let s = r .six in (ready-inner r, omega arith)
+adjacent-of-requires c κs = let r = c .before .before .pre .1 .0 in let s = r .six in (ready-inner r, omega arith)
 
 look-up-requires : tie.Need-look-up-requires
 look-up-requires c κs = search needs
 
 -- what stands at the place
-looked : (c : tie.After-look-up) → c .look-up .result ≡ lookUp (c .before .before .before .args .t .now) (adjacentAt (c .before .before .before .args .v) (c .before .before .before .args .j))
-looked c = c .look-up .ensures ∙ ap (lookUp (c .before .before .before .args .t .now)) (c .before .adjacent-of .ensures)
+looked : (c : tie.After-look-up) → c .look-up .result ≡ lookUp (c .before .before .before .before .args .t .now) (adjacentAt (c .before .before .before .before .args .v) (c .before .before .before .before .args .j))
+looked c = c .look-up .ensures ∙ ap (lookUp (c .before .before .before .before .args .t .now)) (c .before .adjacent-of .ensures)
 
 enum-told : tie.Need-enum-told
 enum-told c = search needs
@@ -31,24 +31,24 @@ enum-known-l : tie.Need-enum-known-l
 enum-known-l c = search needs
 
 back-requires : tie.Need-back-requires
-back-requires c κs = let r = c .before .before .before .before .before .before .pre .1 .0 in (ready-turn r, search needs)
+back-requires c κs = let r = c .before .before .before .before .before .before .before .pre .1 .0 in (ready-turn r, search needs)
 
 accepts-requires : tie.Need-accepts-requires
 accepts-requires c κs =
     let l = c .before .before .before .before in
-    let s = l .before .before .before in
+    let s = l .before .before .before .before in
     let u = c .before .before .l .given in
     let k = valid-turn (u .0 .0) (of-true (lookup-valid (s .args .t .now) (s .pre .1 .0 .order) _ (u .0 .0) (sym (looked l) ∙ u .1))) in
     omega arith
 
 returns : tie.Need-returns
-returns c = let z = ap (fitsAt (c .before .before .before .before .before .args .v) (c .before .before .before .before .before .args .j)) (sym (c .enum-told .given .1) ∙ looked (c .before .before)) in z
+returns c = ap (fitsAt (c .before .before .before .before .before .before .args .v) (c .before .before .before .before .before .before .args .j)) (sym (c .enum-told .given .1) ∙ looked (c .before .before))
 
 returns-2 : tie.Need-returns-2
 returns-2 c =
     let b = c .before in
     let l = b .before .before .before .before in
-    let s = l .before .before .before in
+    let s = l .before .before .before .before in
     let v = s .args .v in
     let u = b .before .before .l .given in
     c .accepts .ensures
