@@ -2,7 +2,7 @@
 -- H are the points of depth 0 there with a-b divisible by 3; c p is the level of p less its rank where p has degree 6, else 0. Then the sheet and the model agree point by point: no
 -- induction is needed, but for one thing. A point whose creator q has a level above its birth must be there (`kids`). The test only says that the six adjacents of q's present star are there. But an
 -- adjacent of q of level i + 1 has three parents there, two of which are adjacents of q of level i (the side laws): so the stars of q at all levels from its rank on are there.
--- `Sound`, `Bounded` what a table's sheet has · `centres`, `countsOf` H and c · `kids` · `checked-is`, `checked-good`, `checked-low`, `checked-base` · `checked-closed` M3.
+-- `Sound` what a table's sheet has · `centres`, `countsOf` H and c · `kids` · `closed-at` the sheet and the model agree (the rest of M3 is in specs/LocalGrown).
 -- Assumes nothing.
 use mathlib.Core.Path.{_≡_, refl, sym, _∙_, ap, subst}
 use mathlib.Core.Logic.{_≢_}

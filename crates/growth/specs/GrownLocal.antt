@@ -1,7 +1,7 @@
 -- M3, the other half: each record of the mesh of H and c passes the local test.
 -- Presence and levels are read off the mesh as the model has them (`there-is`, `over-is`); the parents of a point that is there are there, since its creator is and the two others are
 -- adjacents of the creator at a level that it has had (`parents-there`).
--- `closed-local` · `grown-local` M3.
+-- `there-is`, `over-is` · `parents-there` · `closed-local` M3.
 -- Assumes nothing.
 use mathlib.Core.Path.{_≡_, refl, sym, _∙_, ap, subst}
 use mathlib.Core.Logic.{_≢_}
@@ -72,9 +72,6 @@ module _ (H : Point → Bool) (c : Counts) (good : M.Good H c) where
   there-is p h =
       let (r, x) = look-here (presAt H (at c) p (rank p)) (intAt H p (rank p)) (p .at) (starAt (at c) p (rank p)) h in
       some-there R (p .at) r (record-is c H p ∙ rec-at H (at c) p (rank p) refl ∙ x)
-
-  is-there : (p : Pt) (r : Record) → R (p .at) ≡ some r → look (presAt H (at c) p (rank p)) (intAt H p (rank p)) (p .at) (starAt (at c) p (rank p)) ≡ some r
-  is-there p r x = sym (rec-at H (at c) p (rank p) refl) ∙ sym (record-is c H p) ∙ x
 
   -- and was subdivided at a level where its degree is 6 and its level above
   over-is : (q : Pt) (i : ℕ) → rank q ≤ i → over R (q .at) i ≡ T (at c) q i

@@ -3,6 +3,7 @@ pub mod Sheets
 pub mod Model
 pub mod Local
 pub mod Growth
+pub mod Examples
 -- how it is proved. Points and their parents, by steps alone
 pub mod Normal
 pub mod Directions
@@ -26,3 +27,5 @@ pub mod LocalGrown
 pub mod GrownLocal
 -- no neighbour query is torn
 pub mod Neighbours
+-- M6, for ticket 4
+pub mod Bring

@@ -1,5 +1,6 @@
--- M3: a finite, non-empty sheet of valid records is grown exactly when each of its records passes the local test. Here: passing makes it the mesh of the H and c that are read off it.
--- `Bounded` a list holds all its points · `checked-closed` · `grownTest`, `grown-tested` the test of a whole list of records decides `Grown` (with specs/GrownLocal).
+-- M3: a sheet of valid records that all pass the local test, finite and not empty, is the mesh of the H and c that are read off it; so it is grown.
+-- A centre is in range since its six corners are valid, and there is a centre since from any point the way leads down, parent by parent, to depth 0.
+-- `Bounded` a list holds all its points · `checked-closed` M3, one half.
 -- Assumes nothing.
 use mathlib.Core.Path.{_≡_, refl, sym, _∙_, ap, subst}
 use mathlib.Core.Logic.{_⊎_, inl, inr}

@@ -139,7 +139,7 @@ module _ (p : Pt) (b t : ℕ) (ht : t < 3) (f : rank p ≡ suc b) where
 -- ---- so each is there
 module _ (H : Point → Bool) (c : Pt → ℕ) (good : Good H c) (p : Pt) where
   -- a parent
-  parent-there : (b t : ℕ) → rank p ≡ suc b → presAt H c p (suc b) ≡ true → intAt H p (suc b) ≡ true → t < 3 → presAt H c (par p t b) (rank (par p t b)) ≡ true
+  pub parent-there : (b t : ℕ) → rank p ≡ suc b → presAt H c p (suc b) ≡ true → intAt H p (suc b) ≡ true → t < 3 → presAt H c (par p t b) (rank (par p t b)) ≡ true
   unfolding presAt intAt
   parent-there zero t f pr i ht =
       let z : rank (par p t 0) ≡ 0 = (let l = par-rank p t 0 ht f in omega arith) in

@@ -200,10 +200,7 @@ module _ (H : Point → Bool) (c : Pt → ℕ) (q : Pt) (n : ℕ) (h : n ≡ ran
       old-level′ : rank (move q e n) + bump q c (move q e n) ≡ suc n
       old-level′ = let b = bump-other q (move q e n) c (ne-rank (move q e n) old-rank) in let f = old-level in omega arith
 
-      -- which of its slots is q's
-      slot : ℕ
-      slot = (e + 6) % 12 / 4
-
+      -- q is its parent in slot (e + 6) mod 12 / 4
       old-q : par (move q e n) ((e + 6) % 12 / 4) n ≡ q
       old-q = parent-of q e n he (omega arith)
 

@@ -233,16 +233,16 @@ odd-row e h p = go (ℕ-discrete (e % 4) 1) (odd-table e h p)
     go (no z) (r, s) = let w : e % 4 ≡ 3 = omega arith in inr (w, omega arith, omega arith)
 
 -- ---- the levels: 0, odd, even
-pub data Level (i : ℕ) : Type 0 where
-  ground : i ≡ 0 → Level i
-  uneven : (h : ℕ) → i ≡ 2 * h + 1 → Level i
-  paired : (h : ℕ) → i ≡ 2 * h + 2 → Level i
+pub data LevelKind (i : ℕ) : Type 0 where
+  ground : i ≡ 0 → LevelKind i
+  uneven : (h : ℕ) → i ≡ 2 * h + 1 → LevelKind i
+  paired : (h : ℕ) → i ≡ 2 * h + 2 → LevelKind i
 
-pub levelled : (i : ℕ) → Level i
-levelled zero = ground refl
-levelled (suc i) = go (ℕ-discrete (i % 2) 0)
+pub level-kind : (i : ℕ) → LevelKind i
+level-kind zero = ground refl
+level-kind (suc i) = go (ℕ-discrete (i % 2) 0)
   where
-    go : Dec (i % 2 ≡ 0) → Level (suc i)
+    go : Dec (i % 2 ≡ 0) → LevelKind (suc i)
     go (yes e) = uneven (i / 2) (omega arith)
     go (no e) = paired (i / 2) (omega arith)
 

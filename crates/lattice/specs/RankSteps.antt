@@ -23,7 +23,7 @@ use Rattle.lattice.specs.Ranks.{rankOf, birthOf, moveOf}
 use Rattle.lattice.specs.SideLaws.{Dir, vector}
 use Rattle.lattice.specs.SubdivisionLaws.{sum-normal}
 use Rattle.lattice.specs.declared.points.Point.{Point}
-use Rattle.lattice.specs.RankLaws.{ra, rb, rc, rank-between, birth-parity, Level, ground, uneven, paired, levelled, deepOf, zeros, class-own, step-a, step-b, step-c, step-9, step-depth, even-row, odd-row, one, ground-in, ground-out, ground-first, ground-base, uneven-in, uneven-out, uneven-low, uneven-born, uneven-class, paired-in, paired-out, paired-low, paired-born}
+use Rattle.lattice.specs.RankLaws.{ra, rb, rc, rank-between, birth-parity, LevelKind, ground, uneven, paired, level-kind, deepOf, zeros, class-own, step-a, step-b, step-c, step-9, step-depth, even-row, odd-row, one, ground-in, ground-out, ground-first, ground-base, uneven-in, uneven-out, uneven-low, uneven-born, uneven-class, paired-in, paired-out, paired-low, paired-born}
 
 -- ---- from a point of rank at most i, a step of level i
 module _ (q : Point) (e i : ℕ) (t : T (isNormal q)) (d : Dir e i) (l : rankOf q ≤ i) where
@@ -96,16 +96,16 @@ module _ (q : Point) (e i : ℕ) (t : T (isNormal q)) (d : Dir e i) (l : rankOf 
       by (inl (k, v)) x ds = let y : rc 3 (suc h) s ≡ 1 = x ∙ ap (λ (n : ℕ). (0 + n) % 3) v in let (r, o) = paired-out s ts h ds (omega arith) in (omega arith, o ∙ omega arith)
       by (inr (k, v)) x ds = let y : rc 3 (suc h) s ≡ 2 = x ∙ ap (λ (n : ℕ). (0 + n) % 3) v in let (r, o) = paired-out s ts h ds (omega arith) in (omega arith, o ∙ omega arith)
 
-  out : Level i → Out
+  out : LevelKind i → Out
   out (ground z) = out-ground z
   out (uneven h z) = out-uneven h z
   out (paired h z) = out-paired h z
 
   pub out-rank : rankOf (moveOf q e i) ≡ suc i
-  out-rank = out (levelled i) .0
+  out-rank = out (level-kind i) .0
 
   pub out-birth : birthOf (moveOf q e i) ≡ (e + 6) % 4
-  out-birth = out (levelled i) .1
+  out-birth = out (level-kind i) .1
 
 -- ---- from a point of rank i + 1, in a direction of its birth: to a rank of at most i
 four-two : (e k i : ℕ) → e % 4 ≡ k → k % 2 ≡ i % 2 → e % 2 ≡ i % 2
@@ -176,9 +176,9 @@ module _ (p : Point) (e i : ℕ) (t : T (isNormal p)) (he : e < 12) (f : rankOf 
       by (inr (j, v)) c c′ b x = let w : rc 3 (suc h) p ≡ 1 = omega arith in x ∙ (λ i. (w i + v i) % 3)
 
   pub in-rank : rankOf (moveOf p e i) ≤ i
-  in-rank = go (levelled i)
+  in-rank = go (level-kind i)
     where
-      go : Level i → rankOf r ≤ i
+      go : LevelKind i → rankOf r ≤ i
       go (ground z) = in-ground z
       go (uneven h z) = in-uneven h z
       go (paired h z) = in-paired h z
@@ -289,9 +289,9 @@ module _ (p : Point) (t : T (isNormal p)) where
       half i h z l = omega arith
 
   pub creator : (i : ℕ) → rankOf p ≡ suc (suc i) → (e : ℕ) × (e < 12) × (e % 4 ≡ birthOf p) × (rankOf (moveOf p e (suc i)) ≤ i)
-  creator i f = go (levelled (suc i))
+  creator i f = go (level-kind (suc i))
     where
-      go : Level (suc i) → Creator i
+      go : LevelKind (suc i) → Creator i
       go (ground z) = absurd (omega arith)
       go (uneven h z) = creator-uneven i h z f
       go (paired h z) = creator-paired i h z f
