@@ -14,3 +14,5 @@ pub mod KeptLaws
 pub mod LeftLaws
 pub mod CallLaws
 pub mod ReducedLaws
+-- what the floors above cite
+pub mod FileLaws

@@ -1,7 +1,7 @@
 -- Why the marked records are the redundant ones: a search ends at a record's slot exactly where it is for that record's point.
 -- `found-same` · `finds-redundant` a record's slot is named exactly where the record is named · `marked-file` with these marked the file is the reduced one.
 -- Assumes nothing.
-use mathlib.Core.Path.{_≡_, refl, sym, ap, _∙_, subst}
+use mathlib.Core.Path.{_≡_, refl, sym, ap, _∙_}
 use mathlib.Core.Bool.{Bool, true, false, cond, _&&_, _||_}
 use mathlib.Core.List.{List, [], _∷_, _++_}
 use Prim.Native.Nat.{ℕ, zero, suc, _≤_, _<_}
