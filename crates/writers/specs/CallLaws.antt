@@ -2,7 +2,7 @@
 -- Assumes nothing.
 use mathlib.Core.Path.{_≡_, refl, sym, ap, _∙_}
 use mathlib.Core.Bool.{Bool, true, false, cond, _&&_}
-use mathlib.Core.List.{List, [], _∷_, _++_}
+use mathlib.Core.List.{List, _++_}
 use Prim.Native.Nat.{ℕ, zero, suc, _/_, _%_, _^_}
 use native.Mathlib.Nat.{zero-div}
 use lib.Dec.{eqb}
@@ -11,7 +11,7 @@ use Rattle.laws.specs.Bits.{bitOf}
 use Rattle.lattice.specs.declared.records.Record.{Record}
 use Rattle.table.specs.Slots.{slotsOf, slotAt}
 use Rattle.table.specs.Order.{inOrderOf}
-use Rattle.table.specs.Entries.{listed, recordsBelow, recordsOf}
+use Rattle.table.specs.Entries.{listed, recordsBelow}
 use Rattle.table.specs.declared.slots.Slot.{Slot}
 use Rattle.table.specs.declared.slots.Slot.the-variants.{Free, Holds}
 use Rattle.text.specs.Line.{lines}

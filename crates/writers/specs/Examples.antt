@@ -4,7 +4,7 @@ use mathlib.Core.Path.{_≡_, refl}
 use mathlib.Core.List.{List, [], _∷_, _++_}
 use Prim.Native.Nat.{ℕ}
 use lib.IntN.{ℤ, pos, negsuc}
-use lib.ListN.{replicate, length}
+use lib.ListN.{replicate}
 use Rattle.laws.specs.Words.{wordAt}
 use Rattle.writers.specs.Sorting.{insertBy, sortBy}
 use Rattle.lattice.specs.Points.{pt, normalOf, turns}
@@ -16,7 +16,7 @@ use Rattle.table.specs.Order.{placedAt, allPlaced, inOrderOf}
 use Rattle.table.specs.Entries.{enterOf, recordsBelow, recordsOf}
 use Rattle.text.specs.Decimal.{digitsBy, digits}
 use Rattle.text.specs.Line.{pointText, starText, lineOf, lines}
-use Rattle.writers.specs.Files.{earlier, sorted, redundant, leaveOut, fullFile, reducedFile, outcome, putOf, writeOf, writeFullOf, writeReducedOf}
+use Rattle.writers.specs.Files.{earlier, sorted, redundant, leaveOut, outcome, putOf, writeOf, writeFullOf, writeReducedOf}
 
 -- [a, b, 0], of degree d and orientation k, at level 0
 vertex : ℤ → ℤ → ℕ → ℕ → Record

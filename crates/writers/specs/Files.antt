@@ -2,7 +2,7 @@
 -- `before` the order of lines, `sorted` records in it · `fullFile` · `redundant` the records that the reduced file leaves out, `reducedFile` · `Outcome`, `writeOf` a file
 -- written, or refused.
 -- Assumes nothing.
-use mathlib.Core.Bool.{Bool, false, cond, _&&_, _||_, not}
+use mathlib.Core.Bool.{Bool, false, cond, _&&_, _||_}
 use mathlib.Core.List.{List, [], _∷_, _++_}
 use Prim.Native.Nat.{ℕ}
 use lib.Dec.{eqb, ltb}

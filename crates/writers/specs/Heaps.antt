@@ -2,8 +2,8 @@
 -- `Heap f lo k` a heap from value lo on · `heap-top` · `Sunk f lo k i` a heap but for value i, which may be less than those below it: `sunk-start`, `sunk-step` (it changes
 -- places with the greater one below), `sunk-stop`.
 -- Assumes nothing.
-use mathlib.Core.Path.{_≡_, refl, sym, ap, _∙_, subst}
-use Prim.Native.Nat.{ℕ, zero, suc, _+_, _-_, _*_, _/_, _≤_, _<_}
+use mathlib.Core.Path.{_≡_, sym, ap, _∙_, subst}
+use Prim.Native.Nat.{ℕ, zero, suc, _+_, _-_, _/_, _≤_, _<_}
 use native.Mathlib.Omega.{arith}
 use native.Mathlib.Decide.{ℕ-discrete}
 

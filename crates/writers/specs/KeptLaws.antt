@@ -1,6 +1,7 @@
 -- The records that are kept, their keys, and what sorting the keys does to the records.
 -- `standing-none`, `standing-more`, `keys-none`, `keys-more` slot by slot · `keys-length`, `keys-grow` · `keys-sorted` the records of the sorted keys are the records in file order ·
--- `keys-inside` a key's slot is in the table · `lines-sorted` as many bytes in any order · `Filled` the keys in the output: `filled-none`, `filled-more`.
+-- `keys-inside` a key's slot is in the table · `lines-sorted` as many bytes in any order · `Filled` the keys in the output: `filled-none`, `filled-more` · `kept-part`, `kept-valid`,
+-- `kept-close` what is kept stands in the table and is valid.
 -- Assumes nothing.
 use mathlib.Core.Path.{_≡_, refl, sym, ap, _∙_, subst}
 use mathlib.Core.Logic.{_⊎_, inl, inr}
@@ -11,7 +12,7 @@ use native.Mathlib.Omega.{arith}
 use native.Mathlib.Decide.{ℕ-discrete, decLt, decLe}
 use borrow.Author.Tests.{lt-ltb, le-ltb}
 use lib.Dec.{eqb, ltb}
-use lib.ListN.{length, getD, drop, length-append}
+use lib.ListN.{length, drop, length-append}
 use lib.Seq.{getD-append-seam}
 use Rattle.lattice.specs.Records.{validOf}
 use Rattle.lattice.specs.declared.records.Record.{Record}
@@ -22,9 +23,9 @@ use Rattle.table.specs.declared.slots.Slot.{Slot}
 use Rattle.table.specs.declared.slots.Slot.the-variants.{Free, Holds}
 use Rattle.text.specs.Line.{lineOf, lines}
 use Rattle.text.specs.LineLaws.{lines-join}
-use Rattle.text.specs.Near.{Near, valid-near}
+use Rattle.text.specs.Near.{valid-near}
 use Rattle.writers.specs.Sorting.{insertBy, sortBy}
-use Rattle.writers.specs.SortLaws.{sort-map, mem-sort}
+use Rattle.writers.specs.SortLaws.{sort-map}
 use Rattle.writers.specs.Files.{before, sorted}
 use Rattle.writers.specs.Tally.{nth}
 use Rattle.writers.specs.Keys.{keyWidth, keyIn, Put}
@@ -108,7 +109,7 @@ key-slot : (r : Record) (i : ℕ) → i < places → keyOf r i % places ≡ i
 unfolding keyOf
 key-slot r i h = omega arith
 
-close : (r : Record) → validOf r ≡ true → Close (r .at)
+pub close : (r : Record) → validOf r ≡ true → Close (r .at)
 close r v = let n = valid-near r v in record { a = n .a; b = n .b; m = n .m }
 
 -- ---- of a table in order, where f keeps some of its slots
@@ -144,12 +145,6 @@ module _ (t : List ℕ) (o : InOrder t) (f : ℕ → Slot) (part : (i : ℕ) (r 
   unfolding keyOf
   key-order r s i j hi hj one = go (decLt (rankOf (r .at)) (rankOf (s .at))) (decLt (rankOf (s .at)) (rankOf (r .at)))
     where
-      x : ℕ
-      x = rankOf (r .at)
-
-      y : ℕ
-      y = rankOf (s .at)
-
       go : Dec (rankOf (r .at) < rankOf (s .at)) → Dec (rankOf (s .at) < rankOf (r .at)) → ltb (rankOf (r .at) * 65536 + i) (rankOf (s .at) * 65536 + j) ≡ ltb (rankOf (r .at)) (rankOf (s .at))
       go (yes l) m = lt-ltb (rankOf (r .at) * 65536 + i) (rankOf (s .at) * 65536 + j) (omega arith) ∙ sym (lt-ltb (rankOf (r .at)) (rankOf (s .at)) l)
       go (no l) (yes m) = le-ltb (rankOf (r .at) * 65536 + i) (rankOf (s .at) * 65536 + j) (omega arith) ∙ sym (le-ltb (rankOf (r .at)) (rankOf (s .at)) (omega arith))

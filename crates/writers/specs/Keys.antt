@@ -1,5 +1,7 @@
 -- The keys that stand in the output before its lines do: eight bytes each, one a record, sorted in place.
--- `keyIn` key i of some bytes · `Put` a key stored, `put-key` · `Swapped` two keys exchanged, `swap-keys` · `Sifted` what sinking a key keeps.
+-- `keyIn` key i of some bytes · `Put` a key stored, `put-key`, `key-before` · `Swapped` two keys exchanged, `swap-keys`, `swap-tally` · `Greatest` the greater of those below a
+-- place · `Sinking` a key on its way down: `sinking-start`, `sinking-step`, `sinking-none`, `sinking-rest` · `Sifted` what that keeps, `sifted-start`, `sifted-then` · `Popped` the
+-- greatest key taken off: `pop-heap`, `pop-popped`.
 -- Assumes nothing.
 use mathlib.Core.Path.{_≡_, refl, sym, ap, _∙_}
 use mathlib.Core.List.{List, [], _∷_}

@@ -2,15 +2,15 @@
 -- `fileOf` the file of what is kept · `Ready` the keys stand there, no line does · `Left` k keys are left, the lines of the others stand from `at` on: `left-start`, `left-top` the
 -- next key is the greatest left, `left-step`, `left-end`.
 -- Assumes nothing.
-use mathlib.Core.Path.{_≡_, refl, sym, ap, _∙_, subst}
-use mathlib.Core.Bool.{Bool, true, false, cond}
-use mathlib.Core.List.{List, [], _∷_, _++_, map, map-append, append-assoc, List·Memᴰ}
-use Prim.Native.Nat.{ℕ, zero, suc, _+_, _*_, _-_, _%_, _≤_, _<_}
+use mathlib.Core.Path.{_≡_, sym, ap, _∙_, subst}
+use mathlib.Core.Bool.{Bool, cond}
+use mathlib.Core.List.{List, [], _∷_, _++_, map, map-append, append-assoc}
+use Prim.Native.Nat.{ℕ, suc, _+_, _*_, _-_, _%_, _≤_, _<_}
 use native.Mathlib.Omega.{arith}
 use native.Mathlib.Decide.{decLt}
 use borrow.Author.Tests.{ltb-true, ltb-false, lt-ltb, le-ltb}
 use lib.Dec.{eqb, ltb}
-use lib.ListN.{length, getD, take, drop, length-append, length-map}
+use lib.ListN.{length, take, drop, length-append, length-map}
 use lib.Seq.{sets, sets-eq, drop-at, drop-drop, drop-cons, drop-length, take-suc, take-length, length-take-le, length-sets}
 use Rattle.laws.specs.Stores.{Wrote}
 use Rattle.lattice.specs.declared.records.Record.{Record}

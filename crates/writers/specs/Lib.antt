@@ -9,6 +9,10 @@ pub mod Heaps
 pub mod Keys
 pub mod Ranks
 pub mod Kept
+pub mod Marks
 pub mod KeptLaws
 pub mod LeftLaws
 pub mod CallLaws
+pub mod ReducedLaws
+-- what the floors above cite
+pub mod FileLaws

@@ -69,12 +69,6 @@ lex : (m a b m′ a′ b′ : ℕ) → a < 524288 → b < 524288 → a′ < 5242
     → ltb m m′ || (eqb m m′ && (ltb a a′ || (eqb a a′ && ltb b b′))) ≡ ltb ((m * 524288 + a) * 524288 + b) ((m′ * 524288 + a′) * 524288 + b′)
 lex m a b m′ a′ b′ ha hb ha′ hb′ = go (decLt m m′) (decLt m′ m) (decLt a a′) (decLt a′ a) (decLt b b′)
   where
-    x : ℕ
-    x = (m * 524288 + a) * 524288 + b
-
-    y : ℕ
-    y = (m′ * 524288 + a′) * 524288 + b′
-
     go : Dec (m < m′) → Dec (m′ < m) → Dec (a < a′) → Dec (a′ < a) → Dec (b < b′) → ltb m m′ || (eqb m m′ && (ltb a a′ || (eqb a a′ && ltb b b′))) ≡ ltb ((m * 524288 + a) * 524288 + b) ((m′ * 524288 + a′) * 524288 + b′)
     go (yes p) q r s t = ap (λ (z : Bool). z || (eqb m m′ && (ltb a a′ || (eqb a a′ && ltb b b′)))) (lt-ltb m m′ p) ∙ sym (lt-ltb ((m * 524288 + a) * 524288 + b) ((m′ * 524288 + a′) * 524288 + b′) (omega arith))
     go (no p) (yes q) r s t =

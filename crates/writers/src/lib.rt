@@ -5,7 +5,7 @@
 ghost use mathlib.Core.Path.{_≡_};
 ghost use Rattle.table.specs.Order.{InOrder};
 ghost use Rattle.table.specs.Slots.{slotsOf};
-ghost use Rattle.writers.specs.Files.{outcome, putOf, writeFullOf};
+ghost use Rattle.writers.specs.Files.{outcome, putOf, writeFullOf, writeReducedOf};
 ghost use Rattle.writers.specs.LeftLaws.{fileOf};
 
 mod kept;
@@ -19,6 +19,7 @@ use crate::kept::put_keys;
 use crate::keys::make_heap;
 use crate::lines::write_lines;
 use crate::marks::MARK_BYTES;
+use crate::marks::mark_all;
 use table::in_order;
 use table::slots_of;
 
@@ -59,5 +60,18 @@ pub fn write_full(table: &[u8], out: &mut [u8]) -> Written
     }
     let n = slots_of(table);
     let marks = [0; MARK_BYTES];
+    write_kept(table, &marks, n, out)
+}
+
+// Writes the reduced file of a table: every record but those of degree 3 that some vertex of degree 6 names. As `write_full` in all else.
+pub fn write_reduced(table: &[u8], out: &mut [u8]) -> Written
+    ensures { λ r. ⌜ outcome (r .number) (r .bytes) (now (out .exit)) ≡ writeReducedOf (now (table .entry)) (now (out .entry)) ⌝ }
+{
+    if !in_order(table) {
+        return answer(1, 0);
+    }
+    let n = slots_of(table);
+    let mut marks = [0; MARK_BYTES];
+    mark_all(table, n, &mut marks);
     write_kept(table, &marks, n, out)
 }

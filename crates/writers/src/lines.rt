@@ -1,11 +1,10 @@
 // The lines of a file, from the last back: each key is taken off the heap at the output's beginning, and its line written at the end, which never meets the keys.
 ghost use mathlib.Core.Path.{_≡_};
-ghost use mathlib.Core.List.{_++_, map};
+ghost use mathlib.Core.List.{_++_};
 ghost use Prim.Native.Nat.{_+_, _*_, _%_, _≤_};
 ghost use lib.ListN.{length, drop};
-ghost use Rattle.table.specs.Slots.{slotWidth, slotsOf};
+ghost use Rattle.table.specs.Slots.{slotWidth};
 ghost use Rattle.table.specs.Order.{InOrder};
-ghost use Rattle.text.specs.Line.{lines};
 ghost use Rattle.writers.specs.Kept.{places, recordOf};
 ghost use Rattle.writers.specs.LeftLaws.{Ready, fileOf};
 use crate::keys::pop;

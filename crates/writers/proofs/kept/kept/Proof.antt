@@ -1,5 +1,5 @@
 -- `writers::kept` meets its promise. Assumes nothing.
-use mathlib.Core.Path.{_≡_, sym, _∙_}
+use mathlib.Core.Path.{sym, _∙_}
 use borrow.Author.Needs.{needs}
 use Rattle.table.specs.declared.slots.Slot.the-variants.{Free}
 use Rattle.writers.specs.KeptLaws.{kept-at, kept-gone, kept-stays}

@@ -1,6 +1,5 @@
 -- `writers::put_keys` meets its promise. The invariant: the keys of the slots so far are stored. Assumes nothing.
 use mathlib.Core.Path.{_≡_, sym, subst}
-use mathlib.Core.List.{[]}
 use Prim.Native.Nat.{ℕ, _-_, _≤_}
 use native.Mathlib.Omega.{arith}
 use borrow.Author.Needs.{needs}

@@ -1,5 +1,5 @@
 -- `writers::record_of` meets its promise. Assumes nothing.
-use mathlib.Core.Path.{_≡_, sym, _∙_, ap}
+use mathlib.Core.Path.{sym, _∙_, ap}
 use borrow.Author.Needs.{needs}
 use Rattle.writers.specs.Kept.{recordIn}
 use Rattle.writers.proofs.lines.record_of.Statement.{statement}
