@@ -1,4 +1,4 @@
--- Document 01's examples of points and stars, computed from the definitions.
+-- Document 01's examples of points, stars and the records of a subdivision, computed from the definitions; and a point with its rank and creator.
 -- Assumes nothing.
 use mathlib.Core.Path.{_≡_, refl}
 use Prim.Native.Nat.{ℕ}

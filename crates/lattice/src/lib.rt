@@ -1,7 +1,8 @@
-// Exact points of the plane and the stars round them, usable without any mesh: document 01, "Points", "Records", "The twelve directions".
+// Exact points of the plane and the stars round them, usable without any mesh: document 01, "Points", "Records", "The twelve
+// directions", and "Subdivision" record by record.
 //
 // Two public calls answer every input: `normalise` and `star`. The other functions serve the proved floors above and ask for bounds.
-// The promises cite specs/: Points, Records, Patterns, Stars, and Ranks for the model of grown meshes.
+// The promises cite specs/: Points, Records, Patterns, Stars, Subdivision, and Ranks for the model of grown meshes; what is asked of bounds is in Bounds and RecordLaws.
 mod patterns;
 mod points;
 mod ranks;

@@ -22,7 +22,7 @@ pub struct Answer {
     pub points: [Point; 6],
 }
 
-// A pattern point at a star's level: its depth goes up by half the level. No depth can stand in the level's place.
+// A pattern point at a star's level: its depth goes up by half the level, rounded down. No depth can stand in the level's place.
 fn scaled(n: Level, p: Point) -> Point
     requires { ⌜ p .m .0 + n .0 < 256 ⌝ }
     ensures { λ r. ⌜ r ≡ scaleOf n p ⌝ }

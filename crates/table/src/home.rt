@@ -5,7 +5,7 @@ ghost use Rattle.laws.specs.Residue.{modZ};
 ghost use Rattle.table.specs.Search.{weightOf, homeOf};
 use lattice::Point;
 
-// 7919a + 104729b + m: over 32 bits for most vertices.
+// 7919a + 104729b + m: from depth 4 on it can be over 32 bits.
 fn weight(a: i32, b: i32, m: u8) -> i64
     ensures { λ r. ⌜ r ≡ weightOf a b m ⌝ }
 {

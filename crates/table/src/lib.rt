@@ -1,6 +1,6 @@
 // The table in memory: document 01, "Table in memory", over lent bytes.
 //
-// A caller asks `slots_of` once for the number of slots, or `in_order` for all that the document asks of a table, and hands the number on.
+// A caller asks `in_order` whether the bytes are a table in order, and `slots_of` once for the number of slots, which it hands on.
 // `find`, `look_up` and `look_up_request` read, `enter`, `replace`, `write_slot` and `clear` write, `read_slot` and `free_slots` go through the slots.
 // The promises cite specs/: Slots, Search, Order, Entries. What follows from them, for whoever stands above, is specs/MapLaws.
 mod bytes;
