@@ -10,9 +10,9 @@ use native.Mathlib.Decide.{ℕ-discrete}
 use lib.Dec.{T, eqb}
 use Rattle.laws.specs.Bools.{and-left, and-right}
 use Rattle.laws.specs.Choices.{or-left, or-right}
-use Rattle.lattice.specs.SideLaws.{Dir}
+use Rattle.geometry.specs.SideLaws.{Dir}
 use Rattle.lattice.specs.Points.{classOf}
-use Rattle.lattice.specs.RankLaws.{ground-first, ground-base}
+use Rattle.geometry.specs.RankLaws.{ground-first, ground-base}
 use Rattle.lattice.specs.declared.points.Point.{Point}
 use Rattle.growth.specs.Normal.{Pt, rank, birth, move, back, fan, birth-lt, birth-par, out-rank, out-birth, in-rank}
 use Rattle.growth.specs.Sheets.{hexagonOf, inBase, insideBase}

@@ -19,9 +19,9 @@ use Rattle.lattice.specs.Points.{isNormal}
 use Rattle.lattice.specs.Records.{within, suitsOf, validOf}
 use Rattle.lattice.specs.Points.{classOf}
 use Rattle.lattice.specs.Ranks.{rankOf, birthOf, moveOf, parentOf}
-use Rattle.lattice.specs.RankLaws.{rank-between}
-use Rattle.lattice.specs.SideLaws.{Dir, turn6}
-use Rattle.lattice.specs.SubdivisionLaws.{six-place}
+use Rattle.geometry.specs.RankLaws.{rank-between}
+use Rattle.geometry.specs.SideLaws.{Dir, turn6}
+use Rattle.geometry.specs.SubdivisionLaws.{six-place}
 use Rattle.lattice.specs.RecordLaws.{inner}
 use Rattle.lattice.specs.declared.points.Point.{Point}
 use Rattle.lattice.specs.declared.records.Record.{Record}

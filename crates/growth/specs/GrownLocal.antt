@@ -18,7 +18,7 @@ use Rattle.lattice.specs.Points.{isNormal}
 use Rattle.lattice.specs.Stars.{adjacentAt}
 use Rattle.lattice.specs.Points.{classOf}
 use Rattle.lattice.specs.Ranks.{rankOf, birthOf, moveOf, parentOf}
-use Rattle.lattice.specs.RankLaws.{rank-between}
+use Rattle.geometry.specs.RankLaws.{rank-between}
 use Rattle.lattice.specs.declared.points.Point.{Point}
 use Rattle.lattice.specs.declared.records.Record.{Record}
 use Rattle.growth.specs.Sheets.{Sheet, vertex, hexagonOf, inBase, insideBase}

@@ -18,9 +18,9 @@ use Rattle.lattice.specs.Patterns.{orient}
 use Rattle.lattice.specs.Stars.{adjacentAt}
 use Rattle.lattice.specs.Records.{validOf, suitsOf}
 use Rattle.lattice.specs.Points.{classOf}
-use Rattle.lattice.specs.RankLaws.{one}
+use Rattle.geometry.specs.RankLaws.{one}
 use Rattle.lattice.specs.Subdivision.{centreOf, newOf, backOf, fourTurn, updateOf}
-use Rattle.lattice.specs.SubdivisionLaws.{Sited, sited, valid-made, centre-valid, update-valid, new-valid}
+use Rattle.geometry.specs.SubdivisionLaws.{Sited, sited, valid-made, centre-valid, update-valid, new-valid}
 use Rattle.lattice.specs.declared.points.Point.{Point}
 use Rattle.lattice.specs.declared.records.Record.{Record}
 use Rattle.growth.specs.Sheets.{Sheet, vertex, Whole, Step, hexagonOf, inBase, insideBase, baseVertex, baseOf, isCentre, Base, Grown, start, grow}

@@ -17,7 +17,7 @@ use Rattle.laws.specs.Bools.{and-left, and-right, and-both}
 use Rattle.lattice.specs.Records.{validOf}
 use Rattle.lattice.specs.Stars.{adjacentAt}
 use Rattle.lattice.specs.Subdivision.{newOf}
-use Rattle.lattice.specs.SubdivisionLaws.{new-depth}
+use Rattle.geometry.specs.SubdivisionLaws.{new-depth}
 use Rattle.lattice.specs.declared.points.Point.{Point}
 use Rattle.lattice.specs.declared.records.Record.{Record}
 use Rattle.growth.specs.Sheets.{Sheet, vertex, Whole, Step, Grown}

@@ -19,9 +19,9 @@ use Rattle.laws.specs.Thirds.{three-below}
 use Rattle.lattice.specs.Points.{isNormal}
 use Rattle.lattice.specs.Points.{classOf}
 use Rattle.lattice.specs.Ranks.{moveOf}
-use Rattle.lattice.specs.GeometryLaws.{move-back}
-use Rattle.lattice.specs.SideLaws.{Dir}
-use Rattle.lattice.specs.RankLaws.{class-own, step-c, step-depth, even-row, one}
+use Rattle.geometry.specs.GeometryLaws.{move-back}
+use Rattle.geometry.specs.SideLaws.{Dir}
+use Rattle.geometry.specs.RankLaws.{class-own, step-c, step-depth, even-row, one}
 use Rattle.lattice.specs.declared.points.Point.{Point}
 use Rattle.growth.specs.Sheets.{hexagonOf, inBase, insideBase}
 

@@ -12,7 +12,7 @@ use Rattle.laws.specs.Bools.{and-left}
 use Rattle.laws.specs.Choices.{is-true, of-true, when-true, when-false}
 use Rattle.lattice.specs.Points.{isNormal}
 use Rattle.lattice.specs.Ranks.{rankOf, birthOf, parentOf}
-use Rattle.lattice.specs.RankLaws.{rank-between}
+use Rattle.geometry.specs.RankLaws.{rank-between}
 use Rattle.lattice.specs.declared.points.Point.{Point}
 use Rattle.lattice.specs.declared.records.Record.{Record}
 use Rattle.growth.specs.Sheets.{vertex, inBase}

@@ -23,9 +23,9 @@ use Rattle.lattice.specs.Patterns.{orient}
 use Rattle.lattice.specs.RecordLaws.{inner}
 use Rattle.lattice.specs.Points.{classOf}
 use Rattle.lattice.specs.Ranks.{rankOf, moveOf, parentOf}
-use Rattle.lattice.specs.RankLaws.{times-one, sum-a, sum-b, one}
-use Rattle.lattice.specs.SideLaws.{Dir}
-use Rattle.lattice.specs.SubdivisionLaws.{Sited, sited}
+use Rattle.geometry.specs.RankLaws.{times-one, sum-a, sum-b, one}
+use Rattle.geometry.specs.SideLaws.{Dir}
+use Rattle.geometry.specs.SubdivisionLaws.{Sited, sited}
 use Rattle.lattice.specs.declared.points.Point.{Point}
 use Rattle.lattice.specs.declared.records.Record.{Record}
 use Rattle.growth.specs.Sheets.{Sheet, hexagonOf, isCentre, listed, Base}

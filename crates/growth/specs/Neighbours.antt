@@ -16,8 +16,8 @@ use Rattle.lattice.specs.Records.{orientationsOf, validOf}
 use Rattle.lattice.specs.RecordLaws.{Inner, inner}
 use Rattle.laws.specs.Choices.{is-true, of-true}
 use Rattle.lattice.specs.Stars.{adjacentAt}
-use Rattle.lattice.specs.SideLaws.{Dir, turn2, turn10}
-use Rattle.lattice.specs.StarSteps.{turnOf, downOf, star-step}
+use Rattle.geometry.specs.SideLaws.{Dir, turn2, turn10}
+use Rattle.geometry.specs.StarSteps.{turnOf, downOf, star-step}
 use Rattle.lattice.specs.declared.points.Point.{Point}
 use Rattle.lattice.specs.declared.records.Record.{Record}
 use Rattle.growth.specs.Sheets.{inBase}

@@ -12,13 +12,13 @@ use Rattle.laws.specs.Choices.{is-true, is-false, of-true}
 use Rattle.lattice.specs.PointLaws.{alike, alike-eq}
 use Rattle.lattice.specs.Points.{isNormal}
 use Rattle.lattice.specs.Ranks.{rankOf, birthOf, moveOf}
-use Rattle.lattice.specs.GeometryLaws.{move-back, move-inj}
-use Rattle.lattice.specs.SideLaws.{Dir, vector}
-use Rattle.lattice.specs.SubdivisionLaws.{sum-normal}
-use Rattle.lattice.specs.RankLaws.{birth-below, birth-parity}
+use Rattle.geometry.specs.GeometryLaws.{move-back, move-inj}
+use Rattle.geometry.specs.SideLaws.{Dir, vector}
+use Rattle.geometry.specs.SubdivisionLaws.{sum-normal}
+use Rattle.geometry.specs.RankLaws.{birth-below, birth-parity}
 use Rattle.lattice.specs.declared.points.Point.{Point}
-use Rattle.lattice.specs.SideLaws as Side
-use Rattle.lattice.specs.RankSteps as Rank
+use Rattle.geometry.specs.SideLaws as Side
+use Rattle.geometry.specs.RankSteps as Rank
 
 pub record Pt : Type 0 where
   pub at : Point

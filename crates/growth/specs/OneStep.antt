@@ -12,7 +12,7 @@ use Prim.Native.Nat.{ℕ, zero, suc, _+_, _*_, _%_, _/_, _≤_, _<_}
 use native.Mathlib.Omega.{arith}
 use native.Mathlib.Decide.{ℕ-discrete}
 use Rattle.laws.specs.Choices.{is-true, of-true}
-use Rattle.lattice.specs.SideLaws.{Dir, turn1, turn6, turn11}
+use Rattle.geometry.specs.SideLaws.{Dir, turn1, turn6, turn11}
 use Rattle.lattice.specs.Subdivision.{updateOf, acceptsOf}
 use Rattle.lattice.specs.declared.points.Point.{Point}
 use Rattle.lattice.specs.declared.records.Record.{Record}

@@ -10,7 +10,7 @@ use Prim.Native.Nat.{ℕ, zero, suc, _+_, _*_, _%_, _/_, _≤_, _<_}
 use native.Mathlib.Omega.{arith}
 use lib.Dec.{ltb}
 use borrow.Author.Tests.{ltb-true, lt-ltb}
-use Rattle.lattice.specs.SideLaws.{Dir, turn1, turn6, turn11}
+use Rattle.geometry.specs.SideLaws.{Dir, turn1, turn6, turn11}
 use Rattle.growth.specs.Normal.{Pt, rank, birth, move, back, inj, side-l, side-r, birth-lt, birth-par, out-rank, out-birth, in-rank, creator}
 use Rattle.growth.specs.Directions.{thirds, third-of, mod-12-4, below3, mod4, plus4, plus8}
 

@@ -13,8 +13,8 @@ use Rattle.laws.specs.Choices.{is-true, of-true}
 use Rattle.lattice.specs.Points.{isNormal}
 use Rattle.lattice.specs.Stars.{adjacentAt}
 use Rattle.lattice.specs.Ranks.{moveOf, rankOf}
-use Rattle.lattice.specs.GeometryLaws.{six-adjacent}
-use Rattle.lattice.specs.SideLaws.{Dir}
+use Rattle.geometry.specs.GeometryLaws.{six-adjacent}
+use Rattle.geometry.specs.SideLaws.{Dir}
 use Rattle.lattice.specs.Subdivision.{centreOf, newOf, backOf, updateOf, acceptsOf}
 use Rattle.lattice.specs.declared.points.Point.{Point}
 use Rattle.lattice.specs.declared.records.Record.{Record}

@@ -15,9 +15,3 @@ pub mod PatternLaws
 pub mod StarLaws
 pub mod Places
 pub mod RankBounds
-pub mod GeometryLaws
-pub mod SideLaws
-pub mod SubdivisionLaws
-pub mod RankLaws
-pub mod RankSteps
-pub mod StarSteps

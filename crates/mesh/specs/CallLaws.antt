@@ -18,7 +18,7 @@ use Rattle.laws.specs.Machine.{held}
 use Rattle.lattice.specs.Patterns.{six}
 use Rattle.lattice.specs.Subdivision.{centreOf, newOf}
 use Rattle.lattice.specs.Records.{validOf}
-use Rattle.lattice.specs.SubdivisionLaws.{centre-valid}
+use Rattle.geometry.specs.SubdivisionLaws.{centre-valid}
 use Rattle.lattice.specs.RecordLaws.{Inner, inner, valid-level}
 use Rattle.lattice.specs.Points.{normalOf}
 use Rattle.table.specs.OrderLaws.{test-order}

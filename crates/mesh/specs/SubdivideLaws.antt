@@ -14,9 +14,9 @@ use lib.Dec.{eqb, T}
 use Rattle.laws.specs.Each.{not-both, and-false}
 use Rattle.lattice.specs.Stars.{adjacentAt}
 use Rattle.lattice.specs.Subdivision.{centreOf, newOf, backOf, fourTurn, updateOf, acceptsOf}
-use Rattle.lattice.specs.GeometryLaws.{star-distinct}
+use Rattle.geometry.specs.GeometryLaws.{star-distinct}
 use Rattle.lattice.specs.Records.{validOf}
-use Rattle.lattice.specs.SubdivisionLaws.{Sited, sited, centre-valid, update-valid, new-valid}
+use Rattle.geometry.specs.SubdivisionLaws.{Sited, sited, centre-valid, update-valid, new-valid}
 use Rattle.table.specs.Entries.{lookUp, replaceOf, enterOf}
 use Rattle.table.specs.MapLaws.{room, lookup-point, lookup-valid, replace-order, replace-finds, replace-keeps, replace-free, enter-order, enter-finds, enter-keeps, enter-free}
 use Rattle.table.specs.Order.{InOrder}

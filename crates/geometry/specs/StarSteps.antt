@@ -11,15 +11,15 @@ use lib.IntN.{ℤ, pos}
 use lib.ListN.{getD}
 use Rattle.laws.specs.Rules.{Test, _≡?_, _≤?_, _≡ᶻ?_, _&_, _⇒_, Means, run, upto, upto-at, rule2}
 use Rattle.laws.specs.Parts.{up}
 use Rattle.lattice.specs.Points.{pt, lift}
 use Rattle.lattice.specs.Places.{wide, high}
 use Rattle.lattice.specs.Patterns.{orient, three, four, five, six, rowsOf, patternOf, adjacentOf}
 use Rattle.lattice.specs.PatternLaws.{orient-depth, adjacent-close}
 use Rattle.lattice.specs.Stars.{scaleOf, adjacentAt}
 use Rattle.lattice.specs.Ranks.{moveOf, level}
-use Rattle.lattice.specs.GeometryLaws.{sum-same, scale-lift}
+use Rattle.geometry.specs.GeometryLaws.{sum-same, scale-lift}
 use Rattle.lattice.specs.declared.points.Point.{Point}
 use Rattle.lattice.specs.declared.records.Record.{Record}
 
 -- the directions of a star's adjacents, counted from its orientation, and how many levels down their steps are
 unfoldable pub turnOf : ℕ → ℕ → ℕ

@@ -18,17 +18,17 @@ use Rattle.laws.specs.Choices.{or-split, or-right, apart}
 use Rattle.laws.specs.Bools.{and-left, and-right, and-both}
 use Rattle.laws.specs.Linear.{same, told-≡, ‵, _⊕_, _⊗_}
 use Rattle.laws.specs.Sizes.{abs-add, abs-mul}
 use Rattle.lattice.specs.Points.{by3, isNormal, lift, sumOf}
 use Rattle.lattice.specs.Places.{wide, high, sum-wide, sum-high, sum-depth, normal-low, pow-over}
 use Rattle.lattice.specs.Records.{within, orientationsOf, sameParity, suitsOf, validOf}
 use Rattle.lattice.specs.RecordLaws.{Inner, inner}
 use Rattle.lattice.specs.Stars.{adjacentAt}
 use Rattle.lattice.specs.Ranks.{moveOf}
 use Rattle.lattice.specs.Subdivision.{centreOf, newOf, fourTurn, updateOf, hasRule, acceptsOf}
-use Rattle.lattice.specs.GeometryLaws.{six-adjacent}
-use Rattle.lattice.specs.SideLaws.{Dir, turn1, turn11, vector, vector-depth, next-deep, middle-wide, middle-high}
+use Rattle.geometry.specs.GeometryLaws.{six-adjacent}
+use Rattle.geometry.specs.SideLaws.{Dir, turn1, turn11, vector, vector-depth, next-deep, middle-wide, middle-high}
 use Rattle.lattice.specs.declared.points.Point.{Point}
 use Rattle.lattice.specs.declared.records.Record.{Record}
 
 -- ---- what validity says
 -- a point that a valid record can have

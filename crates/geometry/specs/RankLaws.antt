@@ -15,15 +15,15 @@ use Rattle.laws.specs.Linear.{same, ‵, _⊕_, _⊝_, _⊗_}
 use Rattle.laws.specs.Residue.{modZ}
 use Rattle.laws.specs.Rules.{_≡?_, _&_, _⇒_, rule}
 use Rattle.laws.specs.Thirds.{three-below, three-add, three-minus, nine-add, zero-three, three-power}
 use Rattle.lattice.specs.Points.{pt, by3, isNormal, lift}
 use Rattle.lattice.specs.Places.{wide, high, sum-wide, sum-high, sum-depth}
 use Rattle.lattice.specs.Patterns.{orient}
 use Rattle.lattice.specs.PatternLaws.{orient-depth}
 use Rattle.lattice.specs.Points.{classOf}
 use Rattle.lattice.specs.Ranks.{rankOf, birthOf, moveOf}
-use Rattle.lattice.specs.GeometryLaws.{low-normal}
-use Rattle.lattice.specs.SideLaws.{Dir, vector}
+use Rattle.geometry.specs.GeometryLaws.{low-normal}
+use Rattle.geometry.specs.SideLaws.{Dir, vector}
 use Rattle.lattice.specs.declared.points.Point.{Point}
 
 -- ---- what a point leaves at depth D
 abbrev pub ra : ℕ → Point → ℕ

@@ -11,14 +11,14 @@ use native.Mathlib.Nat.{mul-comm}
 use Rattle.laws.specs.Rules.{Test, _≡?_, _≡ᶻ?_, _&_, _⇒_, rule2, rule}
 use Rattle.laws.specs.Multiples.{mul-mul, add-times}
 use Rattle.laws.specs.Parts.{up}
 use Rattle.lattice.specs.Points.{pt, lift}
 use Rattle.lattice.specs.Places.{wide, high, lift-lift}
 use Rattle.lattice.specs.Patterns.{orient}
 use Rattle.lattice.specs.PatternLaws.{orient-depth}
 use Rattle.lattice.specs.Stars.{scaleOf}
 use Rattle.lattice.specs.Ranks.{moveOf, level}
-use Rattle.lattice.specs.GeometryLaws.{sum-sum, scale-lift}
+use Rattle.geometry.specs.GeometryLaws.{sum-sum, scale-lift}
 use Rattle.lattice.specs.declared.points.Point.{Point}
 
 -- a direction of level i
 abbrev pub Dir : ℕ → ℕ → Type 0

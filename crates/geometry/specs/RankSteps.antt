@@ -15,15 +15,15 @@ use Rattle.laws.specs.Residue.{modZ}
 use Rattle.laws.specs.Linear.{same, ‵, _⊝_, _⊗_}
 use Rattle.laws.specs.Rules.{Test, _≡?_, _≤?_, _&_, _⇒_, run, upto, upto-at, rule2}
 use Rattle.laws.specs.Thirds.{three-below, three-minus, nine-three, nine-below, nine-thrice}
 use Rattle.lattice.specs.Points.{isNormal, lift}
 use Rattle.lattice.specs.Places.{wide, high, lift-lift}
 use Rattle.lattice.specs.Patterns.{orient}
 use Rattle.lattice.specs.Points.{classOf}
 use Rattle.lattice.specs.Ranks.{rankOf, birthOf, moveOf}
-use Rattle.lattice.specs.SideLaws.{Dir, vector}
-use Rattle.lattice.specs.SubdivisionLaws.{sum-normal}
+use Rattle.geometry.specs.SideLaws.{Dir, vector}
+use Rattle.geometry.specs.SubdivisionLaws.{sum-normal}
 use Rattle.lattice.specs.declared.points.Point.{Point}
-use Rattle.lattice.specs.RankLaws.{ra, rb, rc, rank-between, birth-parity, LevelKind, ground, uneven, paired, level-kind, deepOf, zeros, class-own, step-a, step-b, step-c, step-9, step-depth, even-row, odd-row, one, ground-in, ground-out, ground-first, ground-base, uneven-in, uneven-out, uneven-low, uneven-born, uneven-class, paired-in, paired-out, paired-low, paired-born}
+use Rattle.geometry.specs.RankLaws.{ra, rb, rc, rank-between, birth-parity, LevelKind, ground, uneven, paired, level-kind, deepOf, zeros, class-own, step-a, step-b, step-c, step-9, step-depth, even-row, odd-row, one, ground-in, ground-out, ground-first, ground-base, uneven-in, uneven-out, uneven-low, uneven-born, uneven-class, paired-in, paired-out, paired-low, paired-born}
 
 -- ---- from a point of rank at most i, a step of level i
 module _ (q : Point) (e i : ℕ) (t : T (isNormal q)) (d : Dir e i) (l : rankOf q ≤ i) where
