@@ -1,0 +1,24 @@
+-- A table as the model sees it: what looking points up answers. `sheetOf` · `passesAll` every record of a table passes the local test.
+-- Assumes nothing.
+use mathlib.Core.Bool.{Bool}
+use mathlib.Core.List.{List}
+use mathlib.Core.Option.{Option, none, some}
+use Prim.Native.Nat.{ℕ}
+use Rattle.growth.specs.Sheets.{Sheet}
+use Rattle.growth.specs.Growth.{grownTest}
+use Rattle.table.specs.Entries.{lookUp, recordsOf}
+use Rattle.lattice.specs.declared.records.Record.{Record}
+use Rattle.table.specs.declared.entries.Looked.{Looked}
+use Rattle.table.specs.declared.entries.Looked.the-variants.{Absent, Held}
+
+abbrev pub asOption : Looked → Option Record
+asOption Absent = none
+asOption (Held r) = some r
+
+-- the record at each point of a table
+abbrev pub sheetOf : List ℕ → Sheet
+sheetOf t p = asOption (lookUp t p)
+
+-- there is a record, and each passes
+unfoldable pub passesAll : List ℕ → Bool
+passesAll t = grownTest (sheetOf t) (recordsOf t)

@@ -1,0 +1,1 @@
+// The readers of files: document 01, "Files".
