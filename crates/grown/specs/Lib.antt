@@ -1,1 +1,3 @@
 pub mod Grown
+-- the tables that document 01's calls make are the model's
+pub mod Bases
