@@ -3,9 +3,9 @@
 -- Assumes nothing.
 use mathlib.Core.Path.{_≡_, refl, sym, _∙_, ap, subst}
 use mathlib.Core.Logic.{_⊎_, inl, inr}
-use mathlib.Core.Bool.{Bool, true, false, cond, _&&_, not, _||_}
+use mathlib.Core.Bool.{Bool, true, false, cond, not, _||_}
 use mathlib.Core.List.{List, [], _∷_, List·Memᴰ, List·Memᴰ·head, List·Memᴰ·tail, List·Memᴰ·not-nil, List·Memᴰ·cases-cons}
-use Prim.Native.Nat.{ℕ, zero, suc, _+_, _*_, _/_, _%_, _<_}
+use Prim.Native.Nat.{ℕ, zero, suc, _+_, _*_, _%_, _<_}
 use native.Mathlib.Omega.{arith}
 use borrow.Author.Tests.{eq-eqb, ne-eqb, eqb-true}
 use lib.Dec.{T, eqb}
@@ -25,7 +25,7 @@ use Rattle.base.specs.MarkLaws.{listed-at, listed-is}
 
 -- ---- without the repeats
 
-unfoldable pub once : List Point → List Point
+once : List Point → List Point
 once [] = []
 once (c ∷ cs) = cond (listed cs c) (once cs) (c ∷ once cs)
 
@@ -88,7 +88,7 @@ once-is (c ∷ cs) = go (listed cs c) refl (once-is cs)
 
 -- ---- points as numbers
 
-unfoldable pub numbers : List Point → List ℤ
+numbers : List Point → List ℤ
 numbers [] = []
 numbers (c ∷ cs) = c .a ∷ c .b ∷ numbers cs
 

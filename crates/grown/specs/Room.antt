@@ -2,16 +2,16 @@
 -- `Among` a point of the list · `count` how many of its records have a point that passes a test · `count-all`, `count-less`, `count-more` · `fresh` how many of some points are new, `count-fresh` they
 -- are counted, `all-fresh` all are new · `count-base` the points of a base's hexagons · `Within`, `count-step` a subdivision has six more.
 -- Assumes nothing.
-use mathlib.Core.Path.{_≡_, refl, sym, _∙_, ap, subst}
+use mathlib.Core.Path.{_≡_, refl, sym, _∙_, ap}
 use mathlib.Core.Logic.{_⊎_, inl, inr}
 use mathlib.Core.Bool.{Bool, true, false, cond, _||_}
-use mathlib.Core.Option.{Option, none, some}
+use mathlib.Core.Option.{none, some}
 use mathlib.Core.List.{List, [], _∷_, List·Memᴰ, List·Memᴰ·not-nil, List·Memᴰ·cases-cons}
 use Prim.Native.Nat.{ℕ, zero, suc, _+_, _≤_, _<_}
 use native.Mathlib.Omega.{arith}
 use lib.IntN.{ℤ}
 use lib.ListN.{length}
-use Rattle.laws.specs.Each.{not-both, among-at}
+use Rattle.laws.specs.Each.{not-both, among-at, at-among}
 use Rattle.laws.specs.Rules.{among}
 use Rattle.laws.specs.Choices.{is-true, of-true}
 use Rattle.lattice.specs.Stars.{adjacentAt}
@@ -59,6 +59,10 @@ count-less (r ∷ rs) P Q h = let a = one (P (r .at)) (Q (r .at)) (h (r .at)) in
     one true false f = absurd (not-both (f refl) refl)
     one false b f = omega arith
 
+or-after : (a b : Bool) → b ≡ true → a || b ≡ true
+or-after true b h = refl
+or-after false b h = h
+
 -- one point more, which the list has
 pub count-more : (rs : List Record) (P : Point → Bool) (x : Point) → Among rs x → P x ≡ false → count rs P + 1 ≤ count rs (λ p. samePoint x p || P p)
 unfolding count
@@ -70,20 +74,13 @@ count-more (r ∷ rs) P x a f = go (List·Memᴰ·cases-cons (a .1)) (λ m. coun
     more true false = omega arith
     more false b = omega arith
 
-    kept : (p : Point) → P p ≡ true → samePoint x p || P p ≡ true
-    kept p h = rest (samePoint x p)
-      where
-        rest : (s : Bool) → s || P p ≡ true
-        rest true = refl
-        rest false = h
-
     go : (a .0 ≡ r) ⊎ List·Memᴰ (a .0) rs → (List·Memᴰ (a .0) rs → count rs P + 1 ≤ count rs (λ p. samePoint x p || P p))
         → cond (P (r .at)) 1 0 + count rs P + 1 ≤ cond (samePoint x (r .at) || P (r .at)) 1 0 + count rs (λ p. samePoint x p || P p)
     go (inl e) ih =
         let q : r .at ≡ x = ap (λ (u : Record). u .at) (sym e) ∙ a .2 in
         let zero : _≡_ {A = ℕ} (cond (P (r .at)) 1 0) 0 = ap (λ (b : Bool). cond b 1 0) (ap P q ∙ f) in
         let one : _≡_ {A = ℕ} (cond (samePoint x (r .at) || P (r .at)) 1 0) 1 = ap (λ (b : Bool). cond (b || P (r .at)) 1 0) (ap (samePoint x) q ∙ same-refl x) in
-        let l = count-less rs P (λ p. samePoint x p || P p) kept in
+        let l = count-less rs P (λ p. samePoint x p || P p) (λ p. or-after (samePoint x p) (P p)) in
         omega arith
     go (inr m) ih = let l = ih m in let k = more (samePoint x (r .at)) (P (r .at)) in omega arith
 
@@ -97,6 +94,9 @@ fresh f P (suc k) = fresh f P k + cond (among k (λ i. samePoint (f i) (f k)) ||
 -- p passes, or is one of the first k
 abbrev pub joined : (ℕ → Point) → ℕ → (Point → Bool) → Point → Bool
 joined f k P p = among k (λ i. samePoint (f i) p) || P p
+
+joined-at : (f : ℕ → Point) (P : Point → Bool) (k j : ℕ) → j < k → joined f k P (f j) ≡ true
+joined-at f P k j l = ap (λ (b : Bool). b || P (f j)) (at-among (λ i. samePoint (f i) (f j)) k j l (same-refl (f j)))
 
 or-left-more : (a b c : Bool) → b || c ≡ true → (a || b) || c ≡ true
 or-left-more true b c h = refl
@@ -142,20 +142,22 @@ unfolding newPoints fresh inHexagon
 new-fresh laid c zero = refl
 new-fresh laid c (suc k) = ap (λ (n : ℕ). n + cond (joined (hexagonPoint c) k laid (hexagonPoint c k)) 0 1) (new-fresh laid c k)
 
-first-more : (cs : List ℤ) (n : ℕ) (p : Point) → joined (hexagonPoint (centreAt cs n)) 7 (inFirst cs n) p ≡ true → inFirst cs (suc n) p ≡ true
+-- the points of the first n + 1 hexagons are those of the first n, and of one more
+first-more : (cs : List ℤ) (n : ℕ) (p : Point) → joined (hexagonPoint (centreAt cs n)) 7 (inFirst cs n) p ≡ inFirst cs (suc n) p
 unfolding inFirst inHexagon
-first-more cs n p h = h
+first-more cs n p = refl
 
 -- the different points of the first n hexagons, where the list has them all
-pub count-base : (rs : List Record) (cs : List ℤ) (n : ℕ) → ((i k : ℕ) → i < n → k < 7 → Among rs (hexagonPoint (centreAt cs i) k)) → pointsIn cs n ≤ count rs (inFirst cs n)
+pub count-base : (rs : List Record) (cs : List ℤ) (n : ℕ) → ((p : Point) → inFirst cs n p ≡ true → Among rs p) → pointsIn cs n ≤ count rs (inFirst cs n)
 unfolding pointsIn
 count-base rs cs zero h = omega arith
 count-base rs cs (suc n) h =
     let c = centreAt cs n in
-    let a = count-base rs cs n (λ i k l. h i k (omega arith)) in
+    let more : (p : Point) → joined (hexagonPoint c) 7 (inFirst cs n) p ≡ true → inFirst cs (suc n) p ≡ true = λ p t. sym (first-more cs n p) ∙ t in
+    let a = count-base rs cs n (λ p t. h p (more p (or-after (among 7 (λ i. samePoint (hexagonPoint c i) p)) (inFirst cs n p) t))) in
     let b = new-fresh (inFirst cs n) c 7 in
-    let d = count-fresh rs (hexagonPoint c) (inFirst cs n) 7 (λ k l. h n k (omega arith) l) in
-    let e = count-less rs (joined (hexagonPoint c) 7 (inFirst cs n)) (inFirst cs (suc n)) (first-more cs n) in
+    let d = count-fresh rs (hexagonPoint c) (inFirst cs n) 7 (λ k l. h (hexagonPoint c k) (more (hexagonPoint c k) (joined-at (hexagonPoint c) (inFirst cs n) 7 k l))) in
+    let e = count-less rs (joined (hexagonPoint c) 7 (inFirst cs n)) (inFirst cs (suc n)) more in
     omega arith
 
 -- ---- the points of a sheet
