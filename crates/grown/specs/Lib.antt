@@ -3,3 +3,4 @@ pub mod Grown
 pub mod Bases
 pub mod Steps
 pub mod Tables
+pub mod Untorn
