@@ -3,4 +3,9 @@ pub mod Grown
 pub mod Bases
 pub mod Steps
 pub mod Tables
+-- and back: the calls make every grown sheet
+pub mod Room
+pub mod Lists
+pub mod Reach
+-- what is so on a grown table
 pub mod Untorn

@@ -1,6 +1,6 @@
--- On a grown table nothing is torn: a subdivision is refused by 3, 4, 5 and 8 alone, the neighbours query by 3 and 14 alone.
+-- On a grown table no subdivision and no neighbours query is torn: a subdivision is refused by 3, 4, 5 and 8 alone, the neighbours query by 3 and 14 alone.
 -- `End`, `subdivision-end` how a subdivision ends · `never-deep`, `never-torn` so 6 and 7 never come · `neighbours-given`, `neighbours-untorn` the query.
--- `base-grown`, `reached-grown` the tables that the calls make are grown · `divided-order`, `divided-sheet` what an accepted subdivision of a grown table leaves.
+-- `reached-grown`, `base-grown`, `divided-grown` the tables that the calls make are grown.
 -- Assumes nothing.
 use mathlib.Core.Path.{_≡_, refl, sym, _∙_, ap}
 use mathlib.Core.Logic.{_≢_}
@@ -37,6 +37,7 @@ use Rattle.queries.specs.Vertices.{vertexLooked, answerOf}
 use Rattle.queries.specs.declared.vertices.Vertex.the-variants.{Refused, Star}
 use Rattle.local.specs.Sheet.{asOption, sheetOf}
 use Rattle.grown.specs.Steps.{sheet-held, accepted, vertex-accepted, vertex-short}
+use Rattle.grown.specs.Reach.{sheet-reached}
 use Rattle.grown.specs.Tables.{reached-order, grown-sheet}
 use Rattle.growth.specs.Sheets as model
 
@@ -139,19 +140,16 @@ module _ (t : List ℕ) (g : Grown t) (a b : ℤ) (m : ℕ) where
   pub neighbours-untorn : neighboursOf t a b m .number ≢ 7
   neighbours-untorn = sheet-untorn t (g .order) (grown-sheet t g) a b m
 
-  -- ---- what an accepted subdivision leaves
-  module _ (z : subdivideOf t a b m .number ≡ 0) where
-    pub divided-order : InOrder (subdivideOf t a b m .bytes)
-    divided-order = accepted t a b m z .kept
-
-    pub divided-sheet : model.Grown (sheetOf (subdivideOf t a b m .bytes))
-    divided-sheet =
-        let s = accepted t a b m z in
-        grow (sheetOf t) (s .vertex) (sheetOf (subdivideOf t a b m .bytes)) (grown-sheet t g) (ap asOption (s .held)) (s .six) (s .below) (s .whole) (s .step)
-
--- ---- the tables that the calls make
+-- ---- the tables that the calls make are grown
 pub reached-grown : (t : List ℕ) → Reached t → Grown t
 reached-grown t r = record { order = reached-order t r; table = t; reached = r; same = λ p. refl }
 
 pub base-grown : (t : List ℕ) (cs : List ℤ) → baseOf t cs .number ≡ 0 → Grown (baseOf t cs .bytes)
 base-grown t cs z = reached-grown (baseOf t cs .bytes) (laid t cs z)
+
+-- whatever the room of the one that was subdivided
+pub divided-grown : (t : List ℕ) → Grown t → (a b : ℤ) (m : ℕ) → subdivideOf t a b m .number ≡ 0 → Grown (subdivideOf t a b m .bytes)
+divided-grown t g a b m z =
+    let s = accepted t a b m z in
+    let u = subdivideOf t a b m .bytes in
+    sheet-reached u (s .kept) (grow (sheetOf t) (s .vertex) (sheetOf u) (grown-sheet t g) (ap asOption (s .held)) (s .six) (s .below) (s .whole) (s .step))
