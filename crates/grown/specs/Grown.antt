@@ -14,7 +14,7 @@ use Rattle.table.specs.Order.{InOrder, inOrderOf}
 use Rattle.table.specs.MapLaws.{order-test, test-order}
 use Rattle.mesh.specs.Grown.{Grown}
 use Rattle.local.specs.Sheet.{passesAll}
-use Rattle.grown.specs.Tables.{test-sheet, grown-test′}
+use Rattle.grown.specs.Tables.{test-sheet, grown-checked}
 use Rattle.grown.specs.Reach.{sheet-reached}
 
 -- the local check holds exactly where a table in order is grown
@@ -28,7 +28,7 @@ grown? t = ordered (inOrderOf t) refl (passesAll t) refl
     ordered : (b : Bool) → inOrderOf t ≡ b → (p : Bool) → passesAll t ≡ p → Dec (Grown t)
     ordered false e p q = no (λ g. not-both (order-test t (g .order)) e)
     ordered true e true q = yes (passes-grown t (test-order t e) (true-fact (passesAll t) q))
-    ordered true e false q = no (λ g. not-both (fact-true (passesAll t) (grown-test′ t g)) q)
+    ordered true e false q = no (λ g. not-both (fact-true (passesAll t) (grown-checked t g)) q)
 
 abbrev pub told : {A : Type 0} → Dec A → Bool
 told (yes h) = true
@@ -55,7 +55,7 @@ grown-is t g = go (grown? t)
 
 pub grown-passes : (t : List ℕ) → InOrder t → isGrown t ≡ passesAll t
 grown-passes t o =
-    bool-is (isGrown t) (passesAll t) (λ h. grown-test′ t (is-grown t (fact-true (isGrown t) h))) (λ h. true-fact (isGrown t) (grown-is t (passes-grown t o h)))
+    bool-is (isGrown t) (passesAll t) (λ h. grown-checked t (is-grown t (fact-true (isGrown t) h))) (λ h. true-fact (isGrown t) (grown-is t (passes-grown t o h)))
 
 -- whatever the tables' room, and wherever their records stand
 pub grown-same : (t u : List ℕ) → InOrder u → ((p : Point) → lookUp u p ≡ lookUp t p) → Grown t → Grown u

@@ -8,3 +8,5 @@ pub mod Lists
 pub mod Reach
 -- so grown is decided
 pub mod Grown
+-- what is so on a grown table
+pub mod Untorn
