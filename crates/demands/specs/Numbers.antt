@@ -94,13 +94,13 @@ noRoom NoRoom = true
 
 pub base-number : (t : List ℕ) (cs : List ℤ)
     → baseOf t cs .number
-      ≡ firstOf (not (fitsLength (length t)) ⇒ 1 ∷ unpaired cs ⇒ 2 ∷ ltb (badPlace cs) (centresIn cs) ⇒ 2 ∷ noRoom (laidOf t cs) ⇒ 8 ∷ [])
+    ≡ firstOf (not (fitsLength (length t)) ⇒ 1 ∷ unpaired cs ⇒ 2 ∷ ltb (badPlace cs) (centresIn cs) ⇒ 2 ∷ noRoom (laidOf t cs) ⇒ 8 ∷ [])
 unfolding baseOf
 base-number t cs = go (fitsLength (length t)) (unpaired cs) (ltb (badPlace cs) (centresIn cs)) (laidOf t cs)
   where
     go : (f o b : Bool) (l : Laid)
         → cond f (cond o (laid.outcome 2 0 (clearedOf t)) (cond b (laid.outcome 2 (badPlace cs) (clearedOf t)) (fromLaid t l))) (laid.outcome 1 0 t) .number
-          ≡ firstOf (not f ⇒ 1 ∷ o ⇒ 2 ∷ b ⇒ 2 ∷ noRoom l ⇒ 8 ∷ [])
+        ≡ firstOf (not f ⇒ 1 ∷ o ⇒ 2 ∷ b ⇒ 2 ∷ noRoom l ⇒ 8 ∷ [])
     go false o b l = refl
     go true true b l = refl
     go true false true l = refl
@@ -125,7 +125,7 @@ subdivide-number t a b m = go (inOrderOf t) (lookUp t (normalOf a b m))
   where
     at : (v : Record) (six last deep t7 few : Bool)
         → cond six (cond last (divided.outcome 5 t) (cond deep (divided.outcome 6 t) (cond t7 (divided.outcome 7 t) (cond few (divided.outcome 8 t) (divided.outcome 0 (subdivided t v)))))) (divided.outcome 4 t) .number
-          ≡ firstOf (not six ⇒ 4 ∷ last ⇒ 5 ∷ deep ⇒ 6 ∷ t7 ⇒ 7 ∷ few ⇒ 8 ∷ [])
+        ≡ firstOf (not six ⇒ 4 ∷ last ⇒ 5 ∷ deep ⇒ 6 ∷ t7 ⇒ 7 ∷ few ⇒ 8 ∷ [])
     at v false last deep t7 few = refl
     at v true true deep t7 few = refl
     at v true false true t7 few = refl
