@@ -1,5 +1,11 @@
+-- every public call, and that its outcome is one
 pub mod Calls
+-- demand 1: the numbers, and the bytes of a refusal
 pub mod Numbers
+pub mod ReadNumbers
 pub mod Refused
+-- demand 2: one form of a point, the files
 pub mod Points
+pub mod Files
+-- the starred examples
 pub mod Starred

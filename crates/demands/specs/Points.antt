@@ -1,19 +1,20 @@
 -- Demand 2: "One point has one written form", however a request spells it.
 -- `one-form`, `form-one` two spellings normalise alike exactly where they are one point · `form-normal` the form is normalised · `subdivide-spelling`, `neighbours-spelling`, `faces-spelling` so no call tells them apart.
 -- Assumes nothing.
-use mathlib.Core.Path.{_≡_, sym, _∙_, ap}
+use mathlib.Core.Path.{_≡_, refl, sym, _∙_, ap}
+use mathlib.Core.Bool.{true, cond, _&&_, _||_, not}
 use mathlib.Core.List.{List}
-use Prim.Native.Nat.{ℕ, _+_, _-_, _≤_, _^_}
+use Prim.Native.Nat.{ℕ, zero, suc, _+_, _-_, _≤_, _^_}
 use native.Mathlib.Omega.{arith}
+use lib.Dec.{eqb}
 use lib.IntN.{ℤ, pos, _*ℤ_}
-use Rattle.lattice.specs.Points.{normalOf, lift}
+use Rattle.lattice.specs.Points.{normalOf, isNormal, by3, lift}
 use Rattle.lattice.specs.Places.{wide, high, Low, unique, normal-place, normal-low, normal-depth}
 use Rattle.lattice.specs.declared.points.Point.{Point}
 use Rattle.table.specs.Entries.{lookUp}
 use Rattle.mesh.specs.Subdivide.{subdivideOf, subdivideLooked}
 use Rattle.mesh.specs.Subdivide as divided
 use Rattle.table.specs.Order.{inOrderOf}
-use mathlib.Core.Bool.{cond}
 pub use Rattle.queries.specs.QueryLaws.{neighbours-spelling, faces-spelling}
 
 -- "A point [a, b, m] is (a + bw)/3^m": two spellings of one point
@@ -56,5 +57,12 @@ module _ (a b : ℤ) (m : ℕ) (a′ b′ : ℤ) (m′ : ℕ) where
   subdivide-spelling t e = ap (λ (p : Point). cond (inOrderOf t) (subdivideLooked t (lookUp t p)) (divided.outcome 1 t)) e
 
 -- "It is normalised when m = 0 or 3 fails to divide one of a, b."
-pub form-normal : (a b : ℤ) (m : ℕ) → Low (normalOf a b m)
-form-normal = normal-low
+pub form-normal : (a b : ℤ) (m : ℕ) → isNormal (normalOf a b m) ≡ true
+form-normal a b m = go (normalOf a b m) (normal-low a b m)
+  where
+    at : (p : Point) → Low p → (m : ℕ) → p .m .0 ≡ m → eqb m 0 || not (by3 (p .a) && by3 (p .b)) ≡ true
+    at p l zero e = refl
+    at p l (suc m) e = rw (l .low (omega arith)) refl
+
+    go : (p : Point) → Low p → isNormal p ≡ true
+    go p l = at p l (p .m .0) refl
