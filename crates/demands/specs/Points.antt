@@ -2,12 +2,15 @@
 -- `one-form`, `form-one` two spellings normalise alike exactly where they are one point · `form-normal` the form is normalised · `subdivide-spelling`, `neighbours-spelling`, `faces-spelling` so no call tells them apart.
 -- Assumes nothing.
 use mathlib.Core.Path.{_≡_, refl, sym, _∙_, ap}
-use mathlib.Core.Bool.{true, cond, _&&_, _||_, not}
+use mathlib.Core.Bool.{true, false, cond, _&&_, _||_, not}
 use mathlib.Core.List.{List}
-use Prim.Native.Nat.{ℕ, zero, suc, _+_, _-_, _≤_, _^_}
+use Prim.Native.Nat.{ℕ, _+_, _-_, _≤_, _<_, _^_}
 use native.Mathlib.Omega.{arith}
+use native.Mathlib.Decide.{decLt}
 use lib.Dec.{eqb}
 use lib.IntN.{ℤ, pos, _*ℤ_}
+use Rattle.laws.specs.Choices.{or-right}
+use Rattle.laws.specs.Each.{fact-true}
 use Rattle.lattice.specs.Points.{normalOf, isNormal, by3, lift}
 use Rattle.lattice.specs.Places.{wide, high, Low, unique, normal-place, normal-low, normal-depth}
 use Rattle.lattice.specs.declared.points.Point.{Point}
@@ -60,9 +63,12 @@ module _ (a b : ℤ) (m : ℕ) (a′ b′ : ℤ) (m′ : ℕ) where
 pub form-normal : (a b : ℤ) (m : ℕ) → isNormal (normalOf a b m) ≡ true
 form-normal a b m = go (normalOf a b m) (normal-low a b m)
   where
-    at : (p : Point) → Low p → (m : ℕ) → p .m .0 ≡ m → eqb m 0 || not (by3 (p .a) && by3 (p .b)) ≡ true
-    at p l zero e = refl
-    at p l (suc m) e = rw (l .low (omega arith)) refl
+    deep : (p : Point) → by3 (p .a) && by3 (p .b) ≡ false → isNormal p ≡ true
+    deep p h = fact-true (isNormal p) (or-right (eqb (p .m .0) 0) (not (by3 (p .a) && by3 (p .b))) (rw h tt))
 
     go : (p : Point) → Low p → isNormal p ≡ true
-    go p l = at p l (p .m .0) refl
+    go p l = at (decLt 0 (p .m .0))
+      where
+        at : Dec (0 < p .m .0) → isNormal p ≡ true
+        at (yes h) = deep p (l .low h)
+        at (no h) = let e : p .m .0 ≡ 0 = omega arith in rw e refl
