@@ -1,9 +1,9 @@
 -- What the floors above cite: the theorems on grown meshes, over sheets (specs/Sheets) and the model (specs/Model). docs/MODEL.md explains them; the other files of this crate prove them.
 --   M1  `grow-step`                              a subdivision of the mesh of H and c is the mesh of one more; it is never torn
 --   M2  `grown-closed`, `closed-grown`           grown is: the mesh of some H and c
---   M3  `grown-passes`, `passes-grown`           grown is: every record passes `localTest` (specs/Local), of which a list of records is judged by `grownTest`: `grown?`
+--   M3  `grown-passes`, `passes-grown`           grown is: every record passes `localTest` (specs/Local), of which a list of records (`Listed`) is judged by `grownTest`: `test-grown`, `grown-test`, `grown?`
 --   M4  `grown-adjacent`                         what a reduced file leaves out is restored
---   and `step-unique`, `grown-valid`, `grown-whole`, `grown-neighbours`, `grown-depth`, `order-free`.
+--   and `step-unique`, `grown-valid`, `grown-some`, `grown-alike`, `grown-whole`, `grown-neighbours`, `grown-depth`, `order-free`.
 -- Assumes nothing.
 use mathlib.Core.Path.{_≡_, refl, sym, _∙_, ap, subst, fun-ext}
 use mathlib.Core.Logic.{_≢_, _⊎_, inl, inr}
@@ -162,8 +162,30 @@ pub grown-depth : (v : Record) → T (validOf v) → v .d ≡ 6 → v .n .0 < 12
 grown-depth = new-depth
 
 -- ---- the order of two subdivisions does not matter
-pub order-free : (H : Point → Bool) (c : Counts) (p q x : Point) → recordOf H (more p (more q c)) x ≡ recordOf H (more q (more p c)) x
-order-free H c p q x = ap (λ (d : Counts). recordOf H d x) (fun-ext swap)
+-- v is subdivided, and R′ is the result
+pub record Made (R : Sheet) (v : Record) (R′ : Sheet) : Type 0 where
+  pub held : R (v .at) ≡ some v
+  pub six : v .d ≡ 6
+  pub step : Step R v R′
+
+-- the mesh of H and c becomes that of one more
+made-more : (H : Point → Bool) (c : Counts) → Good H c → (R : Sheet) (v : Record) (R′ : Sheet) → ((p : Point) → R p ≡ recordOf H c p) → Made R v R′
+    → ((p : Point) → R′ p ≡ recordOf H (more (v .at) c) p) × Good H (more (v .at) c)
+made-more H c good R v R′ e m =
+    let f : R ≡ recordOf H c = fun-ext e in
+    let (whole, step, better) = grow-step H c v good (sym (e (v .at)) ∙ m .held) (m .six) in
+    (step-unique (recordOf H c) v R′ (recordOf H (more (v .at) c)) whole (subst (λ (S : Sheet). Step S v R′) f (m .step)) step, better)
+
+-- where two vertices of a grown mesh can be subdivided in either order, both orders end alike
+pub order-free : (R A B A′ B′ : Sheet) (v w v′ w′ : Record) → Grown R → Made R v A → Made A w B → Made R w′ A′ → Made A′ v′ B′ → v .at ≡ v′ .at → w .at ≡ w′ .at → (p : Point) → B p ≡ B′ p
+order-free R A B A′ B′ v w v′ w′ g m n m′ n′ ev ew p =
+    let z = grown-closed R g in
+    let (a, ga) = made-more (z .H) (z .c) (z .good) R v A (z .is) m in
+    let (b, gb) = made-more (z .H) (more (v .at) (z .c)) ga A w B a n in
+    let (a′, ga′) = made-more (z .H) (z .c) (z .good) R w′ A′ (z .is) m′ in
+    let (b′, gb′) = made-more (z .H) (more (w′ .at) (z .c)) ga′ A′ v′ B′ a′ n′ in
+    let swapped : more (w .at) (more (v .at) (z .c)) ≡ more (v′ .at) (more (w′ .at) (z .c)) = fun-ext (λ y. swap (z .c) y) in
+    b p ∙ ap (λ (d : Counts). recordOf (z .H) d p) swapped ∙ sym (b′ p)
   where
-    swap : (y : Point) → more p (more q c) y ≡ more q (more p c) y
-    swap y = unfold more in omega arith
+    swap : (c : Counts) (y : Point) → more (w .at) (more (v .at) c) y ≡ more (v′ .at) (more (w′ .at) c) y
+    swap c y = rw (ev, ew) (unfold more in omega arith)

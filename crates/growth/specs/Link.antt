@@ -1,5 +1,5 @@
 -- A private device: the model (specs/Model), at a normalised point, is the closed form that the proofs compute with (specs/Closed); at any other point there is no record.
--- `record-is`, `full-is`, `record-none` · `good-in`, `good-out` the two ways to say that counts are good · `more-is` one more subdivision.
+-- `record-is`, `full-is`, `record-none` · `good-in` counts that are good, in the closed form · `more-is` one more subdivision.
 -- Assumes nothing.
 use mathlib.Core.Path.{_≡_, refl, sym, _∙_, ap}
 use mathlib.Core.Bool.{Bool, true, false, cond, _&&_, true≢false}

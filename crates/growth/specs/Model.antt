@@ -19,7 +19,7 @@ use Rattle.growth.specs.Sheets.{Sheet, vertex, inBase, insideBase}
 abbrev pub Counts : Type 0
 Counts = Point → ℕ
 
--- "q was subdivided at level i": rank q <= i < rank q + c q, of which the lower half is asked for where it is used
+-- "q was subdivided at level i": rank q <= i < rank q + c q: the lower half always holds where it is asked (`par-rank`, `creator-rank` in Parents)
 unfoldable pub subdivided : Counts → Point → ℕ → Bool
 subdivided c q i = ltb i (rankOf q + c q)
 

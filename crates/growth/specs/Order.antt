@@ -1,7 +1,7 @@
 -- A finite set of subdivisions that is good can be done in order: what has the highest level comes last.
 -- For if q has the highest level of all that has been subdivided, then without q's last subdivision everything else still has degree 6: degree 6 asks for subdivisions at levels below a rank, and
 -- the rank of what has been subdivided lies below q's level (`less-good`). So take q's last subdivision off and go on with the rest (`order`).
--- `cnt` the counts of a list of subdivisions · `Seq` a list that can be done, the last first · `seq-good`, `seq-low` · `order` · `support` counts of finite support are a list's.
+-- `cnt` the counts of a list of subdivisions · `Seq` a list that can be done, the last first · `seq-good` · `order` · `support` counts of finite support are a list's.
 -- Assumes nothing.
 use mathlib.Core.Path.{_≡_, refl, sym, _∙_, ap, fun-ext}
 use mathlib.Core.Logic.{_⊎_, inl, inr}

@@ -68,7 +68,7 @@ abbrev pub listed : List Point → Point → Bool
 listed [] p = false
 listed (c ∷ cs) p = run (alike c p) || listed cs p
 
--- "A base is a list of centres": a set of centres that is listed, none of them out of range, and at least one
+-- "A base is a list of centres", as a set, so that a centre may stand in it twice: a set of centres that is listed, none of them out of range, and at least one
 pub record Base (H : Point → Bool) : Type 0 where
   pub list : List Point
   pub lists : (p : Point) → H p ≡ listed list p
@@ -76,6 +76,7 @@ pub record Base (H : Point → Bool) : Type 0 where
   pub some-centre : (p : Point) × T (H p)
 
 -- ---- "A mesh is grown if its records result from a base and a sequence of subdivisions accepted in a table of room enough."
+-- ("room enough" asks nothing of a sheet, and number 6 never comes: `grown-depth`)
 pub data Grown : Sheet → Type 0 where
   start : (H : Point → Bool) (R : Sheet) → Base H → ((p : Point) → R p ≡ baseOf H p) → Grown R
   grow : (R : Sheet) (v : Record) (R′ : Sheet) → Grown R → R (v .at) ≡ some v → v .d ≡ 6 → v .n .0 < 12 → Whole R v → Step R v R′ → Grown R′

@@ -3,7 +3,7 @@
 -- near 0, are small.
 -- Assumes nothing.
 use mathlib.Core.Path.{_≡_, sym, _∙_, ap, subst}
-use Prim.Native.Nat.{ℕ, zero, suc, _+_, _*_, _≤_, _-_, _^_, _/_}
+use Prim.Native.Nat.{ℕ, _+_, _*_, _≤_, _-_, _^_, _/_}
 use native.Mathlib.Omega.{arith}
 use lib.IntN.{ℤ, pos, _+ℤ_, natAbs}
 use native.Mathlib.Nat.{mul-assoc, mul-one, le-trans, lt-of-le-of-lt, mul-le-mul, mul-le-mul-right, mul-le-mul-left, one-le-pow, pow-le-pow-right}
@@ -13,7 +13,7 @@ use lib.Dec.{lit≤, lit<}
 use lib.Pow.{pow-add}
 use Rattle.laws.specs.Sizes.{abs-add, abs-neg, abs-sub, fits}
 use Rattle.laws.specs.Linear.{same, ‵, _⊕_, _⊝_, ⊟, _⊗_}
-use Rattle.lattice.specs.Points.{turn60Of, turn30Of, turns, pt}
+use Rattle.lattice.specs.Points.{turn60Of, turn30Of, pt}
 use Rattle.lattice.specs.declared.points.Point.{Point}
 use Rattle.lattice.specs.declared.records.Level.{Level}
 
@@ -73,11 +73,6 @@ hex-turn30 {p} h =
       b = subst (λ (z : ℤ). natAbs z ≤ 10) (same ((a ⊕ b) ⊕ b) (a ⊕ 2 ⊗ b) (omega arith)) (omega (arith, h .b, h .c, abs-add (x +ℤ y) y));
       c = subst (λ (z : ℤ). natAbs z ≤ 10) (same (a ⊕ (a ⊕ b)) ((a ⊝ b) ⊕ (a ⊕ 2 ⊗ b)) (omega arith)) (omega (arith, h .a, h .c, abs-add x (x +ℤ y)));
     }
-
-pub hex-turns : {n : ℕ} (k : ℕ) {p : Point} → Hex n p → Hex n (turns k p)
-unfolding turns
-hex-turns zero h = h
-hex-turns (suc k) h = hex-turn60 (hex-turns k h)
 
 -- a point near 0, and one in a record's range
 low-small : (n m : ℕ) → n ≤ 10 → n * 3 ^ (7 - m) ≤ 1000000000

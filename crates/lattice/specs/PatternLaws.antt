@@ -1,5 +1,5 @@
 -- The laws of orientations and pattern points, each over degree and orientation, by one test over the table.
--- `orient-even`, `orient-odd` an orientation by turns · `hex-orient`, `orient-depth` how far and how deep · `pattern-near` the bounds of the pattern points ·
+-- `orient-even`, `orient-odd` an orientation by turns · `hex-orient`, `orient-depth` how far and how deep · `adjacent-close`, `first-close`, `second-close` the bounds of the pattern points ·
 -- `adjacent-near`, `first-near`, `second-near` the same at any orientation and level.
 -- Assumes nothing.
 use mathlib.Core.Path.{_≡_, refl, ap, subst}

@@ -1,5 +1,5 @@
 -- The records that are kept, their keys, and what sorting the keys does to the records.
--- `standing-none`, `standing-more`, `keys-none`, `keys-more` slot by slot · `keys-length`, `keys-grow` · `keys-sorted` the records of the sorted keys are the records in file order ·
+-- `standing-more`, `keys-none`, `keys-more` slot by slot · `keys-length`, `keys-grow` · `keys-sorted` the records of the sorted keys are the records in file order ·
 -- `keys-inside` a key's slot is in the table · `lines-sorted` as many bytes in any order · `Filled` the keys in the output: `filled-none`, `filled-more` · `kept-part`, `kept-valid`,
 -- `kept-close` what is kept stands in the table and is valid.
 -- Assumes nothing.
@@ -33,10 +33,6 @@ use Rattle.writers.specs.Ranks.{rankOf, keyOf, Close, rank-earlier, rank
 use Rattle.writers.specs.Kept.{places, markedAt, keptOf, keptAt, standing, keyed, keysBelow, recordIn, recordOf, Added}
 
 -- ---- slot by slot
-
-pub standing-none : (f : ℕ → Slot) → standing f 0 ≡ []
-unfolding standing
-standing-none f = refl
 
 pub standing-more : (f : ℕ → Slot) (i : ℕ) → standing f (i + 1) ≡ standing f i ++ listed (f i)
 unfolding standing

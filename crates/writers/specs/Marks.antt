@@ -1,5 +1,5 @@
 -- The marks of the slots that vertices of degree 6 name.
--- `Marks m P u` u marks what m does, and the slots at which P passes: `marks-one`, `marks-none`, `marks-then`, `marks-flag` · `starFinds`, `slotFinds`, `tableFinds` the slots that are named.
+-- `Marks m P u` u marks what m does, and the slots at which P passes · `starFinds`, `slotFinds`, `tableFinds` the slots that are named.
 -- Assumes nothing.
 use mathlib.Core.Path.{_≡_, refl, sym, ap, _∙_}
 use mathlib.Core.Bool.{Bool, true, false, cond, _&&_, _||_}
