@@ -1,1 +1,4 @@
+-- Document 01, "Files", the readers' half, in antt.
 pub mod Readers
+pub mod Additions
+pub mod ReadLaws
