@@ -2,3 +2,4 @@
 pub mod Readers
 pub mod Additions
 pub mod ReadLaws
+pub mod RestoreLaws
