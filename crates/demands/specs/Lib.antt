@@ -7,5 +7,7 @@ pub mod Refused
 -- demand 2: one form of a point, the files
 pub mod Points
 pub mod Files
+-- demand 3: what is written comes back
+pub mod Returns
 -- the starred examples
 pub mod Starred

@@ -4,22 +4,17 @@
 -- Assumes nothing.
 use mathlib.Core.Path.{_≡_, refl, sym, _∙_, ap}
 use mathlib.Core.Logic.{_≢_}
-use mathlib.Core.Bool.{Bool, true, false, cond, _&&_}
-use mathlib.Core.List.{List, [], _∷_, _++_}
-use mathlib.Core.Option.{Option, none, some}
-use Prim.Native.Nat.{ℕ, zero, suc, _+_, _≤_}
+use mathlib.Core.Bool.{Bool, true, false, cond}
+use mathlib.Core.List.{List, _++_}
+use mathlib.Core.Option.{none}
+use Prim.Native.Nat.{ℕ, _≤_}
 use native.Mathlib.Omega.{arith}
-use lib.Dec.{eqb, ltb, lit≤}
+use lib.Dec.{ltb, lit≤}
 use lib.IntN.{ℤ}
 use lib.ListN.{length, drop}
 use Rattle.lattice.specs.declared.records.Record.{Record}
-use Rattle.lattice.specs.Records.{validOf}
 use Rattle.table.specs.Slots.{fitsLength, clearedOf}
-use Rattle.table.specs.Search.{findOf}
-use Rattle.table.specs.Entries.{enterOf}
 use Rattle.table.specs.Order.{inOrderOf}
-use Rattle.table.specs.declared.probe.Found.{Found}
-use Rattle.table.specs.declared.probe.Found.the-variants as found
 use Rattle.base.specs.Base.{Laid, Room, NoRoom, baseOf, unpaired, badPlace, centresIn, laidOf, fromLaid}
 use Rattle.base.specs.Base as laid
 use Rattle.mesh.specs.Subdivide.{Outcome, subdivideOf, subdivideAllOf}
@@ -27,11 +22,9 @@ use Rattle.mesh.specs.CaseLaws.{Subdivision, subdivision}
 use Rattle.mesh.specs.CaseLaws as cases
 use Rattle.writers.specs.Files.{writeOf, putOf, someOf, redundant}
 use Rattle.writers.specs.Files as written
-use Rattle.text.specs.Line.{lineAt}
-use Rattle.text.specs.declared.line.Line.{Line}
-use Rattle.text.specs.declared.line.Line.the-variants.{Good, Bad, End}
 use Rattle.grown.specs.Grown.{isGrown}
-use Rattle.readers.specs.Readers.{Lines, Read, Fault, after, above, noSlot, lineRead, linesFrom, readLines, restoredOf, Restored, With, Stopped, restoreAt, restore, restoreTo, restoreStar, restoreAll, lengthsFit, endFull, endReduced, endRestored, readFullOf, readReducedOf}
+use Rattle.readers.specs.Readers.{Lines, Read, Fault, readLines, Restored, With, Stopped, restoreAll, lengthsFit, endFull, endReduced, endRestored, readFullOf, readReducedOf}
+use Rattle.readers.specs.FaultLaws.{fault-number, stop-number}
 use Rattle.readers.specs.Readers as read
 
 -- ---- subdivision
@@ -88,66 +81,7 @@ module _ (t : List ℕ) (cs : List ℤ) where
       go true false false NoRoom z e = refl
 
 -- ---- readers
--- past the length test every refusal's number is at least 8
-abbrev Late : Lines → Type 0
-Late (Read rs t) = Unit {0}
-Late (Fault n i) = 8 ≤ n
-
-after-late : (r : Record) (x : Lines) → Late x → Late (after r x)
-after-late r (Read rs t) h = tt
-after-late r (Fault n i) h = h
-
-lines-late : (f : List ℕ) (left p i : ℕ) (q : Option Record) (t : List ℕ) → Late (linesFrom f left p i q t)
-unfolding linesFrom
-lines-late f zero p i q t = tt
-lines-late f (suc left) p i q t = at (lineAt f p) (λ r next. linesFrom f left next (i + 1) (some r) (enterOf t r)) (λ r next. lines-late f left next (i + 1) (some r) (enterOf t r))
-  where
-    good : (r : Record) (x : Lines) → Late x → (risen full : Bool) → Late (cond risen (cond full (Fault 8 i) (after r x)) (Fault 10 i))
-    good r x h false full = lit≤ tt
-    good r x h true true = lit≤ tt
-    good r x h true false = after-late r x h
-
-    at : (l : Line) (rest : Record → ℕ → Lines) → ((r : Record) (next : ℕ) → Late (rest r next)) → Late (lineRead i q t rest l)
-    at End rest h = tt
-    at Bad rest h = lit≤ tt
-    at (Good r next) rest h = good r (rest r next) (h r next) (above q r) (noSlot (findOf t (r .at)))
-
-abbrev LateStop : Restored → Type 0
-LateStop (With t) = Unit {0}
-LateStop (Stopped n) = 8 ≤ n
-
-restore-late : (x : Restored) (r : Record) → LateStop x → LateStop (restore x r)
-restore-late (Stopped n) r h = h
-restore-late (With t) r h = go (findOf t (r .at)) (validOf r)
-  where
-    stop : (v : Bool) → LateStop (Stopped (cond v 8 11))
-    stop true = lit≤ tt
-    stop false = lit≤ tt
-
-    free : (v : Bool) → LateStop (cond v (With (enterOf t r)) (Stopped 11))
-    free true = tt
-    free false = lit≤ tt
-
-    go : (w : Found) (v : Bool) → LateStop (restoreAt t r w)
-    go (found.At i) v = tt
-    go (found.Free i) v = free (validOf r)
-    go found.Full v = stop (validOf r)
-
-to-late : (v : Record) (j : ℕ) (x : Restored) → LateStop x → LateStop (restoreTo v j x)
-unfolding restoreTo
-to-late v zero x h = h
-to-late v (suc j) x h = restore-late (restoreTo v j x) (restoredOf v j) (to-late v j x h)
-
-all-late : (vs : List Record) (x : Restored) → LateStop x → LateStop (restoreAll vs x)
-unfolding restoreAll
-all-late [] x h = h
-all-late (v ∷ vs) x h = all-late vs (restoreStar v x) (star (eqb (v .d) 6))
-  where
-    star : (b : Bool) → LateStop (cond b (restoreTo v 6 x) x)
-    star true = to-late v 6 x h
-    star false = h
-
--- how a reader ends: its lengths don't fit; refused; done
+-- how a reader ends: its lengths don't fit; refused, with a number of at least 8; done
 pub data Reading (t s : List ℕ) (o : read.Outcome) : Type 0 where
   unfit : o ≡ read.outcome 1 0 t s → Reading t s o
   refused : (n i : ℕ) → 8 ≤ n → o ≡ read.refused n i t s → Reading t s o
@@ -156,34 +90,34 @@ pub data Reading (t s : List ℕ) (o : read.Outcome) : Type 0 where
 module _ (t s f : List ℕ) where
   pub full-reading : Reading t s (readFullOf t s f)
   unfolding readFullOf
-  full-reading = go (lengthsFit t s) (readLines f (clearedOf t)) (lines-late f (length f) 0 1 none (clearedOf t))
+  full-reading = go (lengthsFit t s) (readLines f (clearedOf t)) refl
     where
       judged : (u : List ℕ) (g : Bool) → Reading t s (cond g (read.accepted u s) (read.refused 11 0 t s))
       judged u true = done u refl
       judged u false = refused 11 0 (lit≤ tt) refl
 
-      go : (b : Bool) (x : Lines) → Late x → Reading t s (cond b (endFull t s x) (read.outcome 1 0 t s))
-      go false x h = unfit refl
-      go true (Fault n i) h = refused n i h refl
-      go true (Read rs u) h = judged u (isGrown u)
+      go : (b : Bool) (x : Lines) → readLines f (clearedOf t) ≡ x → Reading t s (cond b (endFull t s x) (read.outcome 1 0 t s))
+      go false x e = unfit refl
+      go true (Fault n i) e = refused n i (fault-number f (length f) 0 1 none (clearedOf t) n i e .0) refl
+      go true (Read rs u) e = judged u (isGrown u)
 
   pub reduced-reading : Reading t s (readReducedOf t s f)
   unfolding readReducedOf
-  reduced-reading = go (lengthsFit t s) (readLines f (clearedOf t)) (lines-late f (length f) 0 1 none (clearedOf t))
+  reduced-reading = go (lengthsFit t s) (readLines f (clearedOf t)) refl
     where
       judged : (u : List ℕ) (g r : Bool) → Reading t s (cond g (cond r (read.refused 12 0 t s) (read.accepted u s)) (read.refused 11 0 t s))
       judged u true true = refused 12 0 (lit≤ tt) refl
       judged u true false = done u refl
       judged u false r = refused 11 0 (lit≤ tt) refl
 
-      restored : (rs : List Record) (x : Restored) → LateStop x → Reading t s (endRestored t s rs x)
-      restored rs (Stopped n) h = refused n 0 h refl
-      restored rs (With u) h = judged u (isGrown u) (someOf (redundant u) rs)
+      restored : (rs : List Record) (u : List ℕ) (x : Restored) → restoreAll rs (With u) ≡ x → Reading t s (endRestored t s rs x)
+      restored rs u (Stopped n) e = refused n 0 (stop-number rs u n e .0) refl
+      restored rs u (With w) e = judged w (isGrown w) (someOf (redundant w) rs)
 
-      go : (b : Bool) (x : Lines) → Late x → Reading t s (cond b (endReduced t s x) (read.outcome 1 0 t s))
-      go false x h = unfit refl
-      go true (Fault n i) h = refused n i h refl
-      go true (Read rs u) h = restored rs (restoreAll rs (With u)) (all-late rs (With u) tt)
+      go : (b : Bool) (x : Lines) → readLines f (clearedOf t) ≡ x → Reading t s (cond b (endReduced t s x) (read.outcome 1 0 t s))
+      go false x e = unfit refl
+      go true (Fault n i) e = refused n i (fault-number f (length f) 0 1 none (clearedOf t) n i e .0) refl
+      go true (Read rs u) e = restored rs u (restoreAll rs (With u)) refl
 
 module _ (t s : List ℕ) (o : read.Outcome) where
   pub read-untouched : Reading t s o → o .number ≡ 1 → o ≡ read.outcome 1 0 t s
