@@ -3,5 +3,6 @@ pub mod Rings
 pub mod Parents
 pub mod ParentLaws
 pub mod Places
+pub mod BornLaws
 pub mod PlaceLaws
 pub mod Slots

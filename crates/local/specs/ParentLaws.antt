@@ -3,11 +3,11 @@
 -- `told-six`, `told-fewer` what the parents say, by the number of those subdivided, `turn-most` · `creator-first`, `creator-second`, `creator-third`.
 -- Assumes nothing.
 use mathlib.Core.Path.{_≡_, refl, sym, _∙_, ap}
-use mathlib.Core.Bool.{Bool, true, false, cond, _&&_}
+use mathlib.Core.Bool.{Bool, true, false, cond, _&&_, and-true, and-comm}
 use mathlib.Core.List.{List, [], _∷_}
 use Prim.Native.Nat.{ℕ, _+_, _*_, _-_, _%_, _≤_, _<_}
 use native.Mathlib.Omega.{arith}
-use lib.Dec.{eqb, ltb}
+use lib.Dec.{ltb}
 use lib.ListN.{getD}
 use borrow.Author.Tests.{eq-eqb, ne-eqb, lt-ltb, le-ltb}
 use Rattle.laws.specs.Rules.{upto, rule, _≤?_}
@@ -28,14 +28,7 @@ module _ (t : List ℕ) (p : Point) where
   parents-ranked h = record { first = omega (arith, parent-depth p 0 h); second = omega (arith, parent-depth p 1 h) }
 
   three : (x y z : Bool) → (x && y) && z ≡ z && (y && (x && true))
-  three true true true = refl
-  three true true false = refl
-  three true false true = refl
-  three true false false = refl
-  three false true true = refl
-  three false true false = refl
-  three false false true = refl
-  three false false false = refl
+  three x y z = and-comm (x && y) z ∙ ap (λ (b : Bool). z && b) (and-comm x y ∙ ap (λ (b : Bool). y && b) (sym (and-true x)))
 
   pub parents-there : allThere (parentsOf t p) ≡ upto 3 (λ j. there (sheetOf t) (parentOf p j))
   unfolding there

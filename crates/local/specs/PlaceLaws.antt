@@ -1,22 +1,17 @@
 -- The tests of a place, as the code decides them: by the parents, which serve two or three tests at once, and by the number of points there in a ring.
--- `valid-small`, `born-deep`, `born-shallow` what valid records have · `centre-boundary`, `centre-by`, `corner-by`, `deep-boundary`, `deep-by` the tests of a place with the star's ·
+-- `first-fails`, `second-fails`, `third-decides` three tests in a row · `centre-boundary`, `centre-by`, `corner-by`, `deep-boundary`, `deep-by` the tests of a place with the star's ·
 -- `place-deep`, `place-centre`, `place-corner`, `local-place` the whole · `six-other`, `six-low`, `six-high` what degree 6 asks.
 -- Assumes nothing.
 use mathlib.Core.Path.{_≡_, refl, sym, _∙_, ap}
-use mathlib.Core.Bool.{Bool, true, false, cond, _&&_, _||_, not}
+use mathlib.Core.Bool.{Bool, true, false, cond, _&&_, _||_, not, and-true, and-assoc, and-comm}
 use mathlib.Core.List.{List}
-use Prim.Native.Nat.{ℕ, _+_, _*_, _-_, _%_, _^_, _≤_, _<_}
+use Prim.Native.Nat.{ℕ, _+_, _*_, _≤_, _<_}
 use native.Mathlib.Omega.{arith}
-use native.Mathlib.Decide.{ℕ-discrete}
-use lib.Dec.{eqb, leb, lit<}
-use lib.IntN.{natAbs}
-use borrow.Author.Tests.{eq-eqb, ne-eqb, le-leb, lt-leb, leb-true}
-use Rattle.laws.specs.Each.{both-left, both-right, same-test}
+use lib.Dec.{eqb}
+use borrow.Author.Tests.{eq-eqb, ne-eqb, le-leb, lt-leb}
 use Rattle.laws.specs.Rules.{upto}
-use Rattle.lattice.specs.Bounds.{Small, small-range}
-use Rattle.lattice.specs.Points.{isNormal, classOf}
-use Rattle.lattice.specs.Ranks.{rankOf, birthOf, moveOf, parentOf}
-use Rattle.lattice.specs.Records.{within, suitsOf, validOf}
+use Rattle.lattice.specs.Points.{classOf}
+use Rattle.lattice.specs.Ranks.{rankOf, moveOf}
 use Rattle.lattice.specs.Stars.{adjacentAt}
 use Rattle.lattice.specs.declared.points.Point.{Point}
 use Rattle.lattice.specs.declared.records.Record.{Record}
@@ -24,66 +19,11 @@ use Rattle.growth.specs.Sheets.{Sheet}
 use Rattle.growth.specs.Local.{there, centreTest, cornerTest, deepTest, starTest, sixTest, localTest}
 use Rattle.local.specs.Sheet.{sheetOf}
 use Rattle.local.specs.Rings.{ringOf, ring-all, ringed, ring-corner}
-use Rattle.local.specs.Parents.{Born, parentsOf, allThere, creatorOver, toldIn}
+use Rattle.local.specs.Parents.{parentsOf, allThere, creatorOver, toldIn}
+use Rattle.local.specs.BornLaws.{rank-deep, rank-centre, parent-corner}
 use Rattle.local.specs.ParentLaws.{parents-there, parents-creator, parents-star}
 use Rattle.local.specs.declared.parents.Parents.{Parents}
 use Rattle.local.specs.Places.{starred, placeTest, turnOf}
-
--- ---- what valid records have
-module _ (r : Record) (h : validOf r ≡ true) where
-  abbrev m : ℕ
-  m = r .at .m .0
-
-  abbrev suits : Bool
-  suits = suitsOf (r .d) (r .k) (r .n .0)
-
-  ranged : leb m 6 && (within (r .at .a) m && (within (r .at .b) m && suits)) ≡ true
-  ranged = both-right (isNormal (r .at)) (leb m 6 && (within (r .at .a) m && (within (r .at .b) m && suits))) h
-
-  sized : within (r .at .a) m && (within (r .at .b) m && suits) ≡ true
-  sized = both-right (leb m 6) (within (r .at .a) m && (within (r .at .b) m && suits)) ranged
-
-  pub valid-depth : m ≤ 6
-  valid-depth = leb-true m 6 (both-left (leb m 6) (within (r .at .a) m && (within (r .at .b) m && suits)) ranged)
-
-  pub valid-small : Small (r .at)
-  valid-small =
-      small-range (r .at) valid-depth
-      (leb-true (natAbs (r .at .a)) (251 * 3 ^ m) (both-left (within (r .at .a) m) (within (r .at .b) m && suits) sized))
-      (leb-true (natAbs (r .at .b)) (251 * 3 ^ m) (both-left (within (r .at .b) m) suits (both-right (within (r .at .a) m) (within (r .at .b) m && suits) sized)))
-
-  pub valid-born : 0 < rankOf (r .at) → Born (r .at)
-  valid-born l = record { small = valid-small; depth = valid-depth; rank = l }
-
--- ---- ranks by depth
-pub rank-deep : (p : Point) → 0 < p .m .0 → 1 < rankOf p
-unfolding rankOf
-rank-deep p h = let n : p .m .0 ≡ 0 → ⊥ = λ e. omega arith in simp (ne-eqb (p .m .0) 0 n) (go (eqb (classOf p) 0))
-  where
-    go : (b : Bool) → 1 < cond b (2 * p .m .0) (2 * p .m .0 + 1)
-    go true = omega arith
-    go false = omega arith
-
-module _ (p : Point) (m : p .m .0 ≡ 0) (c : classOf p ≡ 0) where
-  pub rank-centre : rankOf p ≡ 1
-  unfolding rankOf
-  rank-centre = simp (eq-eqb (p .m .0) 0 m, c)
-
-  birth-centre : birthOf p ≡ 0
-  unfolding birthOf
-  birth-centre = simp (eq-eqb (p .m .0) 0 m, c)
-
-  -- the parents of a centre are corners of it
-  parent-corner : (j : ℕ) → parentOf p j ≡ moveOf p (4 * j) 0
-  unfolding parentOf
-  parent-corner j = let e : 0 + 4 * j ≡ 4 * j = omega arith in (λ i. moveOf p (birth-centre i + 4 * j) (rank-centre i - 1)) ∙ ap (λ (e : ℕ). moveOf p e 0) e
-
-pub turn-even : (c : ℕ) → (turnOf c < 4) × (turnOf c % 2 ≡ 0)
-turn-even c = go (eqb c 1)
-  where
-    go : (b : Bool) → (cond b 2 0 < 4) × (cond b 2 0 % 2 ≡ 0)
-    go true = (lit< tt, refl)
-    go false = (lit< tt, refl)
 
 -- ---- three tests in a row: the first that fails ends it
 module _ (a b c : Bool) where
@@ -97,24 +37,13 @@ module _ (a b c : Bool) where
   third-decides e f = rw (e, f)
 
 -- ---- the tests of a place with the star's
+and-swap : (a b c : Bool) → a && (b && c) ≡ b && (a && c)
+and-swap true b c = refl
+and-swap false true c = refl
+and-swap false false c = refl
+
 six-apart : (a b c d e f : Bool) → f && (e && (d && (c && (b && (a && true))))) ≡ ((a && c) && e) && (b && (d && f))
-six-apart a b c d e f =
-    same-test (f && (e && (d && (c && (b && (a && true)))))) (((a && c) && e) && (b && (d && f)))
-    (λ h. (
-    let h5 = both-right f (e && (d && (c && (b && (a && true))))) h in
-    let h4 = both-right e (d && (c && (b && (a && true)))) h5 in
-    let h3 = both-right d (c && (b && (a && true))) h4 in
-    let h2 = both-right c (b && (a && true)) h3 in
-    let h1 = both-right b (a && true) h2 in
-    rw (both-left a true h1, both-left b (a && true) h2, both-left c (b && (a && true)) h3, both-left d (c && (b && (a && true))) h4, both-left e (d && (c && (b && (a && true)))) h5, both-left f (e && (d && (c && (b && (a && true))))) h)
-    ))
-    (λ h. (
-    let u = both-left ((a && c) && e) (b && (d && f)) h in
-    let v = both-right ((a && c) && e) (b && (d && f)) h in
-    let w = both-left (a && c) e u in
-    let x = both-right b (d && f) v in
-    rw (both-left a c w, both-right a c w, both-right (a && c) e u, both-left b (d && f) v, both-left d f x, both-right d f x)
-    ))
+six-apart a b c d e f = simp (and-true, and-assoc, and-comm, and-swap)
 
 module _ (t : List ℕ) (r : Record) where
   abbrev R : Sheet
@@ -182,10 +111,6 @@ module _ (R : Sheet) (r : Record) where
   pub place-corner : r .at .m .0 ≡ 0 → (classOf (r .at) ≡ 0 → ⊥) → starred (cornerTest R r) R r ≡ placeTest R r
   unfolding placeTest
   place-corner m c = simp (eq-eqb (r .at .m .0) 0 m, ne-eqb (classOf (r .at)) 0 c)
-
-  and-assoc : (a b c : Bool) → (a && b) && c ≡ a && (b && c)
-  and-assoc true b c = refl
-  and-assoc false b c = refl
 
   pub local-place : placeTest R r && (not (eqb (r .d) 6) || sixTest R r) ≡ localTest R r
   unfolding placeTest localTest

@@ -1,10 +1,8 @@
 // What looking points up tells: whether they are there, and whether they were subdivided.
 ghost use mathlib.Core.Path.{_≡_};
-ghost use mathlib.Core.Bool.{cond};
 ghost use Prim.Native.Nat.{_%_, _≤_, _<_};
 ghost use Rattle.laws.specs.Rules.{upto};
 ghost use Rattle.lattice.specs.Bounds.{Small};
-ghost use Rattle.lattice.specs.Ranks.{moveOf};
 ghost use Rattle.lattice.specs.RecordLaws.{Inner};
 ghost use Rattle.lattice.specs.Stars.{adjacentAt};
 ghost use Rattle.growth.specs.Local.{isThere, isOver, there};

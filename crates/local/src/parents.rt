@@ -1,6 +1,6 @@
 // The three parents of a point, each looked up once, and what they say of it.
 ghost use mathlib.Core.Path.{_≡_};
-ghost use Prim.Native.Nat.{_+_, _*_, _≤_, _<_};
+ghost use Prim.Native.Nat.{_≤_, _<_};
 ghost use Rattle.lattice.specs.Ranks.{rankOf};
 ghost use Rattle.table.specs.Slots.{Table};
 ghost use Rattle.local.specs.Parents.{Born, Ranked, parentAt, parentsOf, seen, split, allThere, creatorIn, creatorOver, splitsIn, sameStar, toldIn};
@@ -21,6 +21,7 @@ pub struct Seen {
     pub held: Looked,
 }
 
+// The parents of a point, in their order.
 pub struct Parents {
     pub first: Seen,
     pub second: Seen,
@@ -38,6 +39,7 @@ fn parent_of(t: &[u8], p: Point, j: u8, n: usize) -> Seen
     Seen { at, held }
 }
 
+// All three, three lookups.
 pub fn parents_of(t: &[u8], p: Point, n: usize) -> Parents
     requires { ⌜ Table (now t) n ⌝ }
     requires { ⌜ Born p ⌝ }

@@ -31,7 +31,7 @@ fn star_passes(t: &[u8], r: Record, n: usize) -> bool
     as_told(r, parents_of(t, p, n))
 }
 
-// A centre: three of its corners are its parents, and serve both tests.
+// A centre: its corners in directions 0, 4 and 8 are its parents, and serve both tests; the other three begin at direction 2.
 fn centre_passes(t: &[u8], r: Record, n: usize) -> bool
     requires { ⌜ Table (now t) n × (validOf r ≡ true) ⌝ }
     requires { ⌜ (r .at .m .0 ≡ 0) × (classOf (r .at) ≡ 0) ⌝ }
@@ -61,7 +61,7 @@ fn turn(c: u8) -> u8
 // A corner: degree 0 just where not all hexagons round it are there.
 fn corner_passes(t: &[u8], r: Record, n: usize) -> bool
     requires { ⌜ Table (now t) n × (validOf r ≡ true) ⌝ }
-    requires { ⌜ (r .at .m .0 ≡ 0) ⌝ }
+    requires { ⌜ r .at .m .0 ≡ 0 ⌝ }
     ensures { λ v. ⌜ v ≡ starred (cornerTest (sheetOf (now (t .entry))) r) (sheetOf (now (t .entry))) r ⌝ }
 {
     let p = r.at;

@@ -1,12 +1,12 @@
 -- `local::six_passes` meets its promise. Assumes nothing.
-use borrow.Author.Needs.{needs}
-use mathlib.Core.Path.{_≡_, sym, _∙_}
+use mathlib.Core.Path.{_∙_}
 use native.Mathlib.Omega.{arith}
 use Rattle.laws.specs.Each.{true-fact}
 use Rattle.lattice.specs.RecordLaws.{inner}
 use Rattle.lattice.specs.Records.{validOf}
 use Rattle.local.specs.Sheet.{sheetOf}
-use Rattle.local.specs.PlaceLaws.{valid-depth, six-other, six-low, six-high}
+use Rattle.local.specs.BornLaws.{valid-depth}
+use Rattle.local.specs.PlaceLaws.{six-other, six-low, six-high}
 use Rattle.local.proofs.checks.six_passes.Statement.{statement}
 use Rattle.local.proofs.checks.six_passes.Tie as tie
 

@@ -1,11 +1,9 @@
 -- `local::ring` meets its promise: three points looked up. Assumes nothing.
 use borrow.Author.Needs.{needs}
-use mathlib.Core.Path.{_≡_, _∙_, ap}
-use mathlib.Core.Bool.{Bool}
-use Prim.Native.Nat.{ℕ, _+_}
+use mathlib.Core.Path.{_∙_, ap}
+use Prim.Native.Nat.{_+_}
 use native.Mathlib.Omega.{arith}
 use Rattle.growth.specs.Local.{there}
-use Rattle.lattice.specs.declared.points.Point.{Point}
 use Rattle.local.specs.Sheet.{sheetOf}
 use Rattle.local.specs.Rings.{one}
 use Rattle.local.proofs.lookups.ring.Statement.{statement}

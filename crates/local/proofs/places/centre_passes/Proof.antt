@@ -13,7 +13,8 @@ use Rattle.local.specs.Rings.{ringOf}
 use Rattle.local.specs.Places.{starred}
 use Rattle.local.specs.declared.parents.Parents.{Parents}
 use Rattle.local.specs.Parents.{allThere, toldIn}
-use Rattle.local.specs.PlaceLaws.{valid-depth, valid-small, valid-born, rank-centre, first-fails, second-fails, third-decides, centre-boundary, centre-by}
+use Rattle.local.specs.BornLaws.{valid-depth, valid-small, valid-born, rank-centre}
+use Rattle.local.specs.PlaceLaws.{first-fails, second-fails, third-decides, centre-boundary, centre-by}
 use Rattle.local.proofs.places.centre_passes.Statement.{statement}
 use Rattle.local.proofs.places.centre_passes.Tie as tie
 

@@ -2,7 +2,7 @@
 use borrow.Author.Needs.{needs}
 use mathlib.Core.Path.{_≡_, sym, _∙_, ap}
 use mathlib.Core.Bool.{_&&_, _||_}
-use Prim.Native.Nat.{ℕ, _%_, _≤_, _<_}
+use Prim.Native.Nat.{ℕ}
 use native.Mathlib.Omega.{arith}
 use lib.Dec.{eqb, ltb}
 use Rattle.lattice.specs.Points.{classOf}
@@ -11,7 +11,8 @@ use Rattle.growth.specs.Sheets.{Sheet}
 use Rattle.local.specs.Sheet.{sheetOf}
 use Rattle.local.specs.Rings.{ringOf, ringed, ring-none, ring-boundary, ring-cut, ring-whole}
 use Rattle.local.specs.Places.{starred, turnOf}
-use Rattle.local.specs.PlaceLaws.{valid-small, turn-even, corner-by}
+use Rattle.local.specs.BornLaws.{valid-small, turn-even}
+use Rattle.local.specs.PlaceLaws.{corner-by}
 use Rattle.local.proofs.places.corner_passes.Statement.{statement}
 use Rattle.local.proofs.places.corner_passes.Tie as tie
 

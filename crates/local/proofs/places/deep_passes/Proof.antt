@@ -12,7 +12,8 @@ use Rattle.local.specs.Places.{starred}
 use Rattle.local.specs.declared.parents.Parents.{Parents}
 use Rattle.local.specs.Parents.{Ranked, allThere, creatorOver, toldIn}
 use Rattle.local.specs.ParentLaws.{parents-ranked}
-use Rattle.local.specs.PlaceLaws.{valid-depth, valid-born, rank-deep, first-fails, second-fails, third-decides, deep-boundary, deep-by}
+use Rattle.local.specs.BornLaws.{valid-depth, valid-born, rank-deep}
+use Rattle.local.specs.PlaceLaws.{first-fails, second-fails, third-decides, deep-boundary, deep-by}
 use Rattle.local.proofs.places.deep_passes.Statement.{statement}
 use Rattle.local.proofs.places.deep_passes.Tie as tie
 

@@ -1,6 +1,6 @@
 -- `local::place_passes` meets its promise: by the kind of point. Assumes nothing.
 use borrow.Author.Needs.{needs}
-use mathlib.Core.Path.{_≡_, sym, _∙_}
+use mathlib.Core.Path.{sym, _∙_}
 use native.Mathlib.Omega.{arith}
 use Rattle.local.specs.Sheet.{sheetOf}
 use Rattle.local.specs.PlaceLaws.{place-deep, place-centre, place-corner}

@@ -4,10 +4,9 @@ use mathlib.Core.Path.{_≡_, sym, _∙_, ap}
 use Prim.Native.Nat.{_<_}
 use native.Mathlib.Omega.{arith}
 use Rattle.lattice.specs.Ranks.{rankOf}
-use Rattle.local.specs.declared.parents.Parents.{Parents}
 use Rattle.local.specs.Parents.{toldIn}
 use Rattle.local.specs.ParentLaws.{parents-star, root-star}
-use Rattle.local.specs.PlaceLaws.{valid-depth, valid-born}
+use Rattle.local.specs.BornLaws.{valid-depth, valid-born}
 use Rattle.local.proofs.places.star_passes.Statement.{statement}
 use Rattle.local.proofs.places.star_passes.Tie as tie
 
