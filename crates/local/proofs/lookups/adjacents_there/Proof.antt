@@ -3,7 +3,7 @@ use borrow.Author.Needs.{needs}
 use mathlib.Core.Path.{_≡_, sym, _∙_, ap}
 use mathlib.Core.Bool.{Bool, true}
 use mathlib.Core.List.{List}
-use Prim.Native.Nat.{ℕ, _≤_, _-_}
+use Prim.Native.Nat.{ℕ, _≤_, _<_, _-_}
 use native.Mathlib.Omega.{arith}
 use Rattle.laws.specs.Rules.{upto}
 use Rattle.laws.specs.Each.{upto-more, upto-fails}
@@ -35,7 +35,8 @@ returns c =
     let p = c .before in
     let l = p .before .before in
     let a = l .before .before .args in
-    sym (upto-fails (thereAt (a .t .now) (a .r)) (l .loop .j) 6 (p .before .loop-test .taken) (sym (p .adjacent-there .ensures) ∙ c .if1 .left))
+    let h : l .loop .j < 6 = omega (arith, p .before .loop-test .taken) in
+    sym (upto-fails (thereAt (a .t .now) (a .r)) (l .loop .j) 6 h (sym (p .adjacent-there .ensures) ∙ c .if1 .left))
 
 returns-2 : tie.Need-returns-2 Inv-loop μ-loop
 returns-2 c =
