@@ -1,7 +1,7 @@
 // A reader on a line of a lent file. Document 01, "Files": "The reader reads the lent file line by line and knows the line it is on, first line 1."
 //
 // The reader holds the file, so no function over it is covered by the borrow checker, and each is proved by hand. They are thin: each takes the reader apart, and the work
-// is `text::parse_line`'s, on the slice and a number. Who reads a file calls `read_line`, whose parameters are plain.
+// is `text::parse_line`'s, on the slice and a number. Who reads a file calls `line_at`, whose parameters are plain.
 ghost use mathlib.Core.Path.{_≡_};
 ghost use Prim.Native.Nat.{_+_, _<_, _^_};
 ghost use Rattle.text.specs.Line.{lineAt};
@@ -58,7 +58,7 @@ pub fn number<'a>(r: Reader<'a>) -> u64
 }
 
 // What the reader on line `line`, which begins at a position, meets there.
-pub fn read_line(file: &[u8], at: usize, line: u64) -> Met
+pub fn line_at(file: &[u8], at: usize, line: u64) -> Met
     requires { ⌜ line + 1 < 2 ^ 64 ⌝ }
     ensures { λ r. ⌜ r ≡ metAt (now (file .entry)) at line ⌝ }
 {
