@@ -1,7 +1,7 @@
 // A reader on a line of a lent file. Document 01, "Files": "The reader reads the lent file line by line and knows the line it is on, first line 1."
 //
 // The reader holds the file, so no function over it is covered by the borrow checker, and each is proved by hand. They are thin: each takes the reader apart, and the work
-// is `text::parse_line`'s, on the slice and a number. Who reads a file calls `read_line`, whose parameters are plain.
+// is `text::parse_line`'s, on the slice and a number. Who reads a file calls `line_at`, whose parameters are plain.
 ghost use mathlib.Core.Path.{_≡_};
 ghost use Prim.Native.Nat.{_+_, _<_, _^_};
 ghost use Rattle.text.specs.Line.{lineAt};
@@ -10,11 +10,11 @@ use lattice::Record;
 use text::Line;
 use text::parse_line;
 
-// Where its line begins in the file, and that line's number.
-pub struct Reader<'a> {
-    pub file: &'a [u8],
-    pub at: usize,
-    pub line: u64,
+// A reader on a line: the file, where the line begins in it, and the line's number.
+struct Reader<'a> {
+    file: &'a [u8],
+    at: usize,
+    line: u64,
 }
 
 // What a reader meets on its line: a record, where the next line begins and that line's number; a fault, and its own number; the end of the file.
@@ -37,28 +37,28 @@ fn numbered(l: Line, line: u64) -> Met
 }
 
 // The reader on a line.
-pub fn on<'a>(file: &'a [u8], at: usize, line: u64) -> Reader<'a>
+fn on<'a>(file: &'a [u8], at: usize, line: u64) -> Reader<'a>
     ensures { λ r. ⌜ (r .file ≡ file .entry) × ((r .at ≡ at) × (r .line ≡ line)) ⌝ }
 {
     Reader { file, at, line }
 }
 
 // What stands on the reader's line.
-pub fn line_here<'a>(r: Reader<'a>) -> Line
+fn line_here<'a>(r: Reader<'a>) -> Line
     ensures { λ l. ⌜ l ≡ lineAt (now (r .entry .file)) (r .entry .at) ⌝ }
 {
     parse_line(r.file, r.at)
 }
 
 // The line that the reader is on.
-pub fn number<'a>(r: Reader<'a>) -> u64
+fn number<'a>(r: Reader<'a>) -> u64
     ensures { λ n. ⌜ n ≡ r .entry .line ⌝ }
 {
     r.line
 }
 
 // What the reader on line `line`, which begins at a position, meets there.
-pub fn read_line(file: &[u8], at: usize, line: u64) -> Met
+pub fn line_at(file: &[u8], at: usize, line: u64) -> Met
     requires { ⌜ line + 1 < 2 ^ 64 ⌝ }
     ensures { λ r. ⌜ r ≡ metAt (now (file .entry)) at line ⌝ }
 {

@@ -1,4 +1,4 @@
--- `reader::read_line` meets its contract: a walk of its MIR, by hand. A `Reader` is made and held in a local; what stands on its line and that line's number are asked of it, and `numbered` puts the two together.
+-- `reader::line_at` meets its contract: a walk of its MIR, by hand. A `Reader` is made and held in a local; what stands on its line and that line's number are asked of it, and `numbered` puts the two together.
 -- All that the proof knows of `on`, `line_here`, `number` and `numbered` is that each meets its contract.
 -- The struct is Copy: what it owns is had twice, once for each of the functions that take it. In a local MIR erases the lifetime of the struct's type, so its machine value is shown to have the type at `erased`.
 -- Assumes nothing.
@@ -67,10 +67,10 @@ use Rattle.reader.proofs.numbered as tell
 use Rattle.reader.proofs.numbered.Symbol as tell-def
 use Rattle.reader.proofs.numbered.Symbol.{name as #reader·numbered}
 use Rattle.reader.proofs.numbered.Met as tell-thm
-use Rattle.reader.proofs.read_line.Key.{name as #reader·read-line}
-use Rattle.reader.proofs.read_line as read
-use Rattle.reader.proofs.read_line.Statement as stated
-use Rattle.reader.proofs.read_line.Code as code
+use Rattle.reader.proofs.line_at.Key.{name as #reader·line-at}
+use Rattle.reader.proofs.line_at as read
+use Rattle.reader.proofs.line_at.Statement as stated
+use Rattle.reader.proofs.line_at.Code as code
 
 -- the struct's type, over the signature's lifetimes
 abbrev B : Lfts 1 → RattleType
@@ -231,11 +231,11 @@ read-meets 𝓤 H A W mem run 𝓣 known-on known-here known-number known-tell =
     walk-meets 𝓤 H A read.ended stayed W (goes-none-slice 𝓤 H A W 1 (0 ∷ []) tt (plain (λ _. u8)) yes, (goes-none 𝓤 H A W 1 (λ _. usize) yes (λ κs x f. refl), (goes-none 𝓤 H A W 1 (λ _. u64) yes (λ κs x f. refl), tt))) (read.clauses 𝓤 H A mem run)
     (WpFn 𝓤 H (𝓣 .C) (𝓣 .Λ) code.function) (WpFn-mono 𝓤 H (W .laws) 𝓣 code.function) (read-walks 𝓤 H A W mem run (𝓣 .C) (𝓣 .Λ) (fmOf 𝓤 H (W .laws) 𝓣) known-on known-here known-number known-tell)
 
-pub read-line-spec : {M : Type 1} → stated.statement M
+pub line-at-spec : {M : Type 1} → stated.statement M
 unfolding code.routine tablesOf
-read-line-spec 𝓤 H 𝓜 𝓖 𝓡 =
+line-at-spec 𝓤 H 𝓜 𝓖 𝓡 =
     entered 𝓤 H (tripleOf 𝓤 H (𝓖 .A) read.signature (read.spec 𝓤 H (𝓖 .A) (𝓜 .mem) (𝓡 .run)))
-    (tables 𝓤 H 𝓜 𝓡 code.env .C) (tables 𝓤 H 𝓜 𝓡 code.env .Λ) #reader·read-line code.function (code.unfolded 𝓤 H 𝓜 𝓡)
+    (tables 𝓤 H 𝓜 𝓡 code.env .C) (tables 𝓤 H 𝓜 𝓡 code.env .Λ) #reader·line-at code.function (code.unfolded 𝓤 H 𝓜 𝓡)
     (read-meets 𝓤 H (𝓖 .A) (givenOf 𝓤 H 𝓜 𝓖) (𝓜 .mem) (𝓡 .run) (tablesOf 𝓤 H 𝓜 (tables 𝓤 H 𝓜 𝓡 code.env))
     (cited 𝓤 H (On 𝓤 H (𝓖 .A) (𝓜 .mem) (𝓡 .run)) 𝓜 𝓡 code.env #reader·on on-def.routine code.calls-reader·on (on-thm.met 𝓤 H 𝓜 𝓖 𝓡))
     (cited 𝓤 H (Here 𝓤 H (𝓖 .A) (𝓜 .mem) (𝓡 .run)) 𝓜 𝓡 code.env #reader·line-here here-def.routine code.calls-reader·line-here (here-thm.met 𝓤 H 𝓜 𝓖 𝓡))
