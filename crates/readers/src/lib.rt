@@ -1,1 +1,4 @@
 // The readers of files: document 01, "Files".
+mod lines;
+
+pub use lines::ReadBack;
