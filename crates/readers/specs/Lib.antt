@@ -1,2 +1,8 @@
+-- Document 01, "Files", the readers' half, in antt.
 pub mod Readers
+pub mod Additions
+pub mod ReadLaws
+pub mod RestoreLaws
+-- what the code's steps obey
 pub mod LineSteps
+pub mod CallLaws

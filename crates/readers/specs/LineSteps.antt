@@ -140,6 +140,15 @@ pub data Ended (x : Lines) (number line : ℕ) (t : List ℕ) : Type 0 where
 pub ended-as : (x : Lines) {a a′ b b′ : ℕ} {t t′ : List ℕ} → a ≡ a′ → b ≡ b′ → t ≡ t′ → Ended x a′ b′ t′ → Ended x a b t
 ended-as x {a} {a′} {b} {b′} {t} {t′} e f g d = subst (λ (k : ℕ). Ended x k b t) (sym e) (subst (λ (k : ℕ). Ended x a′ k t) (sym f) (subst (Ended x a′ b′) (sym g) d))
 
+-- the two cases, by the number
+pub ended-read : (x : Lines) {number line : ℕ} {t : List ℕ} → Ended x number line t → number ≡ 0 → (rs : List Record) × (x ≡ Read rs t)
+ended-read x (all-read rs e a b) h = (rs, e)
+ended-read x (at-fault e a) h = absurd (a h)
+
+pub ended-fault : (x : Lines) {number line : ℕ} {t : List ℕ} → Ended x number line t → (number ≡ 0 → ⊥) → x ≡ Fault number line
+ended-fault x (all-read rs e a b) h = absurd (h a)
+ended-fault x (at-fault e a) h = e
+
 ended-after : (r : Record) (x : Lines) {number line : ℕ} {t : List ℕ} → Ended x number line t → Ended (after r x) number line t
 ended-after r x (all-read rs e a b) = all-read (r ∷ rs) (ap (after r) e) a b
 ended-after r x (at-fault e a) = at-fault (ap (after r) e) a
