@@ -5,4 +5,6 @@ pub mod ReadLaws
 pub mod RestoreLaws
 -- what the code's steps obey
 pub mod LineSteps
+pub mod RestoreSteps
+pub mod Redundant
 pub mod CallLaws

@@ -110,7 +110,7 @@ unfolding restoreTo
 stopped-to v zero number = refl
 stopped-to v (suc j) number = ap (λ (x : Restored). restore x (restoredOf v j)) (stopped-to v j number)
 
-stopped-stays : (rs : List Record) (number : ℕ) → restoreAll rs (Stopped number) ≡ Stopped number
+pub stopped-stays : (rs : List Record) (number : ℕ) → restoreAll rs (Stopped number) ≡ Stopped number
 unfolding restoreAll
 stopped-stays [] number = refl
 stopped-stays (v ∷ rs) number = ap (restoreAll rs) (star (eqb (v .d) 6)) ∙ stopped-stays rs number
