@@ -1,4 +1,3 @@
-pub mod Grown
 -- the tables that document 01's calls make are the model's
 pub mod Bases
 pub mod Steps
@@ -7,5 +6,7 @@ pub mod Tables
 pub mod Room
 pub mod Lists
 pub mod Reach
+-- so grown is decided
+pub mod Grown
 -- what is so on a grown table
 pub mod Untorn

@@ -1,5 +1,5 @@
 -- The tables that document 01's calls make have the model's sheets: `reached-order`, `reached-sheet`, `grown-sheet`.
--- A table in order is its sheet, given by its records: `table-listed`. So a grown table passes the local test, and what passes has a sheet that is grown: `grown-test′`, `test-sheet`.
+-- A table in order is its sheet, given by its records: `table-listed`. So a grown table passes the local test, and what passes has a sheet that is grown: `grown-checked`, `test-sheet`.
 -- Assumes nothing.
 use mathlib.Core.Path.{sym, ap}
 use mathlib.Core.List.{List}
@@ -52,5 +52,5 @@ pub test-sheet : (t : List ℕ) → InOrder t → T (passesAll t) → model.Grow
 unfolding passesAll
 test-sheet t o h = test-grown (sheetOf t) (recordsOf t) (table-listed t o) h
 
-pub grown-test′ : (t : List ℕ) → Grown t → T (passesAll t)
-grown-test′ t g = sheet-test t (g .order) (grown-sheet t g)
+pub grown-checked : (t : List ℕ) → Grown t → T (passesAll t)
+grown-checked t g = sheet-test t (g .order) (grown-sheet t g)

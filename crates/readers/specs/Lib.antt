@@ -3,6 +3,7 @@ pub mod Readers
 pub mod Additions
 pub mod ReadLaws
 pub mod RestoreLaws
+pub mod FaultLaws
 -- what the code's steps obey
 pub mod LineSteps
 pub mod RestoreSteps

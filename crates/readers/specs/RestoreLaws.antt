@@ -5,7 +5,7 @@ use mathlib.Core.Path.{_≡_, refl, sym, ap, _∙_, subst}
 use mathlib.Core.Logic.{_⊎_, inl, inr}
 use mathlib.Core.Bool.{Bool, true, false, cond}
 use mathlib.Core.List.{List, [], _∷_, List·Memᴰ, List·Memᴰ·head, List·Memᴰ·tail, List·Memᴰ·cases-cons, List·Memᴰ·not-nil}
-use Prim.Native.Nat.{ℕ, zero, suc, _+_, _≤_, _<_}
+use Prim.Native.Nat.{ℕ, zero, suc, _≤_, _<_}
 use native.Mathlib.Omega.{arith}
 use native.Mathlib.Decide.{ℕ-discrete}
 use borrow.Author.Tests.{eqb-true, eq-eqb}
@@ -17,7 +17,6 @@ use Rattle.lattice.specs.Stars.{adjacentAt}
 use Rattle.lattice.specs.declared.points.Point.{Point}
 use Rattle.lattice.specs.declared.records.Record.{Record}
 use Rattle.table.specs.Slots.{slotsOf, freeSlots}
-use Rattle.table.specs.Search.{findOf}
 use Rattle.table.specs.Order.{InOrder}
 use Rattle.table.specs.Entries.{lookUp, enterOf, recordsOf}
 use Rattle.table.specs.RecordLaws.{apart-fewer}
@@ -25,7 +24,7 @@ use Rattle.table.specs.MapLaws.{Searched, there, room, full, searched, find-hel
 use Rattle.table.specs.declared.entries.Looked.{Looked}
 use Rattle.table.specs.declared.entries.Looked.the-variants.{Absent, Held}
 use Rattle.readers.specs.Readers.{restoredOf, Restored, With, Stopped, restoreAt, restore, restoreTo, restoreStar, restoreAll}
-use Rattle.readers.specs.Additions.{Adds, adds-none, adds-one, adds-then, adds-slots, held-absent, held-same}
+use Rattle.readers.specs.Additions.{Adds, adds-none, adds-one, adds-then, adds-slots, held-absent}
 
 -- ---- the record that is entered
 
@@ -154,10 +153,10 @@ module _ (P : Record → Type 0) where
 
 -- "enters each absent adjacent point, j rising, as d 3, level n, orientation (6+2j+k) mod 4": r is so entered for a degree 6 record of rs
 abbrev pub RestoredOf : List Record → Record → Type 0
-RestoredOf rs r = (v : Record) × (List·Memᴰ v rs × (v .d ≡ 6) × ((j : ℕ) × (j < 6) × (r ≡ restoredOf v j)))
+RestoredOf rs r = (v : Record) × List·Memᴰ v rs × (v .d ≡ 6) × (j : ℕ) × (j < 6) × (r ≡ restoredOf v j)
 
 pub restore-all : (rs : List Record) (t w : List ℕ) → InOrder t → restoreAll rs (With t) ≡ With w → Restores (RestoredOf rs) rs t w
-restore-all rs t w o e = restore-each (RestoredOf rs) rs (λ v m d j i. (v, (m, d, (j, i, refl)))) t w o e
+restore-all rs t w o e = restore-each (RestoredOf rs) rs (λ v m d j i. (v, m, d, j, i, refl)) t w o e
 
 -- ---- where restoring ends well
 
@@ -178,24 +177,24 @@ within-fewer t u o v h p r k a =
     in-u x (inl e) = subst (λ (y : Record). List·Memᴰ y (recordsOf u)) (sym e) (looked-records u v p r k)
     in-u x (inr m) = looked-records u v (x .at) x (h (x .at) x (records-looked t o x m))
 
+-- r is table g's
+abbrev pub In : List ℕ → Record → Type 0
+In g r = lookUp g (r .at) ≡ Held r
+
+-- g holds a record at the adjacent point j of v; where t holds none there, it is the one that restoring enters
+abbrev pub Lacks : List ℕ → List ℕ → Record → ℕ → Type 0
+Lacks g t v j = (a : Record) × (lookUp g (adjacentAt v j) ≡ Held a) × (lookUp t (adjacentAt v j) ≡ Absent → a ≡ restoredOf v j)
+
 -- g is a table in order that holds what t holds, and t has slots for all of it
 module _ (g : List ℕ) (whole : InOrder g) (t : List ℕ) (o : InOrder t) (within : Within t g) (slots : length (recordsOf g) ≤ slotsOf t) where
-  -- r is g's
-  abbrev pub In : Record → Type 0
-  In r = lookUp g (r .at) ≡ Held r
-
-  -- g holds a record at the adjacent point j of v; where t holds none there, it is the one that restoring enters
-  abbrev pub Lacks : Record → ℕ → Type 0
-  Lacks v j = (a : Record) × (lookUp g (adjacentAt v j) ≡ Held a) × (lookUp t (adjacentAt v j) ≡ Absent → a ≡ restoredOf v j)
-
-  in-within : (u : List ℕ) → Adds In t u → Within u g
+  pub in-within : (u : List ℕ) → Adds (In g) t u → Within u g
   in-within u a p r h = go (a .only p r h)
     where
-      go : (lookUp t p ≡ Held r) ⊎ In r → lookUp g p ≡ Held r
+      go : (lookUp t p ≡ Held r) ⊎ In g r → lookUp g p ≡ Held r
       go (inl k) = within p r k
       go (inr k) = ap (lookUp g) (sym (lookup-point u (a .order) p r h)) ∙ k
 
-  into-one : (v : Record) (j : ℕ) → Lacks v j → (u : List ℕ) → Adds In t u → (w : List ℕ) × (restore (With u) (restoredOf v j) ≡ With w) × Adds In t w
+  into-one : (v : Record) (j : ℕ) → Lacks g t v j → (u : List ℕ) → Adds (In g) t u → (w : List ℕ) × (restore (With u) (restoredOf v j) ≡ With w) × Adds (In g) t w
   into-one v j (r, h, f) u a = go (lookUp u (adjacentAt v j)) refl
     where
       at : restoredOf v j .at ≡ adjacentAt v j
@@ -208,20 +207,20 @@ module _ (g : List ℕ) (whole : InOrder g) (t : List ℕ) (o : InOrder t) (with
           none Absent e = e
           none (Held x) e = held-absent (a .keeps (adjacentAt v j) x e) k
 
-      go : (l : Looked) → lookUp u (adjacentAt v j) ≡ l → (w : List ℕ) × (restore (With u) (restoredOf v j) ≡ With w) × Adds In t w
+      go : (l : Looked) → lookUp u (adjacentAt v j) ≡ l → (w : List ℕ) × (restore (With u) (restoredOf v j) ≡ With w) × Adds (In g) t w
       go (Held q) e = (u, restore-old u (a .order) (restoredOf v j) q (ap (lookUp u) at ∙ e), a)
       go Absent e =
           let same : r ≡ restoredOf v j = f (absent e) in
           let ok : validOf (restoredOf v j) ≡ true = ap validOf (sym same) ∙ lookup-valid g whole (adjacentAt v j) r h in
           let fewer = within-fewer u g (a .order) whole (in-within u a) (adjacentAt v j) r h e in
           let count = records-count u in
-          let as-many = adds-slots In t u a in
+          let as-many = adds-slots (In g) t u a in
           let free : 0 < freeSlots u = omega arith in
           let away : lookUp u (restoredOf v j .at) ≡ Absent = ap (lookUp u) at ∙ e in
-          let is : In (restoredOf v j) = ap (lookUp g) at ∙ h ∙ ap Held same in
-          (enterOf u (restoredOf v j), restore-new u (a .order) (restoredOf v j) away ok free, adds-then In t u (enterOf u (restoredOf v j)) a (adds-one In u (restoredOf v j) (a .order) ok away free is))
+          let is : In g (restoredOf v j) = ap (lookUp g) at ∙ h ∙ ap Held same in
+          (enterOf u (restoredOf v j), restore-new u (a .order) (restoredOf v j) away ok free, adds-then (In g) t u (enterOf u (restoredOf v j)) a (adds-one (In g) u (restoredOf v j) (a .order) ok away free is))
 
-  into-to : (v : Record) (j : ℕ) → ((i : ℕ) → i < j → Lacks v i) → (u : List ℕ) → Adds In t u → (w : List ℕ) × (restoreTo v j (With u) ≡ With w) × Adds In t w
+  into-to : (v : Record) (j : ℕ) → ((i : ℕ) → i < j → Lacks g t v i) → (u : List ℕ) → Adds (In g) t u → (w : List ℕ) × (restoreTo v j (With u) ≡ With w) × Adds (In g) t w
   unfolding restoreTo
   into-to v zero h u a = (u, refl, a)
   into-to v (suc j) h u a =
@@ -229,7 +228,7 @@ module _ (g : List ℕ) (whole : InOrder g) (t : List ℕ) (o : InOrder t) (with
       let (w, k, c) = into-one v j (h j (omega arith)) x b in
       (w, ap (λ (y : Restored). restore y (restoredOf v j)) e ∙ k, c)
 
-  pub restores-into : (rs : List Record) → ((v : Record) → List·Memᴰ v rs → v .d ≡ 6 → (j : ℕ) → j < 6 → Lacks v j) → (u : List ℕ) → Adds In t u → (w : List ℕ) × (restoreAll rs (With u) ≡ With w) × Adds In t w
+  pub restores-into : (rs : List Record) → ((v : Record) → List·Memᴰ v rs → v .d ≡ 6 → (j : ℕ) → j < 6 → Lacks g t v j) → (u : List ℕ) → Adds (In g) t u → (w : List ℕ) × (restoreAll rs (With u) ≡ With w) × Adds (In g) t w
   unfolding restoreAll
   restores-into [] h u a = (u, refl, a)
   restores-into (v ∷ rs) h u a =
@@ -237,6 +236,6 @@ module _ (g : List ℕ) (whole : InOrder g) (t : List ℕ) (o : InOrder t) (with
       let (w, k, c) = restores-into rs (λ y m. h y (List·Memᴰ·tail m)) x b in
       (w, ap (restoreAll rs) e ∙ k, c)
     where
-      star : (b : Bool) → eqb (v .d) 6 ≡ b → (w : List ℕ) × (cond b (restoreTo v 6 (With u)) (With u) ≡ With w) × Adds In t w
+      star : (b : Bool) → eqb (v .d) 6 ≡ b → (w : List ℕ) × (cond b (restoreTo v 6 (With u)) (With u) ≡ With w) × Adds (In g) t w
       star true e = into-to v 6 (h v (List·Memᴰ·head refl) (eqb-true (v .d) 6 e)) u a
       star false e = (u, refl, a)
