@@ -6,6 +6,7 @@ pub mod RestoreLaws
 pub mod FaultLaws
 -- what the code's steps obey
 pub mod LineSteps
+pub mod BeginLaws
 pub mod RestoreSteps
 pub mod Redundant
 pub mod CallLaws

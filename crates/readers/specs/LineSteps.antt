@@ -141,8 +141,8 @@ pub ended-as : (x : Lines) {a a′ b b′ : ℕ} {t t′ : List ℕ} → a ≡ a
 ended-as x {a} {a′} {b} {b′} {t} {t′} e f g d = subst (λ (k : ℕ). Ended x k b t) (sym e) (subst (λ (k : ℕ). Ended x a′ k t) (sym f) (subst (Ended x a′ b′) (sym g) d))
 
 -- the two cases, by the number
-pub ended-read : (x : Lines) {number line : ℕ} {t : List ℕ} → Ended x number line t → number ≡ 0 → (rs : List Record) × (x ≡ Read rs t)
-ended-read x (all-read rs e a b) h = (rs, e)
+pub ended-read : (x : Lines) {number line : ℕ} {t : List ℕ} → Ended x number line t → number ≡ 0 → (rs : List Record) × (x ≡ Read rs t) × (line ≡ 0)
+ended-read x (all-read rs e a b) h = (rs, e, b)
 ended-read x (at-fault e a) h = absurd (a h)
 
 pub ended-fault : (x : Lines) {number line : ℕ} {t : List ℕ} → Ended x number line t → (number ≡ 0 → ⊥) → x ≡ Fault number line

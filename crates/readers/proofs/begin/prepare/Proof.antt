@@ -1,9 +1,9 @@
 -- `readers::prepare` meets its promise. Assumes nothing.
 use borrow.Author.Needs.{needs}
 use mathlib.Core.Path.{_≡_, sym, _∙_}
-use Rattle.readers.specs.CallLaws.{none-unfit, other-unfit, both-fit}
-use Rattle.readers.proofs.prepare.Statement.{statement}
-use Rattle.readers.proofs.prepare.Tie as tie
+use Rattle.readers.specs.BeginLaws.{none-unfit, other-unfit, both-fit}
+use Rattle.readers.proofs.begin.prepare.Statement.{statement}
+use Rattle.readers.proofs.begin.prepare.Tie as tie
 
 returns : tie.Need-returns
 returns c =
