@@ -25,6 +25,7 @@ use Rattle.text.specs.Line.{lines}
 use Rattle.writers.specs.SortLaws.{Rising}
 use Rattle.writers.specs.Files.{someOf, redundant}
 use Rattle.writers.specs.FileLaws.{Before, redundant-same}
+use Rattle.writers.specs.RedundantLaws.{Redundant, redundant-is, is-redundant, six-kept}
 use Rattle.mesh.specs.Grown.{Grown}
 use Rattle.local.specs.Sheet.{asOption, sheetOf}
 use Rattle.grown.specs.Steps.{sheet-held}
@@ -35,7 +36,6 @@ use Rattle.readers.specs.Additions.{Adds, adds-none, adds-slots, held-absent, h
 use Rattle.readers.specs.ReadLaws.{Valid, Lined, read-lines, lines-read}
 use Rattle.readers.specs.RestoreLaws.{restored-at, restored-degree, Restores, RestoredOf, restore-all, Within, In, Lacks, in-within, restores-into}
 use Rattle.archive.specs.Outcomes.{lengths-table, ReducedRead, reduced-ends}
-use Rattle.archive.specs.Redundant.{Redundant, redundant-is, is-redundant, six-kept}
 use Rattle.archive.specs.Returns.{both-within, rising-apart}
 
 -- ---- records of table t that rise, all of them but redundant ones: of such a file the mesh comes back

@@ -18,11 +18,11 @@ use Rattle.text.specs.Line.{lines}
 use Rattle.writers.specs.SortLaws.{sort-length}
 use Rattle.writers.specs.Files.{before, sorted, someOf, redundant, leaveOut, reducedFile}
 use Rattle.writers.specs.FileLaws.{left-rises, left-holds, holds-left, left-one}
+use Rattle.writers.specs.RedundantLaws.{some-at, at-some, none-at, at-none}
 use Rattle.mesh.specs.Grown.{Grown}
 use Rattle.grown.specs.Grown.{is-grown}
 use Rattle.readers.specs.Readers.{Outcome, lengthsFit, accepted, refused, readReducedOf}
 use Rattle.archive.specs.Outcomes.{table-lengths, ReducedRead, reduced-zero, reduced-twelve}
-use Rattle.archive.specs.Redundant.{some-at, at-some, none-at, at-none}
 use Rattle.archive.specs.Returns.{Returns, accepted-returns}
 use Rattle.archive.specs.LineCount.{linesIn, lines-in}
 use Rattle.archive.specs.Leaves.{Leaves, read-back, lined, read-order, read-slots, read-leaves}

@@ -4,7 +4,7 @@
 -- Assumes nothing.
 use mathlib.Core.Path.{_≡_, refl, sym, ap, _∙_}
 use mathlib.Core.Logic.{_⊎_, inl, inr}
-use mathlib.Core.Bool.{Bool, true, false, cond, _&&_, _||_}
+use mathlib.Core.Bool.{Bool, true, false, cond, _&&_}
 use mathlib.Core.List.{List, [], _∷_, List·Memᴰ, List·Memᴰ·head, List·Memᴰ·tail, List·Memᴰ·cases-cons, List·Memᴰ·not-nil}
 use Prim.Native.Nat.{ℕ, _<_}
 use native.Mathlib.Omega.{arith}
@@ -19,6 +19,7 @@ use Rattle.table.specs.MapLaws.{Apart, records-looked, looked-records, records-
 use Rattle.text.specs.Line.{lines}
 use Rattle.writers.specs.SortLaws.{mem-sort, sort-mem, Rising, Decides, sort-rising, rising-one}
 use Rattle.writers.specs.Files.{before, sorted, fullFile, sixNames, someOf, redundant, leaveOut, reducedFile}
+use Rattle.writers.specs.RedundantLaws.{some-at, at-some}
 use Rattle.writers.specs.Ranks.{rankOf, Close, rank-earlier, rank-one}
 use Rattle.writers.specs.KeptLaws.{close}
 
@@ -119,21 +120,7 @@ leave-apart f (q ∷ rs) a = go (f q) (leave-apart f rs (a .1))
     go false ih = (λ r m. a .0 r (mem-leave f rs r m .0), ih)
 
 some-mem : (f : Record → Bool) (rs qs : List Record) → ((r : Record) → List·Memᴰ r rs → List·Memᴰ r qs) → someOf f rs ≡ true → someOf f qs ≡ true
-some-mem f [] qs h e = absurd (not-both e refl)
-some-mem f (r ∷ rs) qs h e = go (f r) refl e (λ k. some-mem f rs qs (λ x m. h x (List·Memᴰ·tail m)) k)
-  where
-    within : (xs : List Record) → List·Memᴰ r xs → f r ≡ true → someOf f xs ≡ true
-    within [] m t = absurd (List·Memᴰ·not-nil m)
-    within (x ∷ xs) m t = at (f x) refl (List·Memᴰ·cases-cons m) (λ k. within xs k t)
-      where
-        at : (b : Bool) → f x ≡ b → (r ≡ x) ⊎ List·Memᴰ r xs → (List·Memᴰ r xs → someOf f xs ≡ true) → b || someOf f xs ≡ true
-        at true q w ih = refl
-        at false q (inl w) ih = absurd (not-both (sym (ap f w) ∙ t) q)
-        at false q (inr w) ih = ih w
-
-    go : (b : Bool) → f r ≡ b → b || someOf f rs ≡ true → (someOf f rs ≡ true → someOf f qs ≡ true) → someOf f qs ≡ true
-    go true q k ih = within qs (h r (List·Memᴰ·head refl)) q
-    go false q k ih = ih k
+some-mem f rs qs h e = let (r, m, t) = some-at f rs e in at-some f qs r (h r m) t
 
 -- ---- of tables in order
 

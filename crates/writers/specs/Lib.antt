@@ -15,4 +15,5 @@ pub mod LeftLaws
 pub mod CallLaws
 pub mod ReducedLaws
 -- what the floors above cite
+pub mod RedundantLaws
 pub mod FileLaws
