@@ -18,7 +18,7 @@ use Rattle.readers.specs.Additions.{Adds, adds-as, adds-slots}
 use Rattle.readers.specs.ReadLaws.{Lined}
 use Rattle.readers.specs.RestoreLaws.{RestoredOf, restored-degree, restore-all}
 use Rattle.readers.specs.RestoreSteps.{fileRecords, read-records}
-use Rattle.readers.specs.Redundant.{tableKeeps, keeps-redundant}
+use Rattle.readers.specs.Keeps.{tableKeeps, keeps-redundant}
 use Rattle.readers.specs.BeginLaws.{Filled, full-lines, reduced-lines}
 
 -- ---- the full reader

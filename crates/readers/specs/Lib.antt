@@ -8,5 +8,5 @@ pub mod FaultLaws
 pub mod LineSteps
 pub mod BeginLaws
 pub mod RestoreSteps
-pub mod Redundant
+pub mod Keeps
 pub mod CallLaws

@@ -22,6 +22,7 @@ use Rattle.text.specs.LineLaws.{line-end, line-next}
 use Rattle.text.specs.declared.line.Line.{Line}
 use Rattle.text.specs.declared.line.Line.the-variants.{Good, Bad, End}
 use Rattle.readers.specs.Readers.{Lines, Read, Fault, after, above, noSlot, lineRead, linesFrom, readLines}
+use Rattle.readers.specs.FaultLaws.{fault-number}
 use Rattle.readers.specs.declared.lines.Step.{Step}
 use Rattle.readers.specs.declared.lines.Step.the-variants.{Entered, Over, Faulty}
 
@@ -181,26 +182,11 @@ module _ (f t₀ : List ℕ) (p i : ℕ) (q : Option Record) (t : List ℕ) (w :
   pub reading-over : Over ≡ stepAt q t (lineAt f p) → Ended (readLines f t₀) 0 0 t
   reading-over e = w .whole 0 0 t (all-read [] (step Over e) refl refl)
 
-  -- the numbers of faults are 8, 9 and 10
-  faults : (number : ℕ) (l : Line) → Faulty number ≡ stepAt q t l → number ≡ 0 → ⊥
-  unfolding enteredStep
-  faults number l e z = go l (ap Faulty (sym z) ∙ e)
-    where
-      bad : {a : ℕ} → Faulty 0 ≡ Faulty (suc a) → ⊥
-      bad {a} h = let x : 0 ≡ suc a = cc in omega arith
-
-      good : (s : Record) (m : ℕ) (a b : Bool) → Faulty 0 ≡ cond a (cond b (Faulty 8) (Entered s m)) (Faulty 10) → ⊥
-      good s m true true h = bad h
-      good s m true false h = let x : _≡_ {A = ℕ} 0 1 = cc in omega arith
-      good s m false b h = bad h
-
-      go : (l : Line) → Faulty 0 ≡ stepAt q t l → ⊥
-      go End h = let x : _≡_ {A = ℕ} 0 1 = cc in omega arith
-      go Bad h = bad h
-      go (Good s m) h = good s m (above q s) (noSlot (findOf t (s .at))) h
-
   pub reading-fault : (number : ℕ) (u : List ℕ) → Faulty number ≡ stepAt q t (lineAt f p) → Ended (readLines f t₀) number i u
-  reading-fault number u e = w .whole number i u (at-fault (step (Faulty number) e) (faults number (lineAt f p) e))
+  reading-fault number u e =
+      let h = step (Faulty number) e in
+      let l = fault-number f (w .left) p i q t number i h in
+      w .whole number i u (at-fault h (λ z. omega arith))
 
   module _ (r : Record) (next : ℕ) (e : Entered r next ≡ stepAt q t (lineAt f p)) where
     -- the next line stands further on

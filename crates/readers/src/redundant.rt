@@ -6,7 +6,7 @@ ghost use Rattle.lattice.specs.RecordLaws.{Inner};
 ghost use Rattle.table.specs.Slots.{Table, slotsOf, slotAt};
 ghost use Rattle.table.specs.Order.{InOrder};
 ghost use Rattle.table.specs.Entries.{lookUp};
-ghost use Rattle.readers.specs.Redundant.{isThree, starKeeps, slotKeeps, tableKeeps};
+ghost use Rattle.readers.specs.Keeps.{isThree, starKeeps, slotKeeps, tableKeeps};
 use lattice::Record;
 use lattice::adjacent_of;
 use table::Looked;

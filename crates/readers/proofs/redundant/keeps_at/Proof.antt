@@ -3,7 +3,7 @@ use borrow.Author.Needs.{needs}
 use mathlib.Core.Path.{_≡_, sym, _∙_, ap}
 use Rattle.lattice.specs.Stars.{adjacentAt}
 use Rattle.table.specs.Entries.{lookUp}
-use Rattle.readers.specs.Redundant.{isThree}
+use Rattle.readers.specs.Keeps.{isThree}
 use Rattle.readers.proofs.redundant.keeps_at.Statement.{statement}
 use Rattle.readers.proofs.redundant.keeps_at.Tie as tie
 

@@ -5,7 +5,7 @@ use Prim.Native.Nat.{ℕ, _-_, _≤_}
 use native.Mathlib.Omega.{arith}
 use Rattle.laws.specs.Each.{at-among}
 use Rattle.table.specs.Slots.{slotAt}
-use Rattle.readers.specs.Redundant.{slotKeeps, tableKeeps, among-more}
+use Rattle.readers.specs.Keeps.{slotKeeps, tableKeeps, among-more}
 use Rattle.readers.proofs.redundant.keeps_redundant.Statement.{statement}
 use Rattle.readers.proofs.redundant.keeps_redundant.Tie as tie
 

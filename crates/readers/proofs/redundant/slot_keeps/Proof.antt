@@ -5,7 +5,7 @@ use native.Mathlib.Omega.{arith}
 use Rattle.table.specs.Slots.{Table, slotAt}
 use Rattle.table.specs.declared.slots.Slot.the-variants.{Holds}
 use Rattle.readers.specs.RestoreSteps.{six-inner}
-use Rattle.readers.specs.Redundant.{slotKeeps, six-keeps, other-keeps}
+use Rattle.readers.specs.Keeps.{slotKeeps, six-keeps, other-keeps}
 use Rattle.readers.proofs.redundant.slot_keeps.Statement.{statement}
 use Rattle.readers.proofs.redundant.slot_keeps.Tie as tie
 

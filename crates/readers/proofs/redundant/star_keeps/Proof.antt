@@ -6,7 +6,7 @@ use native.Mathlib.Omega.{arith}
 use Rattle.laws.specs.Each.{at-among}
 use Rattle.lattice.specs.Stars.{adjacentAt}
 use Rattle.table.specs.Entries.{lookUp}
-use Rattle.readers.specs.Redundant.{isThree, starKeeps, among-more}
+use Rattle.readers.specs.Keeps.{isThree, starKeeps, among-more}
 use Rattle.readers.proofs.redundant.star_keeps.Statement.{statement}
 use Rattle.readers.proofs.redundant.star_keeps.Tie as tie
 
