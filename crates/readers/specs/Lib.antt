@@ -1,7 +1,12 @@
 -- Document 01, "Files", the readers' half, in antt.
 pub mod Readers
--- what the readers do to a table, as laws
 pub mod Additions
 pub mod ReadLaws
 pub mod RestoreLaws
 pub mod FaultLaws
+-- what the code's steps obey
+pub mod LineSteps
+pub mod BeginLaws
+pub mod RestoreSteps
+pub mod Keeps
+pub mod CallLaws

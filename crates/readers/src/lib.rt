@@ -1,1 +1,52 @@
 // The readers of files: document 01, "Files".
+//
+// Two public calls answer every input: `read_full` and `read_reduced`. Their promises cite `readFullOf` and `readReducedOf` of specs/Readers; what follows from
+// them, for whoever stands above, is in specs/ReadLaws and specs/RestoreLaws.
+mod begin;
+mod complete;
+mod lines;
+mod redundant;
+mod restore;
+
+ghost use mathlib.Core.Path.{_≡_};
+ghost use Rattle.readers.specs.Readers.{outcome, readFullOf, readReducedOf};
+use crate::begin::begin;
+use crate::begin::refuse;
+use crate::complete::complete;
+pub use lines::ReadBack;
+use local::all_pass;
+use table::slots_of;
+
+// Reads a full file into a table, with a scratch table of the same length. Refused with 1 both are untouched; else scratch ends all 255, and so does the table where it is refused.
+// Linear in the table's slots and in the file, as long as the searches are short.
+pub fn read_full(table: &mut [u8], scratch: &mut [u8], file: &[u8]) -> ReadBack
+    ensures { λ r. ⌜ outcome (r .number) (r .line) (now (table .exit)) (now (scratch .exit)) ≡ readFullOf (now (table .entry)) (now (scratch .entry)) (now (file .entry)) ⌝ }
+{
+    let read = begin(table, scratch, file);
+    let fault = read.number;
+    if fault != 0 {
+        return read;
+    }
+    let n = slots_of(table);
+    if all_pass(table, n) {
+        return read;
+    }
+    refuse(table, 11, 0)
+}
+
+// Reads a reduced file in the same way: what it leaves out is restored, and a redundant record that it kept is refused with 12.
+pub fn read_reduced(table: &mut [u8], scratch: &mut [u8], file: &[u8]) -> ReadBack
+    ensures { λ r. ⌜ outcome (r .number) (r .line) (now (table .exit)) (now (scratch .exit)) ≡ readReducedOf (now (table .entry)) (now (scratch .entry)) (now (file .entry)) ⌝ }
+{
+    let read = begin(table, scratch, file);
+    let fault = read.number;
+    if fault != 0 {
+        return read;
+    }
+    let n = slots_of(table);
+    let number = complete(table, n, file);
+    if number != 0 {
+        return refuse(table, number, 0);
+    }
+    read
+}
