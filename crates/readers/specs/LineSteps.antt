@@ -21,6 +21,9 @@ use Rattle.text.specs.Line.{lineAt}
 use Rattle.text.specs.LineLaws.{line-end, line-next}
 use Rattle.text.specs.declared.line.Line.{Line}
 use Rattle.text.specs.declared.line.Line.the-variants.{Good, Bad, End}
+use Rattle.reader.specs.Met.{numbered, metAt}
+use Rattle.reader.specs.declared.Met.{Met}
+use Rattle.reader.specs.declared.Met.the-variants as met
 use Rattle.readers.specs.Readers.{Lines, Read, Fault, after, above, noSlot, lineRead, linesFrom, readLines}
 use Rattle.readers.specs.FaultLaws.{fault-number}
 use Rattle.readers.specs.declared.lines.Step.{Step}
@@ -30,36 +33,36 @@ use Rattle.readers.specs.declared.lines.Step.the-variants.{Entered, Over
 abbrev pub lineBefore : ℕ → Record → Option Record
 lineBefore i last = cond (eqb i 1) none (some last)
 
--- what becomes of a line that rises
-unfoldable pub enteredStep : List ℕ → Record → ℕ → Step
-enteredStep t r next = cond (noSlot (findOf t (r .at))) (Faulty 8) (Entered r next)
+-- what becomes of line i where it rises, j being the next one
+unfoldable pub enteredStep : List ℕ → ℕ → Record → ℕ → ℕ → Step
+enteredStep t i r next j = cond (noSlot (findOf t (r .at))) (Faulty 8 i) (Entered r next j)
 
--- what becomes of a line, with q the line before and t the table so far
-abbrev pub stepAt : Option Record → List ℕ → Line → Step
-stepAt q t End = Over
-stepAt q t Bad = Faulty 9
-stepAt q t (Good r next) = cond (above q r) (enteredStep t r next) (Faulty 10)
+-- what becomes of line i, with q the line before and t the table so far
+abbrev pub stepAt : Option Record → List ℕ → ℕ → Met → Step
+stepAt q t i met.Over = Over
+stepAt q t i (met.Fault j) = Faulty 9 j
+stepAt q t i (met.Entry r next j) = cond (above q r) (enteredStep t i r next j) (Faulty 10 i)
 
 -- the table with the line
 abbrev pub tableAfter : List ℕ → Step → List ℕ
-tableAfter t (Entered r next) = enterOf t r
+tableAfter t (Entered r next j) = enterOf t r
 tableAfter t Over = t
-tableAfter t (Faulty number) = t
+tableAfter t (Faulty number j) = t
 
 -- ---- one line
 
-module _ (t : List ℕ) (r : Record) (next : ℕ) where
-  entered-by : (f : Found) → findOf t (r .at) ≡ f → cond (noSlot f) (Faulty 8) (Entered r next) ≡ enteredStep t r next
+module _ (t : List ℕ) (i : ℕ) (r : Record) (next j : ℕ) where
+  entered-by : (f : Found) → findOf t (r .at) ≡ f → cond (noSlot f) (Faulty 8 i) (Entered r next j) ≡ enteredStep t i r next j
   unfolding enteredStep
-  entered-by f e = sym (ap (λ (x : Found). cond (noSlot x) (Faulty 8) (Entered r next)) e)
+  entered-by f e = sym (ap (λ (x : Found). cond (noSlot x) (Faulty 8 i) (Entered r next j)) e)
 
-  pub entered-there : (i : ℕ) → findOf t (r .at) ≡ found.At i → Entered r next ≡ enteredStep t r next
-  entered-there i e = entered-by (found.At i) e
+  pub entered-there : (k : ℕ) → findOf t (r .at) ≡ found.At k → Entered r next j ≡ enteredStep t i r next j
+  entered-there k e = entered-by (found.At k) e
 
-  pub entered-free : (i : ℕ) → findOf t (r .at) ≡ found.Free i → Entered r next ≡ enteredStep t r next
-  entered-free i e = entered-by (found.Free i) e
+  pub entered-free : (k : ℕ) → findOf t (r .at) ≡ found.Free k → Entered r next j ≡ enteredStep t i r next j
+  entered-free k e = entered-by (found.Free k) e
 
-  pub entered-full : findOf t (r .at) ≡ found.Full → Faulty 8 ≡ enteredStep t r next
+  pub entered-full : findOf t (r .at) ≡ found.Full → Faulty 8 i ≡ enteredStep t i r next j
   entered-full e = entered-by found.Full e
 
   -- where no slot is free nothing is entered
@@ -68,29 +71,29 @@ module _ (t : List ℕ) (r : Record) (next : ℕ) where
   full-stays e = ap (enterAt t r) e
 
 -- a good line, not above the one before or above it
-module _ (q : Option Record) (t : List ℕ) (l : Line) (r : Record) (next : ℕ) (good : l ≡ Good r next) where
-  rise-by : (b : Bool) → above q r ≡ b → cond b (enteredStep t r next) (Faulty 10) ≡ stepAt q t l
-  rise-by b h = sym (ap (stepAt q t) good ∙ ap (λ (x : Bool). cond x (enteredStep t r next) (Faulty 10)) h)
+module _ (q : Option Record) (t : List ℕ) (i : ℕ) (l : Met) (r : Record) (next j : ℕ) (good : l ≡ met.Entry r next j) where
+  rise-by : (b : Bool) → above q r ≡ b → cond b (enteredStep t i r next j) (Faulty 10 i) ≡ stepAt q t i l
+  rise-by b h = sym (ap (stepAt q t i) good ∙ ap (λ (x : Bool). cond x (enteredStep t i r next j) (Faulty 10 i)) h)
 
-  pub step-low : above q r ≡ false → Faulty 10 ≡ stepAt q t l
+  pub step-low : above q r ≡ false → Faulty 10 i ≡ stepAt q t i l
   step-low h = rise-by false h
 
-  pub step-high : above q r ≡ true → enteredStep t r next ≡ stepAt q t l
+  pub step-high : above q r ≡ true → enteredStep t i r next j ≡ stepAt q t i l
   step-high h = rise-by true h
 
 -- what a step makes of the lines, `rest` being those that follow
-abbrev follow : ℕ → List ℕ → (Record → ℕ → Lines) → Step → Lines
-follow i t rest (Entered r next) = after r (rest r next)
-follow i t rest Over = Read [] t
-follow i t rest (Faulty number) = Fault number i
+abbrev follow : List ℕ → (Record → ℕ → Lines) → Step → Lines
+follow t rest (Entered r next j) = after r (rest r next)
+follow t rest Over = Read [] t
+follow t rest (Faulty number j) = Fault number j
 
-step-follow : (i : ℕ) (q : Option Record) (t : List ℕ) (rest : Record → ℕ → Lines) (l : Line) → lineRead i q t rest l ≡ follow i t rest (stepAt q t l)
+step-follow : (i : ℕ) (q : Option Record) (t : List ℕ) (rest : Record → ℕ → Lines) (l : Line) → lineRead i q t rest l ≡ follow t rest (stepAt q t i (numbered i l))
 unfolding enteredStep
 step-follow i q t rest End = refl
 step-follow i q t rest Bad = refl
 step-follow i q t rest (Good r next) = go (above q r) (noSlot (findOf t (r .at)))
   where
-    go : (a b : Bool) → cond a (cond b (Fault 8 i) (after r (rest r next))) (Fault 10 i) ≡ follow i t rest (cond a (cond b (Faulty 8) (Entered r next)) (Faulty 10))
+    go : (a b : Bool) → cond a (cond b (Fault 8 i) (after r (rest r next))) (Fault 10 i) ≡ follow t rest (cond a (cond b (Faulty 8 i) (Entered r next (i + 1))) (Faulty 10 i))
     go true true = refl
     go true false = refl
     go false b = refl
@@ -100,36 +103,36 @@ module _ (f : List ℕ) (p i : ℕ) (q : Option Record) (t : List ℕ) where
   abbrev onward : ℕ → Record → ℕ → Lines
   onward left r next = linesFrom f left next (i + 1) (some r) (enterOf t r)
 
-  lines-step : (left : ℕ) → length f ≤ p + left → (s : Step) → s ≡ stepAt q t (lineAt f p) → linesFrom f left p i q t ≡ follow i t (onward (left - 1)) s
+  lines-step : (left : ℕ) → length f ≤ p + left → (s : Step) → s ≡ stepAt q t i (metAt f p i) → linesFrom f left p i q t ≡ follow t (onward (left - 1)) s
   unfolding linesFrom
-  lines-step zero h s e = ap (follow i t (onward 0)) (sym (e ∙ ap (stepAt q t) (line-end f p (omega arith))))
+  lines-step zero h s e = ap (follow t (onward 0)) (sym (e ∙ ap (λ (l : Line). stepAt q t i (numbered i l)) (line-end f p (omega arith))))
   lines-step (suc left) h s e =
       let d : suc left - 1 ≡ left = omega arith in
-      step-follow i q t (onward left) (lineAt f p) ∙ ap (follow i t (onward left)) (sym e) ∙ ap (λ (k : ℕ). follow i t (onward k) s) (sym d)
+      step-follow i q t (onward left) (lineAt f p) ∙ ap (follow t (onward left)) (sym e) ∙ ap (λ (k : ℕ). follow t (onward k) s) (sym d)
 
-  -- a line that was entered is a good one
-  pub step-good : (r : Record) (next : ℕ) → Entered r next ≡ stepAt q t (lineAt f p) → lineAt f p ≡ Good r next
+  -- a line that was entered is a good one, and the next number follows its own
+  pub step-good : (r : Record) (next j : ℕ) → Entered r next j ≡ stepAt q t i (metAt f p i) → (lineAt f p ≡ Good r next) × (j ≡ i + 1)
   unfolding enteredStep
-  step-good r next = go (lineAt f p) refl
+  step-good r next j = go (lineAt f p) refl
     where
-      same : (s : Record) (m : ℕ) → Entered r next ≡ Entered s m → Good s m ≡ Good r next
-      same s m e = cc
+      same : (s : Record) (m : ℕ) → Entered r next j ≡ Entered s m (i + 1) → (Good s m ≡ Good r next) × (j ≡ i + 1)
+      same s m e = (cc, cc)
 
-      never : {A : Type 0} {number : ℕ} → Entered r next ≡ Faulty number → A
+      never : {A : Type 0} {number k : ℕ} → Entered r next j ≡ Faulty number k → A
       never e = absurd (let z : _≡_ {A = ℕ} 0 1 = cc in omega arith)
 
-      over : {A : Type 0} → Entered r next ≡ Over → A
+      over : {A : Type 0} → Entered r next j ≡ Over → A
       over e = absurd (let z : _≡_ {A = ℕ} 0 1 = cc in omega arith)
 
-      good : (s : Record) (m : ℕ) (a b : Bool) → Entered r next ≡ cond a (cond b (Faulty 8) (Entered s m)) (Faulty 10) → Good s m ≡ Good r next
+      good : (s : Record) (m : ℕ) (a b : Bool) → Entered r next j ≡ cond a (cond b (Faulty 8 i) (Entered s m (i + 1))) (Faulty 10 i) → (Good s m ≡ Good r next) × (j ≡ i + 1)
       good s m true true e = never e
       good s m true false e = same s m e
       good s m false b e = never e
 
-      go : (l : Line) → lineAt f p ≡ l → Entered r next ≡ stepAt q t l → lineAt f p ≡ Good r next
+      go : (l : Line) → lineAt f p ≡ l → Entered r next j ≡ stepAt q t i (numbered i l) → (lineAt f p ≡ Good r next) × (j ≡ i + 1)
       go End h e = over e
       go Bad h e = never e
-      go (Good s m) h e = h ∙ good s m (above q s) (noSlot (findOf t (s .at))) e
+      go (Good s m) h e = let g = good s m (above q s) (noSlot (findOf t (s .at))) e in (h ∙ g .0, g .1)
 
 -- ---- all lines
 
@@ -176,36 +179,37 @@ reading-start f t = record {
 }
 
 module _ (f t₀ : List ℕ) (p i : ℕ) (q : Option Record) (t : List ℕ) (w : Reading f t₀ p i q t) where
-  step : (s : Step) → s ≡ stepAt q t (lineAt f p) → linesFrom f (w .left) p i q t ≡ follow i t (onward f p i q t (w .left - 1)) s
+  step : (s : Step) → s ≡ stepAt q t i (metAt f p i) → linesFrom f (w .left) p i q t ≡ follow t (onward f p i q t (w .left - 1)) s
   step s e = lines-step f p i q t (w .left) (w .enough) s e
 
-  pub reading-over : Over ≡ stepAt q t (lineAt f p) → Ended (readLines f t₀) 0 0 t
+  pub reading-over : Over ≡ stepAt q t i (metAt f p i) → Ended (readLines f t₀) 0 0 t
   reading-over e = w .whole 0 0 t (all-read [] (step Over e) refl refl)
 
-  pub reading-fault : (number : ℕ) (u : List ℕ) → Faulty number ≡ stepAt q t (lineAt f p) → Ended (readLines f t₀) number i u
-  reading-fault number u e =
-      let h = step (Faulty number) e in
-      let l = fault-number f (w .left) p i q t number i h in
-      w .whole number i u (at-fault h (λ z. omega arith))
+  pub reading-fault : (number j : ℕ) (u : List ℕ) → Faulty number j ≡ stepAt q t i (metAt f p i) → Ended (readLines f t₀) number j u
+  reading-fault number j u e =
+      let h = step (Faulty number j) e in
+      let l = fault-number f (w .left) p i q t number j h in
+      w .whole number j u (at-fault h (λ z. omega arith))
 
-  module _ (r : Record) (next : ℕ) (e : Entered r next ≡ stepAt q t (lineAt f p)) where
+  module _ (r : Record) (next j : ℕ) (e : Entered r next j ≡ stepAt q t i (metAt f p i)) where
     -- the next line stands further on
     pub reading-next : (p + 12 ≤ next) × (next ≤ length f)
-    reading-next = line-next f p next r (step-good f p i q t r next e)
+    reading-next = line-next f p next r (step-good f p i q t r next j e .0)
 
-    pub reading-more : Reading f t₀ next (i + 1) (lineBefore (i + 1) r) (enterOf t r)
+    pub reading-more : Reading f t₀ next j (lineBefore j r) (enterOf t r)
     reading-more =
         let n = reading-next in
         let h = w .enough in
         let c = w .count in
         let o : lineBefore (i + 1) r ≡ some r = ap (λ (b : Bool). cond b none (some r)) (ne-eqb (i + 1) 1 (omega (arith, w .first))) in
-        subst (λ (x : Option Record). Reading f t₀ next (i + 1) x (enterOf t r)) (sym o)
+        subst (λ (k : ℕ). Reading f t₀ next k (lineBefore k r) (enterOf t r)) (sym (step-good f p i q t r next j e .1))
+        (subst (λ (x : Option Record). Reading f t₀ next (i + 1) x (enterOf t r)) (sym o)
         (record {
           left = w .left - 1;
           enough = omega (arith, n .0);
-          whole = λ number line u d. w .whole number line u (subst (λ (x : Lines). Ended x number line u) (sym (step (Entered r next) e)) (ended-after r (onward f p i q t (w .left - 1) r next) d));
+          whole = λ number line u d. w .whole number line u (subst (λ (x : Lines). Ended x number line u) (sym (step (Entered r next j) e)) (ended-after r (onward f p i q t (w .left - 1) r next) d));
           within = n .1;
           first = omega (arith, w .first);
           count = omega (arith, n .0);
           long = enter-length t r ∙ w .long;
-        })
+        }))

@@ -1,7 +1,8 @@
 // The lines of a file, one after the other, entered into a table.
 ghost use mathlib.Core.Path.{_≡_};
+ghost use Prim.Native.Nat.{_+_, _<_, _^_};
 ghost use Rattle.table.specs.Slots.{Table};
-ghost use Rattle.text.specs.Line.{lineAt};
+ghost use Rattle.reader.specs.Met.{metAt};
 ghost use Rattle.writers.specs.Files.{earlier};
 ghost use Rattle.readers.specs.Readers.{above, readLines};
 ghost use Rattle.readers.specs.LineSteps.{lineBefore, enteredStep, stepAt, tableAfter, Ended};
@@ -9,10 +10,10 @@ use lattice::Depth;
 use lattice::Level;
 use lattice::Point;
 use lattice::Record;
+use reader::Met;
+use reader::line_at;
 use table::Found;
 use table::enter;
-use text::Line;
-use text::parse_line;
 
 // What a reader gives back: document 01's number, and the line at fault, else 0.
 pub struct ReadBack {
@@ -26,11 +27,11 @@ pub fn answer(number: u8, line: u64) -> ReadBack
     ReadBack { number, line }
 }
 
-// What became of a line: its record is entered, and the next line stands at a position; there is none; or it is refused with a number.
+// What became of a line: its record is entered, and the next line stands at a position and has a number; there is none; or it is refused with a number, and this line is at fault.
 pub enum Step {
-    Entered(Record, usize),
+    Entered(Record, usize, u64),
     Over,
-    Faulty(u8),
+    Faulty(u8, u64),
 }
 
 // The line of the vertex at p stands before that of the vertex at q.
@@ -51,33 +52,33 @@ fn rises(line: u64, last: Record, r: Record) -> bool
 }
 
 // Enters the record of a line behind which the next stands at a position: 8 where no slot is free.
-fn enter_line(table: &mut [u8], n: usize, r: Record, next: usize) -> Step
+fn enter_line(table: &mut [u8], n: usize, line: u64, r: Record, next: usize, after: u64) -> Step
     requires { ⌜ Table (now table) n ⌝ }
-    ensures { λ s. ⌜ s ≡ enteredStep (now (table .entry)) r next ⌝ }
+    ensures { λ s. ⌜ s ≡ enteredStep (now (table .entry)) line r next after ⌝ }
     ensures { λ s. ⌜ now (table .exit) ≡ tableAfter (now (table .entry)) s ⌝ }
 {
     let f = enter(table, r, n);
     match f {
-        Found::At(_) => Step::Entered(r, next),
-        Found::Free(_) => Step::Entered(r, next),
-        Found::Full => Step::Faulty(8),
+        Found::At(_) => Step::Entered(r, next, after),
+        Found::Free(_) => Step::Entered(r, next, after),
+        Found::Full => Step::Faulty(8, line),
     }
 }
 
 // The line at a position, the line before it having the record `last`: 9, 10, 8 in this order, or its record is entered.
 fn read_line(table: &mut [u8], n: usize, file: &[u8], at: usize, line: u64, last: Record) -> Step
-    requires { ⌜ Table (now table) n ⌝ }
-    ensures { λ s. ⌜ s ≡ stepAt (lineBefore line last) (now (table .entry)) (lineAt (now (file .entry)) at) ⌝ }
+    requires { ⌜ Table (now table) n × (line + 1 < 2 ^ 64) ⌝ }
+    ensures { λ s. ⌜ s ≡ stepAt (lineBefore line last) (now (table .entry)) line (metAt (now (file .entry)) at line) ⌝ }
     ensures { λ s. ⌜ now (table .exit) ≡ tableAfter (now (table .entry)) s ⌝ }
 {
-    match parse_line(file, at) {
-        Line::End => Step::Over,
-        Line::Bad => Step::Faulty(9),
-        Line::Good(r, next) => {
+    match line_at(file, at, line) {
+        Met::Over => Step::Over,
+        Met::Fault(i) => Step::Faulty(9, i),
+        Met::Entry(r, next, after) => {
             if !rises(line, last, r) {
-                return Step::Faulty(10);
+                return Step::Faulty(10, line);
             }
-            enter_line(table, n, r, next)
+            enter_line(table, n, line, r, next, after)
         }
     }
 }
@@ -108,11 +109,11 @@ pub fn read_lines(table: &mut [u8], n: usize, file: &[u8]) -> ReadBack
         let s = read_line(table, n, file, at, line, last);
         match s {
             Step::Over => return answer(0, 0),
-            Step::Faulty(number) => return answer(number, line),
-            Step::Entered(r, next) => {
+            Step::Faulty(number, i) => return answer(number, i),
+            Step::Entered(r, next, after) => {
                 last = r;
                 at = next;
-                line += 1;
+                line = after;
             }
         }
     }

@@ -3,8 +3,8 @@ use borrow.Author.Needs.{needs}
 use mathlib.Core.Path.{_≡_, refl, sym, _∙_, ap}
 use mathlib.Core.Option.{Option}
 use borrow.Author.Tests.{not-true, not-false}
-use Rattle.text.specs.Line.{lineAt}
-use Rattle.text.specs.declared.line.Line.the-variants.{Good}
+use Rattle.reader.specs.Met.{metAt}
+use Rattle.reader.specs.declared.Met.the-variants.{Entry}
 use Rattle.lattice.specs.declared.records.Record.{Record}
 use Rattle.readers.specs.LineSteps.{lineBefore, stepAt, step-low, step-high}
 use Rattle.readers.proofs.lines.read_line.Statement.{statement}
@@ -21,32 +21,32 @@ module _ (c : tie.After-rises) where
   abbrev s : tie.Start
   s = g .before .before .before .before .before
 
-  good : lineAt (s .args .file .now) (s .args .at) ≡ Good (g .r .given .0 .0) (g .r .given .0 .1 .0)
-  good = sym (g .before .before .parse-line .ensures) ∙ g .r .given .1
+  good : metAt (s .args .file .now) (s .args .at) (s .args .line) ≡ Entry (g .r .given .0 .0) (g .r .given .0 .1 .0) (g .r .given .0 .1 .1 .0)
+  good = sym (g .before .before .line-at .ensures) ∙ g .r .given .1
 
 returns : tie.Need-returns
 returns c =
     let r = c .before in
-    (step-low (q (s r)) (s r .args .table .now) (lineAt (s r .args .file .now) (s r .args .at)) _ _ (good r) (sym (r .rises .ensures) ∙ not-true _ (c .if1 .taken)), refl)
+    (step-low (q (s r)) (s r .args .table .now) (s r .args .line) (metAt (s r .args .file .now) (s r .args .at) (s r .args .line)) _ _ _ (good r) (sym (r .rises .ensures) ∙ not-true _ (c .if1 .taken)), refl)
 
 returns-2 : tie.Need-returns-2
 returns-2 c =
     let l = c .before .before in
     let s = l .before .before .before in
-    (ap (stepAt (q s) (s .args .table .now)) (sym (c .enum-told .given .1) ∙ l .parse-line .ensures), refl)
+    (ap (stepAt (q s) (s .args .table .now) (s .args .line)) (sym (c .enum-told .given .1) ∙ l .line-at .ensures), refl)
 
 returns-3 : tie.Need-returns-3
 returns-3 c =
-    let l = c .before .before in
+    let l = c .before .before .before in
     let s = l .before .before .before in
-    (ap (stepAt (q s) (s .args .table .now)) (sym (c .enum-told2 .given .1) ∙ l .parse-line .ensures), refl)
+    (ap (stepAt (q s) (s .args .table .now) (s .args .line)) (sym (c .before .i .given .1) ∙ l .line-at .ensures), refl)
 
 returns-4 : tie.Need-returns-4
 returns-4 c =
     let e = c .before .before in
     let z = e .before .before in
     let r = z .before in
-    (e .enter-line .ensures .0 ∙ step-high (q (s r)) (s r .args .table .now) (lineAt (s r .args .file .now) (s r .args .at)) _ _ (good r) (sym (r .rises .ensures) ∙ not-false _ (z .if1 .left)), e .enter-line .ensures .1)
+    (e .enter-line .ensures .0 ∙ step-high (q (s r)) (s r .args .table .now) (s r .args .line) (metAt (s r .args .file .now) (s r .args .at) (s r .args .line)) _ _ _ (good r) (sym (r .rises .ensures) ∙ not-false _ (z .if1 .left)), e .enter-line .ensures .1)
 
 pub read-line-spec : {M : Type 1} → statement M
 read-line-spec =

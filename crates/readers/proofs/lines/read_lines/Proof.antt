@@ -8,7 +8,7 @@ use native.Mathlib.Omega.{arith}
 use lib.ListN.{length}
 use Rattle.lattice.specs.declared.records.Record.{Record}
 use Rattle.table.specs.MapLaws.{table-same}
-use Rattle.text.specs.Line.{lineAt}
+use Rattle.reader.specs.Met.{metAt}
 use Rattle.readers.specs.Readers.{readLines}
 use Rattle.readers.specs.LineSteps.{lineBefore, stepAt, tableAfter, ended-as, Reading, reading-start, reading-over, reading-fault, reading-next, reading-more}
 use Rattle.readers.specs.declared.lines.Step.{Step}
@@ -29,7 +29,7 @@ read-line-requires : tie.Need-read-line-requires Inv-loop μ-loop
 read-line-requires c κs =
     let l = c .before in
     let s = l .before .before .before .before in
-    table-same (s .args .table .now) (l .loop .table) (s .args .n) (l .loop .inv .long) (s .pre)
+    (table-same (s .args .table .now) (l .loop .table) (s .args .n) (l .loop .inv .long) (s .pre), omega (arith, l .loop .inv .count, l .loop .inv .within))
 
 -- past a step
 module _ (c : tie.After-read-line Inv-loop μ-loop) where
@@ -45,7 +45,7 @@ module _ (c : tie.After-read-line Inv-loop μ-loop) where
   abbrev q : Option Record
   q = lineBefore (l .loop .line) (l .loop .last)
 
-  was : (x : Step) → c .read-line .result ≡ x → x ≡ stepAt q (l .loop .table) (lineAt f (l .loop .at))
+  was : (x : Step) → c .read-line .result ≡ x → x ≡ stepAt q (l .loop .table) (l .loop .line) (metAt f (l .loop .at) (l .loop .line))
   was x e = sym e ∙ c .read-line .ensures .0
 
   table : (x : Step) → c .read-line .result ≡ x → c .read-line .last .0 ≡ tableAfter (l .loop .table) x
@@ -66,7 +66,7 @@ returns-2 c =
     let k = c .before .before in
     let r = k .before .before .before .before in
     ended-as (readLines (f r) (s r .args .table .now)) (c .answer2 .ensures .0) (c .answer2 .ensures .1) (table r _ (k .s .given .1))
-    (reading-fault (f r) (s r .args .table .now) (l r .loop .at) (l r .loop .line) (q r) (l r .loop .table) (l r .loop .inv) _ (l r .loop .table) (was r _ (k .s .given .1)))
+    (reading-fault (f r) (s r .args .table .now) (l r .loop .at) (l r .loop .line) (q r) (l r .loop .table) (l r .loop .inv) _ _ (l r .loop .table) (was r _ (k .s .given .1)))
 
 -- past a record entered
 module _ (c : tie.After-s2 Inv-loop μ-loop) where
@@ -79,17 +79,14 @@ module _ (c : tie.After-s2 Inv-loop μ-loop) where
   abbrev next : ℕ
   next = c .s2 .given .0 .1 .0
 
-  entered : Entered v next ≡ stepAt (q r) (l r .loop .table) (lineAt (f r) (l r .loop .at))
+  abbrev after : ℕ
+  after = c .s2 .given .0 .1 .1 .0
+
+  entered : Entered v next after ≡ stepAt (q r) (l r .loop .table) (l r .loop .line) (metAt (f r) (l r .loop .at) (l r .loop .line))
   entered = was r _ (c .s2 .given .1)
 
   further : (l r .loop .at + 12 ≤ next) × (next ≤ length (f r))
-  further = reading-next (f r) (s r .args .table .now) (l r .loop .at) (l r .loop .line) (q r) (l r .loop .table) (l r .loop .inv) v next entered
-
-add-line : tie.Need-add-line Inv-loop μ-loop
-add-line c =
-    let k = c .before in
-    let h = l (r k) .loop .inv .count in
-    record { fits = omega (arith, further k .0, c .known-told2 .given .1 .0) }
+  further = reading-next (f r) (s r .args .table .now) (l r .loop .at) (l r .loop .line) (q r) (l r .loop .table) (l r .loop .inv) v next after entered
 
 loop-less : tie.Need-loop-less Inv-loop μ-loop
 loop-less c = let k = c .before in omega (arith, further k)
@@ -97,8 +94,8 @@ loop-less c = let k = c .before in omega (arith, further k)
 loop-again : tie.Need-loop-again Inv-loop μ-loop
 loop-again c =
     let k = c .before in
-    subst (Reading (f (r k)) (s (r k) .args .table .now) (next k) (l (r k) .loop .line + 1) (lineBefore (l (r k) .loop .line + 1) (v k))) (sym (table (r k) _ (k .s2 .given .1)))
-    (reading-more (f (r k)) (s (r k) .args .table .now) (l (r k) .loop .at) (l (r k) .loop .line) (q (r k)) (l (r k) .loop .table) (l (r k) .loop .inv) (v k) (next k) (entered k))
+    subst (Reading (f (r k)) (s (r k) .args .table .now) (next k) (after k) (lineBefore (after k) (v k))) (sym (table (r k) _ (k .s2 .given .1)))
+    (reading-more (f (r k)) (s (r k) .args .table .now) (l (r k) .loop .at) (l (r k) .loop .line) (q (r k)) (l (r k) .loop .table) (l (r k) .loop .inv) (v k) (next k) (after k) (entered k))
 
 pub read-lines-spec : {M : Type 1} → statement M
 read-lines-spec =
@@ -118,6 +115,5 @@ read-lines-spec =
     (λ c. kept (c .before .before .before .before .before .before))
     returns-2
     (λ c. search needs)
-    add-line
     loop-less
     loop-again)
