@@ -1,22 +1,19 @@
 -- The marks, and the list of centres that they stand for.
--- `mark-clear`, `mark-adds` one bit more · `Good`, `good-is`, `reach-is` what a good centre has · `raised-is`, `number-below`, `number-one` its place, and that no two have one · `marks-none`, `marks-more` the marks are the
+-- `Good`, `good-is`, `reach-is` what a good centre has · `raised-is`, `number-below`, `number-one` its place, and that no two have one · `marks-none`, `marks-more` the marks are the
 -- first centres of the list, one after the other · `marked-is`, `unmarked-is`, `listed-marked`, `marked-good`, `bad-range`, `bad-listed` what the code's tests say of a centre · `first-none`, `first-stop`,
 -- `first-good` the search for the first bad one · `first-past`, `none-bad`, `not-bad`, `is-good` none is · `listed-at`, `listed-is` what is listed.
 -- Assumes nothing.
 use mathlib.Core.Path.{_≡_, refl, sym, ap, _∙_, subst}
 use mathlib.Core.Bool.{Bool, true, false, cond, _&&_, _||_, not}
 use mathlib.Core.List.{List}
-use Prim.Native.Nat.{ℕ, zero, suc, _+_, _*_, _-_, _/_, _%_, _≤_, _<_, _^_}
+use Prim.Native.Nat.{ℕ, zero, suc, _+_, _*_, _-_, _/_, _%_, _≤_, _<_}
 use native.Mathlib.Omega.{arith}
 use native.Mathlib.Decide.{ℕ-discrete, decLe}
-use native.Mathlib.Nat.{mod-lt, zero-div}
-use borrow.Author.Tests.{eq-eqb, ne-eqb, eqb-true, eqb-false, leb-true, le-leb, lt-leb}
+use borrow.Author.Tests.{eq-eqb, ne-eqb, eqb-true, leb-true, le-leb, lt-leb}
 use lib.Dec.{eqb, leb, lit<}
 use lib.IntN.{ℤ, pos, natAbs, _+ℤ_, negsuc}
-use lib.ListN.{length, getD, set, replicate, length-set, length-replicate}
-use lib.Seq.{getD-set-same, getD-set-other}
+use lib.ListN.{replicate}
 use lib.Signed.{leZ}
-use Rattle.laws.specs.Bits.{bitOf, bit-set}
 use Rattle.laws.specs.Each.{both-left, both-right, not-both, and-false, among-at, at-among}
 use Rattle.laws.specs.Parts.{up, dn, apart, abs-is, add-is, eqℤ}
 use Rattle.laws.specs.Residue.{modZ, left3-parts, left3-minus, mod-below}
@@ -25,50 +22,10 @@ use Rattle.lattice.specs.Points.{classOf}
 use Rattle.lattice.specs.declared.points.Point.{Point}
 use Rattle.table.specs.Search.{samePoint}
 use Rattle.table.specs.MapLaws.{same-refl}
-use Rattle.laws.specs.Linear.{same}
 use Rattle.table.specs.SearchLaws.{same-true}
 use Rattle.base.specs.Base.{centreAt, goodCentre, listedIn, badAt, firstBad}
-use Rattle.base.specs.Marks.{places, markedAt, Adds, numberOf, inMarks, markBytes, Marked}
-
--- ---- a bit set
-
-module _ (m : List ℕ) (i : ℕ) (clear : markedAt m i ≡ false) where
-  pub mark-clear : bitOf (getD m (i / 8) 0) (i % 8) ≡ 0
-  unfolding markedAt
-  mark-clear =
-      let ne = eqb-false (bitOf (getD m (i / 8) 0) (i % 8)) 1 clear in
-      let l : bitOf (getD m (i / 8) 0) (i % 8) < 2 = mod-lt (getD m (i / 8) 0 / 2 ^ (i % 8)) (lit< tt) in
-      omega arith
-
-  read-back : i / 8 < length m → getD m (i / 8) 0 < 256 → (j : ℕ) → markedAt (set m (i / 8) (getD m (i / 8) 0 + 2 ^ (i % 8))) j ≡ eqb j i || markedAt m j
-  unfolding markedAt
-  read-back inside byte j = go (ℕ-discrete (j / 8) (i / 8)) (ℕ-discrete (j % 8) (i % 8))
-    where
-      x : ℕ
-      x = getD m (i / 8) 0
-
-      u : List ℕ
-      u = set m (i / 8) (x + 2 ^ (i % 8))
-
-      bit : j / 8 ≡ i / 8 → bitOf (getD u (j / 8) 0) (j % 8) ≡ cond (eqb (j % 8) (i % 8)) 1 (bitOf (getD m (j / 8) 0) (j % 8))
-      bit e =
-          ap (λ (k : ℕ). bitOf (getD u k 0) (j % 8)) e ∙ ap (λ (y : ℕ). bitOf y (j % 8)) (getD-set-same m (i / 8) (x + 2 ^ (i % 8)) 0 inside)
-          ∙ bit-set x byte (i % 8) (mod-lt i (lit< tt)) mark-clear (j % 8) (mod-lt j (lit< tt))
-          ∙ ap (λ (k : ℕ). cond (eqb (j % 8) (i % 8)) 1 (bitOf (getD m k 0) (j % 8))) (sym e)
-
-      go : Dec (j / 8 ≡ i / 8) → Dec (j % 8 ≡ i % 8) → markedAt u j ≡ eqb j i || markedAt m j
-      go (yes e) (yes f) =
-          let same : j ≡ i = omega arith in
-          ap (λ (y : ℕ). eqb y 1) (bit e ∙ ap (λ (b : Bool). cond b 1 (bitOf (getD m (j / 8) 0) (j % 8))) (eq-eqb (j % 8) (i % 8) f)) ∙ sym (ap (λ (b : Bool). b || markedAt m j) (eq-eqb j i same))
-      go (yes e) (no f) =
-          let other : j ≡ i → ⊥ = λ q. f (ap (λ (k : ℕ). k % 8) q) in
-          ap (λ (y : ℕ). eqb y 1) (bit e ∙ ap (λ (b : Bool). cond b 1 (bitOf (getD m (j / 8) 0) (j % 8))) (ne-eqb (j % 8) (i % 8) f)) ∙ sym (ap (λ (b : Bool). b || markedAt m j) (ne-eqb j i other))
-      go (no e) f =
-          let other : j ≡ i → ⊥ = λ q. e (ap (λ (k : ℕ). k / 8) q) in
-          ap (λ (y : ℕ). eqb (bitOf y (j % 8)) 1) (getD-set-other m (i / 8) (j / 8) (x + 2 ^ (i % 8)) 0 e) ∙ sym (ap (λ (b : Bool). b || markedAt m j) (ne-eqb j i other))
-
-  pub mark-adds : i / 8 < length m → getD m (i / 8) 0 < 256 → Adds m i (set m (i / 8) (getD m (i / 8) 0 + 2 ^ (i % 8)))
-  mark-adds inside byte = record { long = length-set m (i / 8) (getD m (i / 8) 0 + 2 ^ (i % 8)); reads = λ j. read-back inside byte j }
+use Rattle.marks.specs.Marks.{markedAt, Marks, marked-none}
+use Rattle.base.specs.Marks.{places, numberOf, inMarks, Marked}
 
 -- ---- a good centre
 
@@ -154,31 +111,17 @@ number-one p q g h e =
 
 -- ---- the marks are the first centres of the list
 
-none-marked : (n : ℕ) (cs : List ℤ) → inMarks (replicate n 0) ≡ listedIn cs 0
-unfolding inMarks markedAt listedIn
-none-marked n cs = λ i p. none p i
+pub marks-none : (n : ℕ) (cs : List ℤ) → Marked (replicate n 0) cs 0
+unfolding inMarks listedIn
+marks-none n cs = λ i p. none p i
   where
-    zeros : (n k : ℕ) → _≡_ {A = ℕ} (getD (replicate n 0) k 0) 0
-    zeros zero k = refl
-    zeros (suc n) zero = refl
-    zeros (suc n) (suc k) = zeros n k
-
-    off : (k : ℕ) → markedAt (replicate n 0) k ≡ false
-    off k = ap (λ (x : ℕ). eqb (bitOf x (k % 8)) 1) (zeros n (k / 8)) ∙ clear (2 ^ (k % 8))
-      where
-        clear : (d : ℕ) → eqb (0 / d % 2) 1 ≡ false
-        clear d = ne-eqb (0 / d % 2) 1 (λ e. omega (arith, zero-div d))
+    never : (a b : Bool) → a && (b && false) ≡ false
+    never true true = refl
+    never true false = refl
+    never false b = refl
 
     none : (p : Point) → inMarks (replicate n 0) p ≡ false
-    none p = ap (λ (b : Bool). eqb (p .m .0) 0 && (goodCentre p && b)) (off (numberOf p)) ∙ never (eqb (p .m .0) 0) (goodCentre p)
-      where
-        never : (a b : Bool) → a && (b && false) ≡ false
-        never true true = refl
-        never true false = refl
-        never false b = refl
-
-pub marks-none : (cs : List ℤ) → Marked (replicate markBytes 0) cs 0
-marks-none cs = record { long = length-replicate {A = ℕ} markBytes 0; are = none-marked markBytes cs }
+    none p = ap (λ (b : Bool). eqb (p .m .0) 0 && (goodCentre p && b)) (marked-none n (numberOf p)) ∙ never (eqb (p .m .0) 0) (goodCentre p)
 
 -- of a good centre the marks tell whether it is listed
 module _ (m : List ℕ) (p : Point) where
@@ -191,7 +134,7 @@ module _ (m : List ℕ) (p : Point) where
   unmarked-is g = sym (ap (λ (b : Bool). eqb (p .m .0) 0 && (b && markedAt m (numberOf p))) g ∙ and-false (eqb (p .m .0) 0))
 
 pub listed-marked : (m : List ℕ) (cs : List ℤ) (i : ℕ) (p : Point) → Marked m cs i → p .m .0 ≡ 0 → goodCentre p ≡ true → markedAt m (numberOf p) ≡ listedIn cs i p
-listed-marked m cs i p e d g = marked-is m p d g ∙ (λ k. e .are k p)
+listed-marked m cs i p e d g = marked-is m p d g ∙ (λ k. e k p)
 
 -- what is listed is good
 pub marked-good : (m : List ℕ) (cs : List ℤ) (i : ℕ) (p : Point) → inMarks m ≡ listedIn cs i → listedIn cs i p ≡ true → (p .m .0 ≡ 0) × (goodCentre p ≡ true)
@@ -202,9 +145,9 @@ marked-good m cs i p e h =
       both-left (goodCentre p) (markedAt m (numberOf p)) (both-right (eqb (p .m .0) 0) (goodCentre p && markedAt m (numberOf p)) k),
     )
 
-pub marks-more : (m u : List ℕ) (cs : List ℤ) (i : ℕ) → Marked m cs i → goodCentre (centreAt cs i) ≡ true → Adds m (numberOf (centreAt cs i)) u → Marked u cs (i + 1)
+pub marks-more : (m u : List ℕ) (cs : List ℤ) (i : ℕ) → Marked m cs i → goodCentre (centreAt cs i) ≡ true → Marks m (eqb (numberOf (centreAt cs i))) u → Marked u cs (i + 1)
 unfolding inMarks listedIn
-marks-more m u cs i e g a = record { long = a .long ∙ e .long; are = (λ k p. more p k) ∙ ap (listedIn cs) (let s : suc i ≡ i + 1 = omega arith in s) }
+marks-more m u cs i e g a = (λ k p. more p k) ∙ ap (listedIn cs) (let s : suc i ≡ i + 1 = omega arith in s)
   where
     c : Point
     c = centreAt cs i
@@ -216,10 +159,10 @@ marks-more m u cs i e g a = record { long = a .long ∙ e .long; are = (λ k p. 
     more : (p : Point) → inMarks u p ≡ samePoint c p || listedIn cs i p
     more p = go (samePoint c p) refl
       where
-        other-number : samePoint c p ≡ false → p .m .0 ≡ 0 → goodCentre p ≡ true → eqb (numberOf p) (numberOf c) ≡ false
-        other-number ne d h = ne-eqb (numberOf p) (numberOf c) (λ n.
-            let s = number-one p c (good-is p h) (good-is c g) n in
-            let q : c ≡ p = λ k. pt (sym (s .0) k) (sym (s .1) k) (sym d k) in
+        other-number : samePoint c p ≡ false → p .m .0 ≡ 0 → goodCentre p ≡ true → eqb (numberOf c) (numberOf p) ≡ false
+        other-number ne d h = ne-eqb (numberOf c) (numberOf p) (λ n.
+            let s = number-one c p (good-is c g) (good-is p h) n in
+            let q : c ≡ p = λ k. pt (s .0 k) (s .1 k) (sym d k) in
             not-both (ap (samePoint c) (sym q) ∙ same-refl c) ne)
 
         other : samePoint c p ≡ false → (d h : Bool) → eqb (p .m .0) 0 ≡ d → goodCentre p ≡ h → d && (h && markedAt u (numberOf p)) ≡ d && (h && markedAt m (numberOf p))
@@ -229,7 +172,7 @@ marks-more m u cs i e g a = record { long = a .long ∙ e .long; are = (λ k p. 
 
         go : (s : Bool) → samePoint c p ≡ s → inMarks u p ≡ s || listedIn cs i p
         go true es = subst (λ (x : Point). inMarks u x ≡ true) (same-true c p es) at-centre
-        go false es = other es (eqb (p .m .0) 0) (goodCentre p) refl refl ∙ (λ k. e .are k p)
+        go false es = other es (eqb (p .m .0) 0) (goodCentre p) refl refl ∙ (λ k. e k p)
 
 -- ---- the list judged
 

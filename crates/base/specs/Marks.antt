@@ -1,15 +1,14 @@
--- The code's memory of which centres are listed: one bit for each centre that there can be.
--- `markedAt`, `Adds` a place is marked, and one more · `numberOf` the place of a centre · `inMarks` the centres that are marked, `Marked` they are the first of the list · `Within` points near enough to be stepped from ·
+-- The code's memory of which centres are listed: one mark for each centre that there can be.
+-- `numberOf` the place of a centre · `inMarks` the centres that are marked, `Marked` they are the first of the list · `Within` points near enough to be stepped from ·
 -- `laidBy` what was laid, as the code answers it.
 -- Assumes nothing.
 use mathlib.Core.Path.{_≡_}
-use mathlib.Core.Bool.{Bool, cond, _&&_, _||_}
+use mathlib.Core.Bool.{Bool, cond, _&&_}
 use mathlib.Core.List.{List}
-use Prim.Native.Nat.{ℕ, _+_, _*_, _/_, _%_, _≤_}
+use Prim.Native.Nat.{ℕ, _+_, _*_, _/_, _≤_}
 use lib.Dec.{eqb}
 use lib.IntN.{ℤ, pos, natAbs, _+ℤ_}
-use lib.ListN.{length, getD}
-use Rattle.laws.specs.Bits.{bitOf}
+use Rattle.marks.specs.Marks.{markedAt}
 use Rattle.lattice.specs.declared.points.Point.{Point}
 use Rattle.base.specs.Base.{goodCentre, listedIn, Laid, Room, NoRoom}
 
@@ -20,14 +19,6 @@ places = 83667
 abbrev pub markBytes : ℕ
 markBytes = 10459
 
-unfoldable pub markedAt : List ℕ → ℕ → Bool
-markedAt m i = eqb (bitOf (getD m (i / 8) 0) (i % 8)) 1
-
--- the marks u are those of m, and place i
-pub record Adds (m : List ℕ) (i : ℕ) (u : List ℕ) : Type 0 where
-  pub long : length u ≡ length m
-  pub reads : (j : ℕ) → markedAt u j ≡ eqb j i || markedAt m j
-
 -- the place of a centre: b leaves on division by 3 what a leaves, so that its third tells it
 unfoldable pub numberOf : Point → ℕ
 numberOf p = natAbs (p .a +ℤ pos 250) * 167 + natAbs (p .b +ℤ pos 250) / 3
@@ -37,9 +28,8 @@ unfoldable pub inMarks : List ℕ → Point → Bool
 inMarks m p = eqb (p .m .0) 0 && (goodCentre p && markedAt m (numberOf p))
 
 -- the marks are the first i centres of the list
-pub record Marked (m : List ℕ) (cs : List ℤ) (i : ℕ) : Type 0 where
-  pub long : length m ≡ markBytes
-  pub are : inMarks m ≡ listedIn cs i
+abbrev pub Marked : List ℕ → List ℤ → ℕ → Type 0
+Marked m cs i = inMarks m ≡ listedIn cs i
 
 -- a point of depth 0, whose numbers are at most n
 pub record Within (n : ℕ) (p : Point) : Type 0 where

@@ -7,12 +7,11 @@ ghost use lib.IntN.{natAbs};
 ghost use lib.ListN.{length};
 ghost use Rattle.base.specs.Base.{centreAt, goodCentre, badAt, firstBad};
 ghost use Rattle.base.specs.Marks.{places, numberOf, inMarks, Marked};
-use crate::marks::MARK_BYTES;
-use crate::marks::mark;
-use crate::marks::marked;
 use lattice::Depth;
 use lattice::Point;
 use lattice::class;
+use marks::mark;
+use marks::marked;
 
 // The range of a centre's numbers, and how many numbers b there can be beside an a.
 const LEAST: i32 = -250;
@@ -20,6 +19,9 @@ const LEAST: i32 = -250;
 const MOST: i32 = 250;
 
 const BESIDE: usize = 167;
+
+// The bytes that hold a mark for each of the 501 x 167 possible centres: which of them are listed.
+pub const MARK_BYTES: usize = 10459;
 
 // A number lies in -250..250.
 fn in_reach(x: i32) -> bool

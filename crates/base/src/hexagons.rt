@@ -1,13 +1,12 @@
 // The seven records of a hexagon, and all of them entered: document 01, "Base".
 ghost use mathlib.Core.Path.{_≡_};
 ghost use Prim.Native.Nat.{_<_};
-ghost use lib.ListN.{length};
 ghost use Rattle.table.specs.Slots.{Table};
-ghost use Rattle.base.specs.Base.{centresIn, isCentre, cornerOf, hexagonListed, internal, at0, centreRecord, cornerRecord, hexagonOf, Room, lay, layHexagon, layAll};
+ghost use Rattle.base.specs.Base.{centresIn, isCentre, cornerOf, hexagonListed, internal, at0, cornerRecord, hexagonOf, Room, lay, layHexagon, layAll};
 ghost use Rattle.base.specs.Marks.{inMarks, Within, laidBy};
+use crate::centres::MARK_BYTES;
 use crate::centres::centre_at;
 use crate::centres::is_marked;
-use crate::marks::MARK_BYTES;
 use lattice::Depth;
 use lattice::Level;
 use lattice::Point;

@@ -4,13 +4,12 @@
 // The list is judged first, each centre once: a bit for each centre that there can be says which came before, and then which hexagons are listed.
 mod centres;
 mod hexagons;
-mod marks;
 
 ghost use mathlib.Core.Path.{_≡_};
 ghost use Rattle.base.specs.Base.{outcome, baseOf};
+use crate::centres::MARK_BYTES;
 use crate::centres::first_bad;
 use crate::hexagons::lay_all;
-use crate::marks::MARK_BYTES;
 use table::clear;
 use table::slots_of;
 

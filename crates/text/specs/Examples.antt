@@ -92,6 +92,23 @@ refused : allBad (
 unfolding lineAt spelledAt placeAt starAt signedAt numberAt run value
 refused = refl
 
+-- 256 for m, d, k or n of 0, 0, 0, 0, 0, 0, which a byte would take for 0
+abbrev line : List ℕ → List ℕ → List ℕ → List ℕ → List ℕ
+line m d k n = 48 ∷ 9 ∷ 48 ∷ 9 ∷ m ++ 9 ∷ d ++ 9 ∷ k ++ 9 ∷ n ++ 10 ∷ []
+
+abbrev nought : List ℕ
+nought = 48 ∷ []
+
+abbrev many : List ℕ
+many = 50 ∷ 53 ∷ 54 ∷ []
+
+wrapped : (bad (lineAt (line many nought nought nought) 0)
+    && (bad (lineAt (line nought many nought nought) 0)
+    && (bad (lineAt (line nought nought many nought) 0)
+    && bad (lineAt (line nought nought nought many) 0)))) ≡ true
+unfolding lineAt spelledAt placeAt starAt signedAt numberAt run value
+wrapped = refl
+
 -- an empty line; a last line without its line feed; a blank for a tab; two tabs; five fields; a carriage return before the line feed
 misshapen : (bad (lineAt (10 ∷ []) 0)
     && (bad (lineAt (48 ∷ 9 ∷ 48 ∷ 9 ∷ 48 ∷ 9 ∷ 51 ∷ 9 ∷ 48 ∷ 9 ∷ 48 ∷ []) 0)

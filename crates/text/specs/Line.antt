@@ -44,6 +44,7 @@ lines (r ∷ rs) = lineOf r ++ lines rs
 -- ---- read
 
 -- the most that a numerator, and any other field, is read as
+-- they have no effect on `lineAt`: what it parses is the lines of valid records, whole (LineLaws: `line-write`, `line-read`, `line-bad`)
 abbrev pub far : ℕ
 far = 9999999
 

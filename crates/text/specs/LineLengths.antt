@@ -57,7 +57,10 @@ numeral-below w (pos n) p h = omega (arith, width-below w n p h)
 numeral-below w (negsuc n) p h = omega (arith, width-below w (suc n) p h)
 
 -- the shortest line has six digits
-pub line-least : (r : Record) → 12 ≤ length (lineOf r)
+abbrev pub shortest : ℕ
+shortest = 12
+
+pub line-least : (r : Record) → shortest ≤ length (lineOf r)
 line-least r =
     omega (
       arith,
@@ -71,7 +74,10 @@ line-least r =
     )
 
 -- a valid record's line has at most two signs, and 6, 6, 1, 1, 2, 2 digits
-pub line-most : (r : Record) → validOf r ≡ true → length (lineOf r) ≤ 26
+abbrev pub longest : ℕ
+longest = 26
+
+pub line-most : (r : Record) → validOf r ≡ true → length (lineOf r) ≤ longest
 line-most r v =
     let s = valid-near r v in
     omega (
@@ -85,7 +91,7 @@ line-most r v =
       width-below 2 (r .n .0) (omega arith) (omega (arith, s .n)),
     )
 
-pub lines-least : (rs : List Record) → 12 * length rs ≤ length (lines rs)
+pub lines-least : (rs : List Record) → shortest * length rs ≤ length (lines rs)
 unfolding lines
 lines-least [] = omega arith
 lines-least (r ∷ rs) = omega (arith, line-least r, lines-least rs, length-append (lineOf r) (lines rs))

@@ -1,5 +1,5 @@
 -- How large a valid record's fields are: what bounds the length of its line, and shows that a parser takes each field.
--- `Near` bounds on six fields · `valid-near` a valid record has them.
+-- `widest` the bound of a numerator, `Near` those of six fields · `valid-near` a valid record has them.
 -- Assumes nothing.
 use mathlib.Core.Path.{_≡_, refl}
 use mathlib.Core.Bool.{Bool, true, false, cond, _&&_}
@@ -14,16 +14,20 @@ use Rattle.lattice.specs.Points.{normalAt}
 use Rattle.lattice.specs.Records.{within, orientationsOf, sameParity, suitsOf, validOf}
 use Rattle.lattice.specs.declared.records.Record.{Record}
 
--- the most that each field of a valid record is: 182979 is 251 × 3^6
+-- the most that a numerator of a valid record is
+abbrev pub widest : ℕ
+widest = 251 * 3 ^ 6
+
+-- the most that each field of a valid record is
 pub record Near (r : Record) : Type 0 where
-  pub a : natAbs (r .at .a) ≤ 182979
-  pub b : natAbs (r .at .b) ≤ 182979
+  pub a : natAbs (r .at .a) ≤ widest
+  pub b : natAbs (r .at .b) ≤ widest
   pub m : r .at .m .0 ≤ 6
   pub d : r .d ≤ 6
   pub k : r .k ≤ 11
   pub n : r .n .0 ≤ 12
 
-within-near : (z : ℤ) (m : ℕ) → m ≤ 6 → within z m ≡ true → natAbs z ≤ 182979
+within-near : (z : ℤ) (m : ℕ) → m ≤ 6 → within z m ≡ true → natAbs z ≤ widest
 within-near z m h e = le-trans (leb-true (natAbs z) (251 * 3 ^ m) e) (le-trans (mul-le-mul-left 251 (pow-le-pow-right {n = 3} (lit< tt) h)) (lit≤ tt))
 
 turns-near : (d k : ℕ) → ltb k (orientationsOf d) ≡ true → (d ≤ 6) × (k ≤ 11)

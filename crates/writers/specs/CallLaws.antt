@@ -1,13 +1,11 @@
 -- The calls' cases: `write-disorder`, `write-order` refused with 1 or not · `unmarked-file` with nothing marked the file is the full one.
 -- Assumes nothing.
-use mathlib.Core.Path.{_≡_, refl, sym, ap, _∙_}
+use mathlib.Core.Path.{_≡_, refl, sym, ap}
 use mathlib.Core.Bool.{Bool, true, false, cond, _&&_}
 use mathlib.Core.List.{List, _++_}
-use Prim.Native.Nat.{ℕ, zero, suc, _/_, _%_, _^_}
-use native.Mathlib.Nat.{zero-div}
+use Prim.Native.Nat.{ℕ, zero, suc}
 use lib.Dec.{eqb}
-use lib.ListN.{getD, replicate}
-use Rattle.laws.specs.Bits.{bitOf}
+use lib.ListN.{replicate}
 use Rattle.lattice.specs.declared.records.Record.{Record}
 use Rattle.table.specs.Slots.{slotsOf, slotAt}
 use Rattle.table.specs.Order.{inOrderOf}
@@ -15,8 +13,9 @@ use Rattle.table.specs.Entries.{listed, recordsBelow}
 use Rattle.table.specs.declared.slots.Slot.{Slot}
 use Rattle.table.specs.declared.slots.Slot.the-variants.{Free, Holds}
 use Rattle.text.specs.Line.{lines}
+use Rattle.marks.specs.Marks.{markedAt, marked-none}
 use Rattle.writers.specs.Files.{sorted, fullFile, outcome, putOf, writeOf}
-use Rattle.writers.specs.Kept.{markBytes, markedAt, keptOf, keptAt, standing}
+use Rattle.writers.specs.Kept.{markBytes, keptOf, keptAt, standing}
 use Rattle.writers.specs.LeftLaws.{fileOf}
 
 pub out-is : {n n′ b b′ : ℕ} (o : List ℕ) → n ≡ n′ → b ≡ b′ → outcome n b o ≡ outcome n′ b′ o
@@ -32,15 +31,6 @@ module _ (file t o : List ℕ) where
   write-order e = ap (λ (b : Bool). cond b (putOf file o) (outcome 1 0 o)) (sym e)
 
 -- ---- nothing marked
-
-zeros : (n i : ℕ) → _≡_ {A = ℕ} (getD (replicate n 0) i 0) 0
-zeros zero i = refl
-zeros (suc n) zero = refl
-zeros (suc n) (suc i) = zeros n i
-
-pub marked-none : (n i : ℕ) → markedAt (replicate n 0) i ≡ false
-unfolding markedAt
-marked-none n i = ap (λ (x : ℕ). eqb (bitOf x (i % 8)) 1) (zeros n (i / 8)) ∙ ap (λ (x : ℕ). eqb (x % 2) 1) (zero-div (2 ^ (i % 8)))
 
 kept-all : (t m : List ℕ) (i : ℕ) → markedAt m i ≡ false → keptAt t m i ≡ slotAt t i
 unfolding keptAt

@@ -20,16 +20,16 @@ use Rattle.text.specs.Line.{lines}
 use Rattle.writers.specs.SortLaws.{mem-sort, sort-mem, Rising, Decides, sort-rising, rising-one}
 use Rattle.writers.specs.Files.{before, sorted, fullFile, sixNames, someOf, redundant, leaveOut, reducedFile}
 use Rattle.writers.specs.RedundantLaws.{some-at, at-some}
-use Rattle.writers.specs.Ranks.{rankOf, Close, rank-earlier, rank-one}
+use Rattle.writers.specs.LineOrder.{orderOf, Close, order-earlier, order-one}
 use Rattle.writers.specs.KeptLaws.{close}
 
 -- r's line stands before s's
 abbrev pub Before : Record → Record → Type 0
 Before r s = before r s ≡ true
 
--- the same by ranks
+-- the same by their orders
 abbrev Lower : Record → Record → Type 0
-Lower r s = rankOf (r .at) < rankOf (s .at)
+Lower r s = orderOf (r .at) < orderOf (s .at)
 
 abbrev Closes : List Record → Type 0
 Closes rs = (r : Record) → List·Memᴰ r rs → Close (r .at)
@@ -40,10 +40,10 @@ rises (r ∷ rs) a c = (λ s m. pair s m (c r (List·Memᴰ·head refl)) (c s (L
   where
     pair : (s : Record) → List·Memᴰ s rs → Close (r .at) → Close (s .at) → Decides before Lower r s
     pair s m p q = (
-      λ e. ltb-true (rankOf (r .at)) (rankOf (s .at)) (sym (rank-earlier (r .at) (s .at) p q) ∙ e),
+      λ e. ltb-true (orderOf (r .at)) (orderOf (s .at)) (sym (order-earlier (r .at) (s .at) p q) ∙ e),
       λ e.
-          let h = ltb-false (rankOf (r .at)) (rankOf (s .at)) (sym (rank-earlier (r .at) (s .at) p q) ∙ e) in
-          let ne : rankOf (s .at) ≡ rankOf (r .at) → ⊥ = λ z. a .0 s m (rank-one (s .at) (r .at) q p z) in
+          let h = ltb-false (orderOf (r .at)) (orderOf (s .at)) (sym (order-earlier (r .at) (s .at) p q) ∙ e) in
+          let ne : orderOf (s .at) ≡ orderOf (r .at) → ⊥ = λ z. a .0 s m (order-one (s .at) (r .at) q p z) in
           omega arith,
     )
 
@@ -57,7 +57,7 @@ before-sorted rs a c = go (sorted rs) (λ r m. c r (mem-sort before rs r m)) (lo
     go : (qs : List Record) → Closes qs → Rising Lower qs → Rising Before qs
     go [] c h = tt
     go (r ∷ qs) c h = (
-      λ s m. rank-earlier (r .at) (s .at) (c r (List·Memᴰ·head refl)) (c s (List·Memᴰ·tail m)) ∙ lt-ltb (rankOf (r .at)) (rankOf (s .at)) (h .0 s m),
+      λ s m. order-earlier (r .at) (s .at) (c r (List·Memᴰ·head refl)) (c s (List·Memᴰ·tail m)) ∙ lt-ltb (orderOf (r .at)) (orderOf (s .at)) (h .0 s m),
       go qs (λ s m. c s (List·Memᴰ·tail m)) (h .1),
     )
 
@@ -70,7 +70,7 @@ before-one rs a c qs h f g =
     go : (xs : List Record) → Closes xs → Rising Before xs → Rising Lower xs
     go [] c h = tt
     go (r ∷ xs) c h = (
-      λ s m. ltb-true (rankOf (r .at)) (rankOf (s .at)) (sym (rank-earlier (r .at) (s .at) (c r (List·Memᴰ·head refl)) (c s (List·Memᴰ·tail m))) ∙ h .0 s m),
+      λ s m. ltb-true (orderOf (r .at)) (orderOf (s .at)) (sym (order-earlier (r .at) (s .at) (c r (List·Memᴰ·head refl)) (c s (List·Memᴰ·tail m))) ∙ h .0 s m),
       go xs (λ s m. c s (List·Memᴰ·tail m)) (h .1),
     )
 

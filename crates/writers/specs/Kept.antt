@@ -1,32 +1,25 @@
 -- What the code writes of a table, slot by slot: the records that are not marked to be left out, and their keys.
--- `markedAt` the bit of a slot · `keptAt` what is written of a slot · `standing`, `keysBelow` the records and the keys of the first slots · `recordOf` the record of a key.
+-- `keptAt` what is written of a slot · `standing`, `keysBelow` the records and the keys of the first slots · `recordOf` the record of a key.
 -- Assumes nothing.
 use mathlib.Core.Path.{_≡_}
 use mathlib.Core.Bool.{Bool, cond, _&&_}
 use mathlib.Core.List.{List, [], _∷_, _++_}
-use Prim.Native.Nat.{ℕ, zero, suc, _+_, _/_, _%_}
+use Prim.Native.Nat.{ℕ, zero, suc, _+_, _%_}
 use lib.Dec.{eqb}
 use lib.IntN.{pos}
-use lib.ListN.{getD}
-use Rattle.laws.specs.Bits.{bitOf}
 use Rattle.lattice.specs.Points.{pt}
 use Rattle.lattice.specs.declared.records.Record.{Record}
 use Rattle.table.specs.Slots.{slotAt}
 use Rattle.table.specs.Entries.{listed}
 use Rattle.table.specs.declared.slots.Slot.{Slot}
 use Rattle.table.specs.declared.slots.Slot.the-variants.{Free, Holds}
-use Rattle.writers.specs.Keys.{Put}
-use Rattle.writers.specs.Ranks.{keyOf}
+use Rattle.marks.specs.Marks.{markedAt}
+use Rattle.writers.specs.Keys.{places, Put}
+use Rattle.writers.specs.LineOrder.{keyOf}
 
--- one bit a slot
-abbrev pub places : ℕ
-places = 65536
-
+-- the bytes of a mark for each slot
 abbrev pub markBytes : ℕ
 markBytes = 8192
-
-unfoldable pub markedAt : List ℕ → ℕ → Bool
-markedAt m i = eqb (bitOf (getD m (i / 8) 0) (i % 8)) 1
 
 -- nothing of a free slot, nor of a record of degree 3 that is marked
 abbrev pub keptOf : Bool → Slot → Slot

@@ -24,13 +24,14 @@ use Rattle.table.specs.declared.slots.Slot.the-variants.{Free, Holds}
 use Rattle.text.specs.Line.{lineOf, lines}
 use Rattle.text.specs.LineLaws.{lines-join}
 use Rattle.text.specs.Near.{valid-near}
+use Rattle.marks.specs.Marks.{markedAt}
 use Rattle.writers.specs.Sorting.{insertBy, sortBy}
 use Rattle.writers.specs.SortLaws.{sort-map}
 use Rattle.writers.specs.Files.{before, sorted}
 use Rattle.writers.specs.Tally.{nth}
-use Rattle.writers.specs.Keys.{keyWidth, keyIn, Put}
-use Rattle.writers.specs.Ranks.{rankOf, keyOf, Close, rank-earlier, rank-one}
-use Rattle.writers.specs.Kept.{places, markedAt, keptOf, keptAt, standing, keyed, keysBelow, recordIn, recordOf, Added}
+use Rattle.writers.specs.Keys.{places, keyWidth, keyIn, Put}
+use Rattle.writers.specs.LineOrder.{orderOf, keyOf, Close, order-earlier, order-one}
+use Rattle.writers.specs.Kept.{keptOf, keptAt, standing, keyed, keysBelow, recordIn, recordOf, Added}
 
 -- ---- slot by slot
 
@@ -137,17 +138,17 @@ module _ (t : List ℕ) (o : InOrder t) (f : ℕ → Slot) (part : (i : ℕ) (r 
       one Free e = refl
       one (Holds r) e = λ i. (ap (λ (x : ℕ). recordIn (slotAt t x)) (key-slot r k (few k (omega arith))) ∙ ap recordIn (part k r e)) i ∷ []
 
-  key-order : (r s : Record) (i j : ℕ) → i < places → j < places → (rankOf (r .at) ≡ rankOf (s .at) → i ≡ j) → ltb (keyOf r i) (keyOf s j) ≡ ltb (rankOf (r .at)) (rankOf (s .at))
+  key-order : (r s : Record) (i j : ℕ) → i < places → j < places → (orderOf (r .at) ≡ orderOf (s .at) → i ≡ j) → ltb (keyOf r i) (keyOf s j) ≡ ltb (orderOf (r .at)) (orderOf (s .at))
   unfolding keyOf
-  key-order r s i j hi hj one = go (decLt (rankOf (r .at)) (rankOf (s .at))) (decLt (rankOf (s .at)) (rankOf (r .at)))
+  key-order r s i j hi hj one = go (decLt (orderOf (r .at)) (orderOf (s .at))) (decLt (orderOf (s .at)) (orderOf (r .at)))
     where
-      go : Dec (rankOf (r .at) < rankOf (s .at)) → Dec (rankOf (s .at) < rankOf (r .at)) → ltb (rankOf (r .at) * 65536 + i) (rankOf (s .at) * 65536 + j) ≡ ltb (rankOf (r .at)) (rankOf (s .at))
-      go (yes l) m = lt-ltb (rankOf (r .at) * 65536 + i) (rankOf (s .at) * 65536 + j) (omega arith) ∙ sym (lt-ltb (rankOf (r .at)) (rankOf (s .at)) l)
-      go (no l) (yes m) = le-ltb (rankOf (r .at) * 65536 + i) (rankOf (s .at) * 65536 + j) (omega arith) ∙ sym (le-ltb (rankOf (r .at)) (rankOf (s .at)) (omega arith))
+      go : Dec (orderOf (r .at) < orderOf (s .at)) → Dec (orderOf (s .at) < orderOf (r .at)) → ltb (orderOf (r .at) * places + i) (orderOf (s .at) * places + j) ≡ ltb (orderOf (r .at)) (orderOf (s .at))
+      go (yes l) m = lt-ltb (orderOf (r .at) * places + i) (orderOf (s .at) * places + j) (omega arith) ∙ sym (lt-ltb (orderOf (r .at)) (orderOf (s .at)) l)
+      go (no l) (yes m) = le-ltb (orderOf (r .at) * places + i) (orderOf (s .at) * places + j) (omega arith) ∙ sym (le-ltb (orderOf (r .at)) (orderOf (s .at)) (omega arith))
       go (no l) (no m) =
-          let e : rankOf (r .at) ≡ rankOf (s .at) = omega arith in
+          let e : orderOf (r .at) ≡ orderOf (s .at) = omega arith in
           let q = one e in
-          le-ltb (rankOf (r .at) * 65536 + i) (rankOf (s .at) * 65536 + j) (omega arith) ∙ sym (le-ltb (rankOf (r .at)) (rankOf (s .at)) (omega arith))
+          le-ltb (orderOf (r .at) * places + i) (orderOf (s .at) * places + j) (omega arith) ∙ sym (le-ltb (orderOf (r .at)) (orderOf (s .at)) (omega arith))
 
   keys-order : (v w : ℕ) → List·Memᴰ v (keysBelow f (slotsOf t)) → List·Memᴰ w (keysBelow f (slotsOf t)) → ltb v w ≡ before (recordOf t v) (recordOf t w)
   keys-order v w m n =
@@ -159,8 +160,8 @@ module _ (t : List ℕ) (o : InOrder t) (f : ℕ → Slot) (part : (i : ℕ) (r 
       let cd = close (d .rec) (o .valid (d .slot) (d .rec) (d .below) hd) in
       (λ i. ltb (c .is i) (d .is i))
       ∙ key-order (c .rec) (d .rec) (c .slot) (d .slot) (few (c .slot) (c .below)) (few (d .slot) (d .below))
-      (λ e. o .once (c .slot) (d .slot) (c .rec) (d .rec) (c .below) (d .below) hc hd (rank-one (c .rec .at) (d .rec .at) cc′ cd e))
-      ∙ sym (rank-earlier (c .rec .at) (d .rec .at) cc′ cd)
+      (λ e. o .once (c .slot) (d .slot) (c .rec) (d .rec) (c .below) (d .below) hc hd (order-one (c .rec .at) (d .rec .at) cc′ cd e))
+      ∙ sym (order-earlier (c .rec .at) (d .rec .at) cc′ cd)
       ∙ sym (λ i. before (come-record v c i) (come-record w d i))
 
   -- the records of the sorted keys are the records in file order

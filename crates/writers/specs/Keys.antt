@@ -17,6 +17,10 @@ use Rattle.laws.specs.Sets.{getD-sets-below, getD-sets-above, getD-sets-in}
 use Rattle.writers.specs.Tally.{bit, tally, tally-none, tally-more, tally-change, tally-swap}
 use Rattle.writers.specs.Heaps.{above, Heap, heap-none, Sunk, sunk-start, sunk-step, sunk-stop}
 
+-- the slots of the greatest table: there are no more keys
+abbrev pub places : ℕ
+places = 65536
+
 -- a word's bound, and the bytes of a key
 abbrev pub words : ℕ
 words = 4294967296

@@ -18,14 +18,14 @@ use Rattle.table.specs.Slots.{slotWidth, slotsOf}
 use Rattle.table.specs.Order.{InOrder}
 use Rattle.text.specs.Line.{lineOf, lines}
 use Rattle.text.specs.LineLaws.{lines-join}
-use Rattle.text.specs.LineLengths.{lines-least}
+use Rattle.text.specs.LineLengths.{shortest, lines-least}
 use Rattle.writers.specs.Sorting.{sortBy}
 use Rattle.writers.specs.SortLaws.{sort-length, mem-sort, Rising, rising-at, Decides, sort-rising, at-mem}
 use Rattle.writers.specs.Files.{before, sorted, outcome, putOf}
 use Rattle.writers.specs.Tally.{bit, tally, tally-more, tally-same, tally-last, tally-sort, nth}
 use Rattle.writers.specs.Heaps.{Heap, heap-top, heap-same}
-use Rattle.writers.specs.Keys.{keyWidth, keyIn, key-before, Popped, Sifted}
-use Rattle.writers.specs.Kept.{places, keptAt, standing, keysBelow, recordOf}
+use Rattle.writers.specs.Keys.{places, keyWidth, keyIn, key-before, Popped, Sifted}
+use Rattle.writers.specs.Kept.{keptAt, standing, keysBelow, recordOf}
 use Rattle.writers.specs.KeptLaws.{keys-sorted, keys-inside, keys-few, keys-length, lines-sorted, kept-part, Filled}
 
 -- the file of the records that are not marked
@@ -125,7 +125,7 @@ module _ (t K rest o : List ℕ) (k at : ℕ) (rises : Rising (λ x y. x ≤ y) 
       ap (linesOf t) (drop-cons K k 0 (omega (arith, l .count))) ∙ ap (λ (n : ℕ). lineOf top ++ linesOf t (drop n K)) e
 
   -- the keys left end before the lines
-  keys-end : (j : ℕ) → j ≤ length K → 12 * j ≤ length (linesOf t (take j K))
+  keys-end : (j : ℕ) → j ≤ length K → shortest * j ≤ length (linesOf t (take j K))
   keys-end j h =
       let a = lines-least (map (recordOf t) (take j K)) in
       let b = length-map (take j K) (recordOf t) in
@@ -176,7 +176,7 @@ unfolding lines
 left-end t K rest o at l = ap (λ (n : ℕ). drop n o) (sym (l .place)) ∙ l .done
 
 -- the keys left end where the lines begin, or before
-pub left-room : (t K rest o : List ℕ) (k at : ℕ) → Left t K rest o k at → 12 * k ≤ at
+pub left-room : (t K rest o : List ℕ) (k at : ℕ) → Left t K rest o k at → shortest * k ≤ at
 left-room t K rest o k at l =
     let a = lines-least (map (recordOf t) (take k K)) in
     let b = length-map (take k K) (recordOf t) in
@@ -192,7 +192,7 @@ pub file-long : (t m : List ℕ) → length (lines (standing (keptAt t m) (slots
 file-long t m = sym (lines-sorted before (standing (keptAt t m) (slotsOf t)))
 
 -- the keys take no more room than the file
-pub keys-fit : (t m : List ℕ) → 12 * length (keysOf t m) ≤ length (fileOf t m)
+pub keys-fit : (t m : List ℕ) → shortest * length (keysOf t m) ≤ length (fileOf t m)
 keys-fit t m = omega (arith, file-long t m, keys-length (keptAt t m) (slotsOf t), lines-least (standing (keptAt t m) (slotsOf t)))
 
 pub filled-all : (t m o : List ℕ) (n : ℕ) → n ≡ slotsOf t → {o₁ : List ℕ} {k : ℕ} → Filled o (keysBelow (keptAt t m) n) o₁ k → Filled o (keysOf t m) o₁ k
@@ -201,8 +201,8 @@ filled-all t m o n e {o₁} {k} f = subst (λ (x : ℕ). Filled o (keysBelow (ke
 pub counted-all : (t m : List ℕ) (n : ℕ) → n ≡ slotsOf t → {w : ℕ} → w ≡ length (lines (standing (keptAt t m) n)) → w ≡ length (fileOf t m)
 counted-all t m n e h = h ∙ ap (λ (x : ℕ). length (lines (standing (keptAt t m) x))) e ∙ file-long t m
 
-pub keys-all : (t m : List ℕ) (n : ℕ) → n ≡ slotsOf t → 12 * length (keysBelow (keptAt t m) n) ≤ length (fileOf t m)
-keys-all t m n e = subst (λ (x : ℕ). 12 * length (keysBelow (keptAt t m) x) ≤ length (fileOf t m)) (sym e) (keys-fit t m)
+pub keys-all : (t m : List ℕ) (n : ℕ) → n ≡ slotsOf t → shortest * length (keysBelow (keptAt t m) n) ≤ length (fileOf t m)
+keys-all t m n e = subst (λ (x : ℕ). shortest * length (keysBelow (keptAt t m) x) ≤ length (fileOf t m)) (sym e) (keys-fit t m)
 
 module _ (t m o : List ℕ) (total : ℕ) (long : total ≡ length (fileOf t m)) where
   pub put-short : length o < total → outcome 13 0 o ≡ putOf (fileOf t m) o

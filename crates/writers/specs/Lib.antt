@@ -7,9 +7,9 @@ pub mod SortLaws
 pub mod Tally
 pub mod Heaps
 pub mod Keys
-pub mod Ranks
+pub mod LineOrder
 pub mod Kept
-pub mod Marks
+pub mod Named
 pub mod KeptLaws
 pub mod LeftLaws
 pub mod CallLaws

@@ -24,11 +24,11 @@ use Rattle.table.specs.declared.slots.Slot.the-variants.{Free, Holds}
 use Rattle.table.specs.declared.probe.Found.{Found}
 use Rattle.table.specs.declared.probe.Found.the-variants as found
 use Rattle.text.specs.Line.{lines}
+use Rattle.marks.specs.Marks.{markedAt, Marks, marked-none}
 use Rattle.writers.specs.Files.{sorted, sixNames, someOf, redundant, leaveOut, reducedFile}
-use Rattle.writers.specs.Kept.{markBytes, markedAt, keptOf, keptAt, standing}
-use Rattle.writers.specs.Marks.{Marks, slotFinds, tableFinds}
+use Rattle.writers.specs.Kept.{markBytes, keptOf, keptAt, standing}
+use Rattle.writers.specs.Named.{slotFinds, tableFinds}
 use Rattle.writers.specs.LeftLaws.{fileOf}
-use Rattle.writers.specs.CallLaws.{marked-none}
 
 holds-eq : (a b : Record) → Holds a ≡ Holds b → a ≡ b
 holds-eq a b e = cc

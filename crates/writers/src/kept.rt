@@ -6,13 +6,14 @@ ghost use Rattle.table.specs.Slots.{slotWidth, slotsOf};
 ghost use Rattle.table.specs.Order.{InOrder};
 ghost use Rattle.table.specs.Entries.{listed};
 ghost use Rattle.text.specs.Line.{lines};
-ghost use Rattle.writers.specs.Keys.{keyWidth};
-ghost use Rattle.writers.specs.Kept.{places, keptAt, standing, keyed, keysBelow, Added};
+ghost use Rattle.text.specs.LineLengths.{longest};
+ghost use Rattle.writers.specs.Keys.{places, keyWidth};
+ghost use Rattle.writers.specs.Kept.{keptAt, standing, keyed, keysBelow, Added};
 ghost use Rattle.writers.specs.KeptLaws.{Filled};
 use crate::keys::put_key;
-use crate::marks::MARK_BYTES;
-use crate::marks::marked;
-use crate::ranks::pack;
+use crate::line_order::pack;
+use crate::named::MARK_BYTES;
+use marks::marked;
 use table::Slot;
 use table::read_slot;
 use text::line_length;
@@ -35,7 +36,7 @@ fn kept(table: &[u8], marks: &[u8; MARK_BYTES], i: usize) -> Slot
 // The bytes that are written of slot i.
 fn length_at(table: &[u8], marks: &[u8; MARK_BYTES], i: usize) -> usize
     requires { ⌜ InOrder (now table) × (i < slotsOf (now table)) ⌝ }
-    ensures { λ w. ⌜ (w ≡ length (lines (listed (keptAt (now (table .entry)) (now (marks .entry)) i)))) × (w ≤ 26) ⌝ }
+    ensures { λ w. ⌜ (w ≡ length (lines (listed (keptAt (now (table .entry)) (now (marks .entry)) i)))) × (w ≤ longest) ⌝ }
 {
     match kept(table, marks, i) {
         Slot::Free => 0,

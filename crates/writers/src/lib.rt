@@ -1,6 +1,6 @@
 // The files of a table: document 01, "Files", written into lent bytes.
 //
-// Two public calls answer every table and output: `write_full` and `write_reduced`. kept.rt goes through the slots, marks.rt says which records
+// Two public calls answer every table and output: `write_full` and `write_reduced`. kept.rt goes through the slots, named.rt says which records
 // are left out, keys.rt sorts, lines.rt writes. The promises cite specs/Files.
 ghost use mathlib.Core.Path.{_≡_};
 ghost use Rattle.table.specs.Order.{InOrder};
@@ -10,16 +10,16 @@ ghost use Rattle.writers.specs.LeftLaws.{fileOf};
 
 mod kept;
 mod keys;
+mod line_order;
 mod lines;
-mod marks;
-mod ranks;
+mod named;
 
 use crate::kept::file_length;
 use crate::kept::put_keys;
 use crate::keys::make_heap;
 use crate::lines::write_lines;
-use crate::marks::MARK_BYTES;
-use crate::marks::mark_all;
+use crate::named::MARK_BYTES;
+use crate::named::mark_all;
 use table::in_order;
 use table::slots_of;
 

@@ -5,10 +5,12 @@ ghost use Prim.Native.Nat.{_+_, _*_, _%_, _≤_};
 ghost use lib.ListN.{length, drop};
 ghost use Rattle.table.specs.Slots.{slotWidth};
 ghost use Rattle.table.specs.Order.{InOrder};
-ghost use Rattle.writers.specs.Kept.{places, recordOf};
+ghost use Rattle.writers.specs.Keys.{places};
+ghost use Rattle.writers.specs.Kept.{recordOf};
 ghost use Rattle.writers.specs.LeftLaws.{Ready, fileOf};
 use crate::keys::pop;
-use crate::marks::MARK_BYTES;
+use crate::line_order::PLACES;
+use crate::named::MARK_BYTES;
 use lattice::Depth;
 use lattice::Level;
 use lattice::Point;
@@ -17,8 +19,6 @@ use table::Slot;
 use table::read_slot;
 use text::line_length;
 use text::write_line;
-
-const PLACES: u64 = 65536;
 
 // The record of a key.
 fn record_of(table: &[u8], v: u64) -> Record

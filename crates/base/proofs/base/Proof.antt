@@ -11,7 +11,7 @@ use Rattle.table.specs.SlotLaws.{table-test, slots-table, no-slots}
 use Rattle.table.specs.MapLaws.{clear-table}
 use Rattle.table.specs.Slots.{Table, fitsLength, clearedOf}
 use Rattle.base.proofs.base.Statement.{statement}
-use Rattle.base.specs.Marks.{laidBy}
+use Rattle.base.specs.Marks.{markBytes, laidBy}
 use Rattle.base.specs.Base.{centresIn, badPlace, Room, layAll, laidOf, fromLaid, unpaired, outcome, baseOf}
 use Rattle.base.specs.LayLaws.{base-unfit, base-unpaired, base-bad, base-laid, laid-is, list-empty, list-odd, list-even}
 use Rattle.base.specs.MarkLaws.{marks-none}
@@ -98,7 +98,7 @@ returns-3 c =
     (λ i. outcome (c .answer3 .ensures .0 i) (c .answer3 .ensures .1 i) (cleared k i)) ∙ base-unpaired (t (e k)) (cs (e k)) (fit (e k)) (list-odd (cs (e k)) (o .before .if2 .left) (o .if3 .taken))
 
 first-bad-requires : tie.Need-first-bad-requires
-first-bad-requires c κs = (omega arith, marks-none (cs (e (c .before .before .before))))
+first-bad-requires c κs = (omega arith, marks-none markBytes (cs (e (c .before .before .before))))
 
 returns-4 : tie.Need-returns-4
 returns-4 c =
@@ -111,7 +111,7 @@ lay-all-requires c κs =
     let q = c .before .before in
     let b = q .before in (
       subst (λ (x : List ℕ). Table x (n (e (k b)))) (sym (cleared (k b))) (clear-table (t (e (k b))) (n (e (k b))) (table (e (k b)))),
-      b .first-bad .ensures .1 (omega (arith, q .if4 .left)) .are,
+      b .first-bad .ensures .1 (omega (arith, q .if4 .left)),
     )
 
 returns-5 : tie.Need-returns-5

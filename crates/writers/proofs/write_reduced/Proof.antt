@@ -2,13 +2,11 @@
 use mathlib.Core.Path.{sym, _∙_, ap}
 use mathlib.Core.List.{List}
 use Prim.Native.Nat.{ℕ}
-use lib.ListN.{length-replicate}
 use borrow.Author.Needs.{needs}
 use borrow.Author.Tests.{not-true, not-false}
 use Rattle.table.specs.Order.{InOrder}
 use Rattle.table.specs.MapLaws.{test-order}
 use Rattle.writers.specs.Files.{reducedFile, putOf}
-use Rattle.writers.specs.Kept.{markBytes}
 use Rattle.writers.specs.CallLaws.{out-is, write-disorder, write-order}
 use Rattle.writers.specs.ReducedLaws.{marked-file, marks-are}
 use Rattle.writers.proofs.write_reduced.Statement.{statement}
@@ -26,7 +24,7 @@ ordered : (n : tie.After-slots-of) → InOrder (n .before .before .before .befor
 ordered n = let i = n .before .before in test-order (i .before .before .before .args .table .now) (sym (i .in-order .ensures) ∙ not-false (i .in-order .result) (n .before .if1 .left))
 
 mark-all-requires : tie.Need-mark-all-requires
-mark-all-requires c κs = let n = c .before in (ordered n, (n .slots-of .ensures, length-replicate {A = ℕ} markBytes 0))
+mark-all-requires c κs = let n = c .before in (ordered n, n .slots-of .ensures)
 
 write-kept-requires : tie.Need-write-kept-requires
 write-kept-requires c κs = let n = c .before .before .before .before in (ordered n, n .slots-of .ensures)

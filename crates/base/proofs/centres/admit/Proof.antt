@@ -3,12 +3,14 @@ use mathlib.Core.Path.{_≡_, refl, sym, _∙_, ap, subst}
 use mathlib.Core.List.{List}
 use mathlib.Core.Bool.{true, not}
 use Prim.Native.Nat.{ℕ}
+use lib.Dec.{eqb}
 use lib.IntN.{ℤ}
 use borrow.Author.Tests.{not-true, not-false}
 use borrow.Author.Needs.{needs}
 use Rattle.laws.specs.Each.{not-both}
 use Rattle.base.proofs.centres.admit.Statement.{statement}
-use Rattle.base.specs.Marks.{markedAt, Adds, numberOf}
+use Rattle.marks.specs.Marks.{markedAt, Marks}
+use Rattle.base.specs.Marks.{numberOf}
 use Rattle.base.specs.Base.{centreAt, goodCentre, listedIn, badAt}
 use Rattle.base.specs.MarkLaws.{listed-marked, marks-more, bad-range, bad-listed}
 use Rattle.base.proofs.centres.admit.Tie as tie
@@ -31,14 +33,17 @@ module _ (c : tie.After-is-good) where
 
 -- past the second test: what the marks say
 module _ (c : tie.After-marked) where
+  abbrev n : tie.After-number
+  n = c .before .before .before
+
   abbrev g : tie.After-is-good
-  g = c .before .before .before .before
+  g = n .before .before
 
   good-taken : goodCentre (centreAt (cs g) (i g)) ≡ true
-  good-taken = good-at g ∙ not-false (g .is-good .result) (c .before .before .before .if1 .left)
+  good-taken = good-at g ∙ not-false (g .is-good .result) (n .before .if1 .left)
 
-  number-at : c .before .before .number .result ≡ numberOf (centreAt (cs g) (i g))
-  number-at = c .before .before .number .ensures .0 ∙ ap numberOf (g .before .centre-at .ensures)
+  number-at : n .number .result ≡ numberOf (centreAt (cs g) (i g))
+  number-at = n .number .ensures .0 ∙ ap numberOf (g .before .centre-at .ensures)
 
   listed-at : c .marked .result ≡ listedIn (cs g) (i g) (centreAt (cs g) (i g))
   listed-at = c .marked .ensures ∙ ap (markedAt (m g)) number-at ∙ listed-marked (m g) (cs g) (i g) (centreAt (cs g) (i g)) (s g .pre .1) refl good-taken
@@ -55,20 +60,15 @@ number-requires c κs = let g = c .before in sym (g .is-good .ensures) ∙ not-f
 returns-2 : tie.Need-returns-2
 returns-2 c = (ap not (sym (c .if2 .taken)) ∙ bad-at (c .before), λ q. absurd (not-both q refl))
 
-mark-requires : tie.Need-mark-requires
-mark-requires c κs =
-    let k = c .before .before in
-    ((k .before .before .number .ensures .1, s (g k) .pre .1 .long), sym (k .marked .ensures) ∙ c .before .if2 .left)
-
 returns-3 : tie.Need-returns-3
 returns-3 c =
     let e = c .before .before in
     let k = e .before in (
       ap not (sym (e .if2 .left)) ∙ bad-at k,
-      λ q. marks-more (m (g k)) (c .mark .last .0) (cs (g k)) (i (g k)) (s (g k) .pre .1) (good-taken k) (subst (λ (n : ℕ). Adds (m (g k)) n (c .mark .last .0)) (number-at k) (c .mark .ensures)),
+      λ q. marks-more (m (g k)) (c .mark .last .0) (cs (g k)) (i (g k)) (s (g k) .pre .1) (good-taken k) (subst (λ (n : ℕ). Marks (m (g k)) (eqb n) (c .mark .last .0)) (number-at k) (c .mark .ensures)),
     )
 
 pub admit-spec : {M : Type 1} → statement M
 admit-spec =
     tie.close
-    (tie.spec (λ c κs. search needs) (λ c κs. search needs) returns number-requires (λ c κs. search needs) returns-2 mark-requires returns-3)
+    (tie.spec (λ c κs. search needs) (λ c κs. search needs) returns number-requires (λ c κs. search needs) returns-2 (λ c κs. search needs) returns-3)

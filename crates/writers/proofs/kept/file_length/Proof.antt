@@ -5,13 +5,14 @@ use native.Mathlib.Omega.{arith}
 use lib.ListN.{length}
 use borrow.Author.Needs.{needs}
 use Rattle.text.specs.Line.{lines}
+use Rattle.text.specs.LineLengths.{longest}
 use Rattle.writers.specs.Kept.{keptAt, standing}
 use Rattle.writers.specs.KeptLaws.{standing-start, standing-length}
 use Rattle.writers.proofs.kept.file_length.Statement.{statement}
 use Rattle.writers.proofs.kept.file_length.Tie as tie
 
 abbrev Inv-loop : tie.InvT-loop
-Inv-loop table marks n i₀ total₀ i total = (total ≡ length (lines (standing (keptAt table marks) i))) × (total ≤ 26 * i) × (i ≤ n)
+Inv-loop table marks n i₀ total₀ i total = (total ≡ length (lines (standing (keptAt table marks) i))) × (total ≤ longest * i) × (i ≤ n)
 
 abbrev μ-loop : tie.MeasureT-loop
 μ-loop table marks n i₀ total₀ i total = n - i

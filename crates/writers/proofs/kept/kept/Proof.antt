@@ -15,7 +15,7 @@ returns c =
 returns-2 : tie.Need-returns-2
 returns-2 c =
     let m = c .before .before in
-    let h = m .before .before in
+    let h = m .before .before .before in
     let f = h .before .before in
     let a = f .before .before .args in
     kept-gone (a .table .now) (a .marks .now) (a .i) (h .s .given .0 .0) (m .marked .result) (sym (f .read-slot .ensures) ∙ h .s .given .1) (m .marked .ensures) (c .if1 .taken)
@@ -23,7 +23,7 @@ returns-2 c =
 returns-3 : tie.Need-returns-3
 returns-3 c =
     let m = c .before .before in
-    let h = m .before .before in
+    let h = m .before .before .before in
     let f = h .before .before in
     let a = f .before .before .args in
     kept-stays (a .table .now) (a .marks .now) (a .i) (h .s .given .0 .0) (m .marked .result) (sym (f .read-slot .ensures) ∙ h .s .given .1) (m .marked .ensures) (c .if1 .left)

@@ -3,7 +3,7 @@ use mathlib.Core.Path.{sym, _∙_, subst}
 use Prim.Native.Nat.{ℕ, _≤_}
 use native.Mathlib.Omega.{arith}
 use borrow.Author.Needs.{needs}
-use Rattle.text.specs.LineLengths.{line-most}
+use Rattle.text.specs.LineLengths.{longest, line-most}
 use Rattle.writers.specs.Kept.{keptAt}
 use Rattle.writers.specs.KeptLaws.{slot-room, kept-valid, written-none, written-one}
 use Rattle.writers.proofs.kept.length_at.Statement.{statement}
@@ -28,7 +28,7 @@ returns-2 c =
     let i = s .args .i in
     let r = h .r .given .0 .0 in
     let e = sym (f .kept .ensures) ∙ h .r .given .1 in
-    (c .line-length .ensures ∙ written-one (keptAt t m i) r e, subst (λ (x : ℕ). x ≤ 26) (sym (c .line-length .ensures)) (line-most r (kept-valid t (s .pre .0) m i r (s .pre .1) e)))
+    (c .line-length .ensures ∙ written-one (keptAt t m i) r e, subst (λ (x : ℕ). x ≤ longest) (sym (c .line-length .ensures)) (line-most r (kept-valid t (s .pre .0) m i r (s .pre .1) e)))
 
 pub length-at-spec : {M : Type 1} → statement M
 length-at-spec =

@@ -12,8 +12,8 @@ use Rattle.text.specs.Line.{lineOf}
 use Rattle.table.specs.Slots.{slotWidth}
 use Rattle.writers.specs.Tally.{nth}
 use Rattle.writers.specs.Heaps.{Heap}
-use Rattle.writers.specs.Keys.{keyIn}
-use Rattle.writers.specs.Kept.{places, recordOf}
+use Rattle.writers.specs.Keys.{places, keyIn}
+use Rattle.writers.specs.Kept.{recordOf}
 use Rattle.writers.specs.LeftLaws.{ordered, Left, ordered-rising, ordered-file, ordered-inside, ordered-few, left-start, left-room, left-top, left-place, left-step, left-end}
 use Rattle.writers.proofs.lines.write_lines.Statement.{statement}
 use Rattle.writers.proofs.lines.write_lines.Tie as tie

@@ -1,0 +1,2 @@
+-- One bit for each of many places, in antt.
+pub mod Marks
