@@ -13,11 +13,11 @@ use Rattle.table.specs.MapLaws.{Apart, records-same}
 use Rattle.table.specs.declared.entries.Looked.{Looked}
 use Rattle.table.specs.declared.entries.Looked.the-variants.{Absent, Held}
 use Rattle.writers.specs.SortLaws.{Rising}
-use Rattle.writers.specs.Ranks.{rankOf}
+use Rattle.writers.specs.LineOrder.{orderOf}
 use Rattle.writers.specs.FileLaws.{Before}
 use Rattle.readers.specs.Readers.{Outcome, accepted}
 use Rattle.readers.specs.Additions.{held-absent}
-use Rattle.readers.specs.ReadLaws.{Valid, before-rank}
+use Rattle.readers.specs.ReadLaws.{Valid, before-order}
 use Rattle.readers.specs.RestoreLaws.{Within}
 
 -- the records of table t come back: number 0, line 0, and the reader's table is in order, has the same record as t at every point, and as many of them
@@ -44,6 +44,6 @@ both-within t u f g p = go (lookUp t p) (lookUp u p) refl refl
 pub rising-apart : (rs : List Record) → Rising Before rs → Valid rs → Apart rs
 rising-apart [] h v = tt
 rising-apart (r ∷ rs) h v = (
-  λ q m e. (let l = before-rank r q (v r (List·Memᴰ·head refl)) (v q (List·Memᴰ·tail m)) (h .0 q m) in let k : rankOf (q .at) ≡ rankOf (r .at) = ap rankOf e in omega arith),
+  λ q m e. (let l = before-order r q (v r (List·Memᴰ·head refl)) (v q (List·Memᴰ·tail m)) (h .0 q m) in let k : orderOf (q .at) ≡ orderOf (r .at) = ap orderOf e in omega arith),
   rising-apart rs (h .1) (λ q m. v q (List·Memᴰ·tail m)),
 )

@@ -32,7 +32,7 @@ use Rattle.text.specs.declared.line.Line.{Line}
 use Rattle.text.specs.declared.line.Line.the-variants.{Good, Bad, End}
 use Rattle.writers.specs.SortLaws.{Rising}
 use Rattle.writers.specs.FileLaws.{Before}
-use Rattle.writers.specs.Ranks.{rankOf, rank-earlier}
+use Rattle.writers.specs.LineOrder.{orderOf, order-earlier}
 use Rattle.writers.specs.KeptLaws.{close}
 use Rattle.readers.specs.Readers.{Lines, Read, Fault, after, above, noSlot, lineRead, linesFrom, readLines}
 use Rattle.readers.specs.Additions.{Adds, adds-none, adds-one, adds-then, adds-as, adds-slots, held-absent}
@@ -43,16 +43,16 @@ abbrev pub Valid : List Record → Type 0
 Valid rs = (r : Record) → List·Memᴰ r rs → validOf r ≡ true
 
 module _ (r s : Record) (v : validOf r ≡ true) (w : validOf s ≡ true) where
-  pub before-rank : Before r s → rankOf (r .at) < rankOf (s .at)
-  before-rank h = ltb-true (rankOf (r .at)) (rankOf (s .at)) (sym (rank-earlier (r .at) (s .at) (close r v) (close s w)) ∙ h)
+  pub before-order : Before r s → orderOf (r .at) < orderOf (s .at)
+  before-order h = ltb-true (orderOf (r .at)) (orderOf (s .at)) (sym (order-earlier (r .at) (s .at) (close r v) (close s w)) ∙ h)
 
-  pub rank-before : rankOf (r .at) < rankOf (s .at) → Before r s
-  rank-before h = rank-earlier (r .at) (s .at) (close r v) (close s w) ∙ lt-ltb (rankOf (r .at)) (rankOf (s .at)) h
+  pub order-before : orderOf (r .at) < orderOf (s .at) → Before r s
+  order-before h = order-earlier (r .at) (s .at) (close r v) (close s w) ∙ lt-ltb (orderOf (r .at)) (orderOf (s .at)) h
 
 -- what the ranks of the lines to come are at least
 abbrev pub bound : Option Record → ℕ
 bound none = 0
-bound (some q) = suc (rankOf (q .at))
+bound (some q) = suc (orderOf (q .at))
 
 -- the line before, where there is one, was valid
 abbrev pub Sound : Option Record → Type 0
@@ -61,15 +61,15 @@ Sound (some q) = validOf q ≡ true
 
 -- every point of the table is at the line before or above it
 abbrev pub Below : List ℕ → Option Record → Type 0
-Below t q = (p : Point) (r : Record) → lookUp t p ≡ Held r → rankOf (r .at) < bound q
+Below t q = (p : Point) (r : Record) → lookUp t p ≡ Held r → orderOf (r .at) < bound q
 
-above-bound : (q : Option Record) (r : Record) → Sound q → validOf r ≡ true → above q r ≡ true → bound q ≤ rankOf (r .at)
+above-bound : (q : Option Record) (r : Record) → Sound q → validOf r ≡ true → above q r ≡ true → bound q ≤ orderOf (r .at)
 above-bound none r s v h = omega arith
-above-bound (some q) r s v h = let l = before-rank q r s v h in omega arith
+above-bound (some q) r s v h = let l = before-order q r s v h in omega arith
 
-bound-above : (q : Option Record) (r : Record) → Sound q → validOf r ≡ true → bound q ≤ rankOf (r .at) → above q r ≡ true
+bound-above : (q : Option Record) (r : Record) → Sound q → validOf r ≡ true → bound q ≤ orderOf (r .at) → above q r ≡ true
 bound-above none r s v h = refl
-bound-above (some q) r s v h = rank-before q r s v (omega arith)
+bound-above (some q) r s v h = order-before q r s v (omega arith)
 
 -- ---- the lines from position p on
 
@@ -78,7 +78,7 @@ pub record From (f : List ℕ) (p : ℕ) (q : Option Record) (t : List ℕ) (rs 
   pub text : drop p f ≡ lines rs
   pub rises : Rising Before rs
   pub valid : Valid rs
-  pub later : (r : Record) → List·Memᴰ r rs → bound q ≤ rankOf (r .at)
+  pub later : (r : Record) → List·Memᴰ r rs → bound q ≤ orderOf (r .at)
   pub adds : Adds (λ r. List·Memᴰ r rs) t u
   pub held : (r : Record) → List·Memᴰ r rs → lookUp u (r .at) ≡ Held r
   pub count : length (recordsOf u) ≡ length (recordsOf t) + length rs
@@ -116,13 +116,13 @@ from-end f p q t o h =
     }
 
 -- ---- one line more: r stands at p, above line q, and a slot is there
-module _ (t : List ℕ) (o : InOrder t) (q : Option Record) (low : Below t q) (r : Record) (ok : validOf r ≡ true) (high : bound q ≤ rankOf (r .at)) where
+module _ (t : List ℕ) (o : InOrder t) (q : Option Record) (low : Below t q) (r : Record) (ok : validOf r ≡ true) (high : bound q ≤ orderOf (r .at)) where
   line-absent : lookUp t (r .at) ≡ Absent
   line-absent = go (lookUp t (r .at)) refl
     where
       go : (l : Looked) → lookUp t (r .at) ≡ l → lookUp t (r .at) ≡ Absent
       go Absent e = e
-      go (Held x) e = absurd (let l = low (r .at) x e in let k : rankOf (x .at) ≡ rankOf (r .at) = ap rankOf (lookup-point t o (r .at) x e) in omega arith)
+      go (Held x) e = absurd (let l = low (r .at) x e in let k : orderOf (x .at) ≡ orderOf (r .at) = ap orderOf (lookup-point t o (r .at) x e) in omega arith)
 
   line-room : noSlot (findOf t (r .at)) ≡ false → 0 < freeSlots t
   line-room h = go (searched t (o .fits) (r .at))
@@ -142,9 +142,9 @@ module _ (t : List ℕ) (o : InOrder t) (q : Option Record) (low : Below t q) (r
     line-below : Below (enterOf t r) (some r)
     line-below p x h = go (line-adds (λ y. y ≡ r) refl .only p x h)
       where
-        go : (lookUp t p ≡ Held x) ⊎ (x ≡ r) → rankOf (x .at) < suc (rankOf (r .at))
+        go : (lookUp t p ≡ Held x) ⊎ (x ≡ r) → orderOf (x .at) < suc (orderOf (r .at))
         go (inl k) = let l = low p x k in omega arith
-        go (inr k) = let l : rankOf (x .at) ≡ rankOf (r .at) = ap (λ (y : Record). rankOf (y .at)) k in omega arith
+        go (inr k) = let l : orderOf (x .at) ≡ orderOf (r .at) = ap (λ (y : Record). orderOf (y .at)) k in omega arith
 
     -- the records behind it, with it
     line-from : (f : List ℕ) (p next : ℕ) (rs : List Record) (u : List ℕ) → lineAt f p ≡ Good r next → From f next (some r) (enterOf t r) rs u → From f p q t (r ∷ rs) u
@@ -155,7 +155,7 @@ module _ (t : List ℕ) (o : InOrder t) (q : Option Record) (low : Below t q) (r
         let d = w .count in
         record {
           text = s .here ∙ ap (λ (l : List ℕ). lineOf r ++ l) (w .text);
-          rises = (λ x m. rank-before r x ok (w .valid x m) (w .later x m), w .rises);
+          rises = (λ x m. order-before r x ok (w .valid x m) (w .later x m), w .rises);
           valid = λ x m. sound x (List·Memᴰ·cases-cons m);
           later = λ x m. late x (List·Memᴰ·cases-cons m);
           adds = adds-then (λ x. List·Memᴰ x (r ∷ rs)) t (enterOf t r) u (line-adds (λ x. List·Memᴰ x (r ∷ rs)) (List·Memᴰ·head refl)) (adds-as (λ x. List·Memᴰ x rs) (λ x. List·Memᴰ x (r ∷ rs)) (enterOf t r) u (λ x m. List·Memᴰ·tail m) (w .adds));
@@ -167,8 +167,8 @@ module _ (t : List ℕ) (o : InOrder t) (q : Option Record) (low : Below t q) (r
         sound x (inl h) = ap validOf h ∙ ok
         sound x (inr m) = w .valid x m
 
-        late : (x : Record) → (x ≡ r) ⊎ List·Memᴰ x rs → bound q ≤ rankOf (x .at)
-        late x (inl h) = subst (λ (y : Record). bound q ≤ rankOf (y .at)) (sym h) high
+        late : (x : Record) → (x ≡ r) ⊎ List·Memᴰ x rs → bound q ≤ orderOf (x .at)
+        late x (inl h) = subst (λ (y : Record). bound q ≤ orderOf (y .at)) (sym h) high
         late x (inr m) = let l = w .later x m in omega arith
 
         stays : (x : Record) → (x ≡ r) ⊎ List·Memᴰ x rs → lookUp u (x .at) ≡ Held x
@@ -182,7 +182,7 @@ unfolding linesFrom
 lines-told f zero p i q t o s low h = from-end f p q t o (omega arith)
 lines-told f (suc left) p i q t o s low h = go (lineAt f p) refl (λ r next. lines-told f left next (i + 1) (some r) (enterOf t r))
   where
-    with-it : (r : Record) (next : ℕ) (ok : validOf r ≡ true) (high : bound q ≤ rankOf (r .at)) (free : 0 < freeSlots t) → lineAt f p ≡ Good r next → (x : Lines) → Told f next (some r) (enterOf t r) x → Told f p q t (after r x)
+    with-it : (r : Record) (next : ℕ) (ok : validOf r ≡ true) (high : bound q ≤ orderOf (r .at)) (free : 0 < freeSlots t) → lineAt f p ≡ Good r next → (x : Lines) → Told f next (some r) (enterOf t r) x → Told f p q t (after r x)
     with-it r next ok high free e (Fault number line) w = tt
     with-it r next ok high free e (Read rs u) w = line-from t o q low r ok high free f p next rs u e w
 
@@ -216,7 +216,7 @@ lines-good f left p i q t r next e a b =
     ap (lineRead i q t (λ r next. linesFrom f left next (i + 1) (some r) (enterOf t r))) e ∙ (λ j. cond (a j) (cond (b j) (Fault 8 i) (after r rest)) (Fault 10 i))
 
 pub from-lines : (f : List ℕ) (left p i : ℕ) (q : Option Record) (t : List ℕ) (rs : List Record) → InOrder t → Sound q → Below t q → Rising Before rs → Valid rs
-    → ((r : Record) → List·Memᴰ r rs → bound q ≤ rankOf (r .at)) → length rs ≤ freeSlots t → Stands f p (lines rs) (length f) → length f ≤ p + left
+    → ((r : Record) → List·Memᴰ r rs → bound q ≤ orderOf (r .at)) → length rs ≤ freeSlots t → Stands f p (lines rs) (length f) → length f ≤ p + left
     → (u : List ℕ) × (linesFrom f left p i q t ≡ Read rs u)
 unfolding linesFrom lines
 from-lines f zero p i q t [] o s low rise ok late free st h = (t, refl)
@@ -234,7 +234,7 @@ from-lines f (suc left) p i q t (r ∷ rs) o s low rise ok late free st h =
     let w =
     from-lines f left next (i + 1) (some r) (enterOf t r) rs (line-adds t o q low r valid high some-free (λ z. Unit) tt .order) valid (line-below t o q low r valid high some-free) (rise .1)
     (λ x m. ok x (List·Memᴰ·tail m))
-    (λ x m. before-rank r x valid (ok x (List·Memᴰ·tail m)) (rise .0 x m))
+    (λ x m. before-order r x valid (ok x (List·Memᴰ·tail m)) (rise .0 x m))
     (omega arith)
     (e .1)
     (omega (arith, on)) in
