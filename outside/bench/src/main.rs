@@ -1,4 +1,4 @@
-//! The library beside plain Rust, each task timed by turns in one run; the median of several rounds, per unit, and the ratio.
+//! The library beside plain Rust, each task timed by turns in one run; the least of several rounds, per unit, and the ratio.
 //!
 //! usage: bench [ROUNDS]. `sheets` makes the meshes; `clock` times and prints; `lookups` is the library's search, which no call of the C
 //! interface makes alone. The plain Rust is the crate `plain`: the same flat table,
@@ -225,7 +225,7 @@ fn growth(levels: &[(Vec<u8>, Vec<i32>)], rounds: usize) {
         let (mut out, mut reduced) = (vec![0; 26 * vertices], vec![0; 26 * vertices]);
         let (long, short) = (library::write_full(&after, &mut out).1 as usize, library::write_reduced(&after, &mut reduced).1 as usize);
         let (file, reduced) = (out[..long].to_vec(), reduced[..short].to_vec());
-        let per_vertex = |task: &mut dyn FnMut() -> std::time::Duration| clock::median(rounds, task).as_nanos() as f64 / vertices as f64;
+        let per_vertex = |task: &mut dyn FnMut() -> std::time::Duration| clock::least(rounds, task).as_nanos() as f64 / vertices as f64;
         let subdivide = per_vertex(&mut || {
             let mut table = before.clone();
             clock::time(|| assert_eq!(library::subdivide_all(&mut table, &step[0].1).0, 0))
