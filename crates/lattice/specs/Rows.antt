@@ -1,12 +1,10 @@
 -- The rows of the star patterns as the code's constant tables have them: three numbers a point, in the document's order.
--- `placeOf` a row of a table · `pointOf` a point of it · `placed` what is read at an index · `held-none`, `held-at` which second opposites are none.
+-- `placeOf` a row of a table · `pointOf` a point of it · `held-none`, `held-at` which second opposites are none.
 -- Assumes nothing.
 use mathlib.Core.Path.{_≡_, refl}
-use mathlib.Core.List.{List, [], _∷_, map}
-use Prim.Native.Nat.{ℕ, zero, suc, _≤_, _<_}
+use Prim.Native.Nat.{ℕ, _≤_}
 use native.Mathlib.Omega.{arith}
 use lib.IntN.{pos}
-use lib.ListN.{length, getD}
 use Rattle.lattice.specs.declared.patterns.Spot.the-variants.{At, Nothing}
 use Rattle.lattice.specs.Patterns.{Row}
 use Rattle.lattice.specs.Points.{pt}
@@ -29,12 +27,6 @@ placeOf r = record { 0 = held (At (r .adjacent)); 1 = held (At (r .first)); 2 = 
 
 abbrev pub pointOf : P → Point
 pointOf p = pt (p .0) (p .1) (p .2)
-
--- a table that is put together from rows, read at an index
-pub placed : (rs : List Row) (j : ℕ) (x : Place) (r : Row) → j < length rs → getD (map placeOf rs) j x ≡ placeOf (getD rs j r)
-placed [] j x r h = absurd (omega arith)
-placed (q ∷ rs) zero x r h = refl
-placed (q ∷ rs) (suc j) x r h = placed rs j x r (omega arith)
 
 pub held-none : (s : Spot) → ((p : Point) → s ≡ At p → p .m .0 ≤ 1) → held s .2 ≡ noDepth → s ≡ Nothing
 held-none (At p) h e = absurd (omega (arith, h p refl, e))

@@ -58,17 +58,70 @@ const SIX: [Place; 6] = [
     Place(P(1, -1, 0), P(4, -2, 1), P(2, -1, 0)),
 ];
 
+// Place j of degree 3. Each arm reads at a fixed index: for one known only at run time the compiled code copies the whole table first.
+fn three(j: u8) -> Place
+    requires { ⌜ j < 3 ⌝ }
+    ensures { λ r. ⌜ r ≡ placeOf (patternOf 3 j) ⌝ }
+{
+    match j {
+        0 => THREE[0],
+        1 => THREE[1],
+        _ => THREE[2],
+    }
+}
+
+// Place j of degree 4.
+fn four(j: u8) -> Place
+    requires { ⌜ j < 4 ⌝ }
+    ensures { λ r. ⌜ r ≡ placeOf (patternOf 4 j) ⌝ }
+{
+    match j {
+        0 => FOUR[0],
+        1 => FOUR[1],
+        2 => FOUR[2],
+        _ => FOUR[3],
+    }
+}
+
+// Place j of degree 5.
+fn five(j: u8) -> Place
+    requires { ⌜ j < 5 ⌝ }
+    ensures { λ r. ⌜ r ≡ placeOf (patternOf 5 j) ⌝ }
+{
+    match j {
+        0 => FIVE[0],
+        1 => FIVE[1],
+        2 => FIVE[2],
+        3 => FIVE[3],
+        _ => FIVE[4],
+    }
+}
+
+// Place j of degree 6.
+fn six(j: u8) -> Place
+    requires { ⌜ j < 6 ⌝ }
+    ensures { λ r. ⌜ r ≡ placeOf (patternOf 6 j) ⌝ }
+{
+    match j {
+        0 => SIX[0],
+        1 => SIX[1],
+        2 => SIX[2],
+        3 => SIX[3],
+        4 => SIX[4],
+        _ => SIX[5],
+    }
+}
+
 // Place j of degree d.
 fn pattern(d: u8, j: u8) -> Place
     requires { ⌜ (3 ≤ d) × ((d ≤ 6) × (j < d)) ⌝ }
     ensures { λ r. ⌜ r ≡ placeOf (patternOf d j) ⌝ }
 {
-    let i = j as usize;
     match d {
-        3 => THREE[i],
-        4 => FOUR[i],
-        5 => FIVE[i],
-        _ => SIX[i],
+        3 => three(j),
+        4 => four(j),
+        5 => five(j),
+        _ => six(j),
     }
 }
 

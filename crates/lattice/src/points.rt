@@ -91,13 +91,21 @@ pub fn turned(p: Point, k: u8) -> Point
 
 const POWERS: [i32; 8] = [1, 3, 9, 27, 81, 243, 729, 2187];
 
-// 3 to the k.
+// 3 to the k. Read at fixed indices, as the star patterns are.
 fn power(k: u8) -> i32
     requires { ⌜ k < 8 ⌝ }
     ensures { λ r. ⌜ r ≡ pos (3 ^ k) ⌝ }
 {
-    let i = k as usize;
-    POWERS[i]
+    match k {
+        0 => POWERS[0],
+        1 => POWERS[1],
+        2 => POWERS[2],
+        3 => POWERS[3],
+        4 => POWERS[4],
+        5 => POWERS[5],
+        6 => POWERS[6],
+        _ => POWERS[7],
+    }
 }
 
 fn deeper(m: u8, n: u8) -> u8

@@ -4,13 +4,15 @@
 -- greatest key taken off: `pop-heap`, `pop-popped`.
 -- Assumes nothing.
 use mathlib.Core.Path.{_≡_, refl, sym, ap, _∙_}
+use mathlib.Core.Bool.{Bool, true, false, cond}
 use mathlib.Core.List.{List, [], _∷_}
 use Prim.Native.Nat.{ℕ, suc, _+_, _*_, _%_, _/_, _≤_, _<_}
 use native.Mathlib.Omega.{arith}
 use native.Mathlib.Decide.{decLt, ℕ-discrete}
 use native.Mathlib.Nat.{mod-add-div}
+use borrow.Author.Tests.{ltb-true, ltb-false}
 use lib.ListN.{length, getD, set, drop}
-use lib.Dec.{eqb}
+use lib.Dec.{eqb, ltb}
 use lib.Seq.{sets, length-sets, drop-set-lt, drop-drop}
 use Rattle.laws.specs.Words.{wordAt, wordBytes, word-of, word-back}
 use Rattle.laws.specs.Sets.{getD-sets-below, getD-sets-above, getD-sets-in}
@@ -198,6 +200,19 @@ greatest-right f i k h g = record {
         let y : c ≡ 2 * i + 1 + 1 = omega arith in
         let z : f c ≡ f (2 * i + 1 + 1) = ap f y in
         omega arith
+
+-- of two, the left one or the one after it
+pub greatest-either : (f : ℕ → ℕ) (i k r : ℕ) → 2 * i + 1 + 1 < k → r ≡ cond (ltb (f (2 * i + 1)) (f (2 * i + 1 + 1))) 1 0 → Greatest f i k (2 * i + 1 + r)
+greatest-either f i k r h e = go (ltb (f (2 * i + 1)) (f (2 * i + 1 + 1))) refl e
+  where
+    go : (b : Bool) → ltb (f (2 * i + 1)) (f (2 * i + 1 + 1)) ≡ b → r ≡ cond b 1 0 → Greatest f i k (2 * i + 1 + r)
+    go true x z =
+        let l = ltb-true (f (2 * i + 1)) (f (2 * i + 1 + 1)) x in
+        let y : 2 * i + 1 + r ≡ 2 * i + 1 + 1 = omega (arith, z) in
+        rw y (greatest-right f i k h (omega (arith, l)))
+    go false x z =
+        let y : 2 * i + 1 + r ≡ 2 * i + 1 = omega (arith, z) in
+        rw y (greatest-left f i k (omega arith) (λ _. ltb-false (f (2 * i + 1)) (f (2 * i + 1 + 1)) x))
 
 pub greatest-past : {f : ℕ → ℕ} {i k j : ℕ} → Greatest f i k j → j < k → i < j
 greatest-past {f} {i} {k} {j} g l =

@@ -1,4 +1,5 @@
-//! Timing by turns: the library, plain Rust and, where there is one, a third; the median of the rounds.
+//! Timing by turns: the library, plain Rust and, where there is one, a third; the least of the rounds, which other work on the machine
+//! disturbs least.
 
 use std::time::{Duration, Instant};
 
@@ -21,13 +22,8 @@ pub fn time<T>(f: impl FnOnce() -> T) -> Duration {
     start.elapsed()
 }
 
-fn middle(mut times: Vec<Duration>) -> Duration {
-    times.sort_unstable();
-    times[times.len() / 2]
-}
-
-pub fn median(rounds: usize, task: Timed) -> Duration {
-    middle((0..rounds).map(|_| task()).collect())
+pub fn least(rounds: usize, task: Timed) -> Duration {
+    (0..rounds).map(|_| task()).min().expect("a round")
 }
 
 impl Bench {
@@ -46,7 +42,7 @@ impl Bench {
             }
         }
         let [library, plain, third] = times;
-        let per_unit = |times: Vec<Duration>| middle(times).as_nanos() as f64 / task.units as f64;
+        let per_unit = |times: Vec<Duration>| times.into_iter().min().expect("a round").as_nanos() as f64 / task.units as f64;
         let has_third = !third.is_empty();
         let (library, plain) = (per_unit(library), per_unit(plain));
         let mut line = format!("  {:36} {library:>11.1} {plain:>11.1} {:>6.2}", task.name, library / plain);
@@ -61,7 +57,7 @@ impl Bench {
 
     pub fn print(&self) {
         println!(
-            "median of {} rounds\n  {:36} {:>11} {:>11} {:>6} {:>11} {:>6}",
+            "least of {} rounds\n  {:36} {:>11} {:>11} {:>6} {:>11} {:>6}",
             self.rounds, "", "library", "plain Rust", "ratio", "HashMap", "ratio"
         );
         self.lines.iter().for_each(|line| println!("{line}"));

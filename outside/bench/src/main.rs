@@ -1,16 +1,21 @@
-//! The library beside plain Rust, each task timed by turns in one run; the median of several rounds, per unit, and the ratio.
+//! The library beside plain Rust, each task timed by turns in one run; the least of several rounds, per unit, and the ratio.
 //!
-//! usage: bench [ROUNDS]. `sheets` makes the meshes; `clock` times and prints. The plain Rust is the crate `plain`: the same flat table,
-//! a constant table of stars, sort_unstable, the local check; for subdivision also the same algorithm on std's HashMap.
+//! usage: bench [ROUNDS]. `sheets` makes the meshes; `clock` times and prints; `lookups` is the library's search, which no call of the C
+//! interface makes alone. The plain Rust is the crate `plain`: the same flat table,
+//! a constant table of stars, sort_unstable, the local check; for searches and subdivision also the same algorithm on std's HashMap.
+//! What needs a call that the library has not got is left out.
 
 mod clock;
+mod lookups;
 mod sheets;
 
 use clock::{Bench, Task};
+use differential::rng::Rng;
+use differential::suite::absent;
 use flaskbloom::slices as library;
 use plain::lattice::{Point, Star};
 use plain::mesh::{records, subdivide_in};
-use plain::table::{in_order, SLOT};
+use plain::table::{find, in_order, SLOT};
 use sheets::*;
 use std::collections::HashMap;
 use std::hint::black_box;
@@ -21,6 +26,7 @@ fn main() {
     let rounds = std::env::args().nth(1).map_or(9, |word| word.parse().expect("a number of rounds"));
     let mut bench = Bench::new(rounds);
     stars(&mut bench);
+    searches(&mut bench);
     order(&mut bench);
     base(&mut bench);
     let levels = levels();
@@ -45,6 +51,34 @@ fn stars(bench: &mut Bench) {
     assert_eq!(all(&by_library), all(&by_plain));
     let task = Task { name: "star call", unit: "star", units: list.len() };
     bench.run(task, &mut || clock::time(|| black_box(all(&by_library))), &mut || clock::time(|| black_box(all(&by_plain))), None);
+}
+
+/// Every point of a table in random order, and as many that are not in it.
+fn searches(bench: &mut Bench) {
+    for (names, load) in [(["lookup, load 0.5, hit", "lookup, load 0.5, miss"], 0.5), (["lookup, load 0.9, hit", "lookup, load 0.9, miss"], 0.9)] {
+        let table = based_to((MOST as f64 * load) as usize, MOST);
+        let map: HashMap<Point, Star> = records(&table).collect();
+        let mut there: Vec<Point> = map.keys().copied().collect();
+        let mut elsewhere: Vec<Point> = (-250..=250).flat_map(|a| (-250..=250).map(move |b| Point { a, b, m: 0 })).filter(|p| !map.contains_key(p)).collect();
+        there.sort_unstable_by_key(|p| (p.a, p.b));
+        Rng::new(1).shuffle(&mut there);
+        Rng::new(2).shuffle(&mut elsewhere);
+        elsewhere.truncate(there.len());
+        for (name, list) in names.into_iter().zip([there, elsewhere]) {
+            let flat: Vec<i32> = list.iter().flat_map(|p| [p.a, p.b]).collect();
+            let by_library = || lookups::held(&table, &flat, 0);
+            let by_plain = || flat.chunks_exact(2).filter(|p| find(&table, Point { a: p[0], b: p[1], m: 0 }).is_some()).count() as u64;
+            let by_map = || flat.chunks_exact(2).filter(|p| map.contains_key(&Point { a: p[0], b: p[1], m: 0 })).count() as u64;
+            assert_eq!((by_library(), by_library()), (by_plain(), by_map()));
+            let task = Task { name, unit: "search", units: list.len() };
+            bench.run(
+                task,
+                &mut || clock::time(|| black_box(by_library())),
+                &mut || clock::time(|| black_box(by_plain())),
+                Some(&mut || clock::time(|| black_box(by_map()))),
+            );
+        }
+    }
 }
 
 /// A query of an absent point ends right after the test of the table.
@@ -149,6 +183,9 @@ fn files(bench: &mut Bench, table: &[u8]) {
         let both = std::cell::RefCell::new(write);
         let task = Task { name, unit: "vertex", units: vertices };
         bench.run(task, &mut || both.borrow_mut()(by_library).0, &mut || both.borrow_mut()(by_plain).0, None);
+        if absent(reader) {
+            continue;
+        }
         let read = |call: Read| {
             let (mut table, mut scratch) = (vec![0; MOST * SLOT], vec![0; MOST * SLOT]);
             clock::time(|| assert_eq!(call(&mut table, &mut scratch, &file), (0, 0)))
@@ -159,6 +196,9 @@ fn files(bench: &mut Bench, table: &[u8]) {
 }
 
 fn census(bench: &mut Bench) {
+    if absent("census") {
+        return;
+    }
     let input = largest_input();
     let vertices = input.iter().filter(|byte| **byte == b'\n').count();
     let (mut table, mut scratch, mut out) = (vec![0; 5461 * SLOT], vec![0; 5461 * SLOT], [0; 128]);
@@ -185,7 +225,7 @@ fn growth(levels: &[(Vec<u8>, Vec<i32>)], rounds: usize) {
         let (mut out, mut reduced) = (vec![0; 26 * vertices], vec![0; 26 * vertices]);
         let (long, short) = (library::write_full(&after, &mut out).1 as usize, library::write_reduced(&after, &mut reduced).1 as usize);
         let (file, reduced) = (out[..long].to_vec(), reduced[..short].to_vec());
-        let per_vertex = |task: &mut dyn FnMut() -> std::time::Duration| clock::median(rounds, task).as_nanos() as f64 / vertices as f64;
+        let per_vertex = |task: &mut dyn FnMut() -> std::time::Duration| clock::least(rounds, task).as_nanos() as f64 / vertices as f64;
         let subdivide = per_vertex(&mut || {
             let mut table = before.clone();
             clock::time(|| assert_eq!(library::subdivide_all(&mut table, &step[0].1).0, 0))
@@ -193,8 +233,12 @@ fn growth(levels: &[(Vec<u8>, Vec<i32>)], rounds: usize) {
         let (mut table, mut scratch) = (after.clone(), after.clone());
         let full = per_vertex(&mut || clock::time(|| assert_eq!(library::write_full(&after, &mut out).0, 0)));
         let less = per_vertex(&mut || clock::time(|| assert_eq!(library::write_reduced(&after, &mut out).0, 0)));
-        let read = per_vertex(&mut || clock::time(|| assert_eq!(library::read_full(&mut table, &mut scratch, &file).0, 0)));
-        let read_less = per_vertex(&mut || clock::time(|| assert_eq!(library::read_reduced(&mut table, &mut scratch, &reduced).0, 0)));
+        let mut reading = |name: &str, call: Read, file: &[u8]| match absent(name) {
+            true => f64::NAN,
+            false => per_vertex(&mut || clock::time(|| assert_eq!(call(&mut table, &mut scratch, file).0, 0))),
+        };
+        let read = reading("read_full", library::read_full, &file);
+        let read_less = reading("read_reduced", library::read_reduced, &reduced);
         println!("  {vertices:>8} {subdivide:>14.0} {full:>11.0} {less:>12.0} {read:>10.0} {read_less:>13.0}");
     }
 }

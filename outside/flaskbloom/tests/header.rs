@@ -1,4 +1,5 @@
-//! The declarations of src/raw.rs are include/flaskbloom.h's, function by function: names, order and types of parameters.
+//! The declarations of src/raw.rs, and the exported functions of the library's source, are include/flaskbloom.h's, function by function:
+//! names, order and types of parameters. Nothing else checks either.
 
 /// The text between `from` and `to` without comments, cut into functions: names and parameters without blanks.
 fn functions(text: &str, ends: &str) -> Vec<(String, Vec<String>)> {
@@ -47,12 +48,47 @@ fn without_comments(text: &str) -> String {
     out + rest
 }
 
+fn header() -> Vec<(String, Vec<String>)> {
+    let in_c = functions(&without_comments(include_str!("../../../include/flaskbloom.h")), ";");
+    in_c.into_iter().map(|(name, list)| (name, list.iter().map(|p| in_rust(p)).collect())).collect()
+}
+
 #[test]
 fn raw_is_the_header() {
-    let header = include_str!("../../../include/flaskbloom.h");
     let raw = include_str!("../src/raw.rs");
-    let in_c = functions(&without_comments(header), ";");
-    let in_c: Vec<_> = in_c.into_iter().map(|(name, list)| (name, list.iter().map(|p| in_rust(p)).collect::<Vec<_>>())).collect();
-    assert_eq!(in_c.len(), 12);
-    assert_eq!(functions(raw.split_once("extern").expect("the block").1, ";"), in_c);
+    assert_eq!(header().len(), 12);
+    assert_eq!(functions(raw.split_once("extern").expect("the block").1, ";"), header());
+}
+
+/// A parameter of a Rattle function as C's caller sees it: a slice is a pointer and its length, a reference a pointer.
+fn seen_from_c(parameter: &str) -> Vec<String> {
+    let (name, kind) = parameter.split_once(": ").expect("a name and a type");
+    let Some(behind) = kind.strip_prefix('&') else { return vec![parameter.to_string()] };
+    let (pointer, behind) = behind.strip_prefix("mut ").map_or(("*const", behind), |rest| ("*mut", rest));
+    let element = behind.trim_matches(['[', ']']).split(';').next().expect("a part");
+    let length = if name == "centres" || name == "points" { "count".to_string() } else { format!("{name}_len") };
+    let is_slice = behind.starts_with('[') && !behind.contains(';');
+    [format!("{name}: {pointer} {element}")].into_iter().chain(is_slice.then(|| format!("{length}: usize"))).collect()
+}
+
+#[test]
+fn the_library_is_the_header() {
+    let source = [
+        include_str!("../../../crates/flaskbloom/src/points.rt"),
+        include_str!("../../../crates/flaskbloom/src/meshes.rt"),
+        include_str!("../../../crates/flaskbloom/src/files.rt"),
+    ]
+    .concat();
+    let exported = source.split("#[no_mangle]").skip(1).map(|text| text.split_once("ensures").expect("a promise").0);
+    let mut found: Vec<(String, Vec<String>)> = Vec::new();
+    for text in exported {
+        assert!(text.contains("pub extern \"C\" fn") && text.trim_end().ends_with("-> u8"), "{text}");
+        let (name, list) = functions(text, "->").remove(0);
+        found.push((name, list.iter().flat_map(|p| seen_from_c(p)).collect()));
+    }
+    let absent = std::env::var("FLASKBLOOM_ABSENT").unwrap_or_default();
+    let mut wanted: Vec<_> = header().into_iter().filter(|(name, _)| !absent.split_whitespace().any(|a| a == name)).collect();
+    found.sort();
+    wanted.sort();
+    assert_eq!(found, wanted);
 }

@@ -1,31 +1,47 @@
--- `lattice::points::power` meets its promise. Assumes nothing.
+-- `lattice::points::power` meets its promise: the power at each number. Assumes nothing.
+use mathlib.Core.Path.{_≡_, sym, ap}
+use Prim.Native.Nat.{ℕ, _^_, _≤_, _<_}
+use native.Mathlib.Omega.{arith}
 use borrow.Author.Needs.{needs}
-use mathlib.Core.List.{List, [], _∷_}
-use Prim.Native.Nat.{ℕ, _^_}
 use lib.IntN.{ℤ, pos}
-use lib.ListN.{getD}
-use mir.Syntax.{w32}
-use mir.Val.{toZ, ofZ}
-use Rattle.laws.specs.Rules.{eqZ, eqZ→eq, upto-at}
 use Rattle.lattice.proofs.points.power.Statement.{statement}
 use Rattle.lattice.proofs.points.power.Tie as tie
 
-powers : List ℤ
-powers = pos 1 ∷ pos 3 ∷ pos 9 ∷ pos 27 ∷ pos 81 ∷ pos 243 ∷ pos 729 ∷ pos 2187 ∷ []
+abbrev of-three : ℕ → ℤ
+of-three k = pos (3 ^ k)
 
--- the entry at k, as the machine reads it
-entry : ℕ → ℤ
-entry k = toZ w32 (ofZ w32 (getD powers k (pos 0)))
+-- past the other arms it is 7, in two steps
+past-three : (k : ℕ) → (k ≡ 0 → ⊥) → (k ≡ 1 → ⊥) → (k ≡ 2 → ⊥) → (k ≡ 3 → ⊥) → 4 ≤ k
+past-three k a b c d = omega arith
 
-mul-result : tie.Need-mul-result
-mul-result c = search needs
+past-six : (k : ℕ) → k < 8 → 4 ≤ k → (k ≡ 4 → ⊥) → (k ≡ 5 → ⊥) → (k ≡ 6 → ⊥) → k ≡ 7
+past-six k h l a b c = omega arith
 
-array-copy-out-result : tie.Need-array-copy-out-result
-array-copy-out-result c = search needs
-
-returns : tie.Need-returns
-unfolding entry powers
-returns c = let k = c .before .args .k in eqZ→eq (entry k) (pos (3 ^ k)) (upto-at 8 (λ n. eqZ (entry n) (pos (3 ^ n))) tt k (c .before .pre))
+returns-8 : tie.Need-returns-8
+returns-8 c =
+    let s = c .before .before in
+    let r = c .before .match .rest in
+    let k = s .args .k in
+    let l : 4 ≤ k = past-three k (r .0 .0 .0 .0 .0 .0 .1) (r .0 .0 .0 .0 .0 .1) (r .0 .0 .0 .0 .1) (r .0 .0 .0 .1) in
+    sym (ap of-three (past-six k (s .pre) l (r .0 .0 .1) (r .0 .1) (r .1)))
 
 pub power-spec : {M : Type 1} → statement M
-power-spec = tie.close (tie.spec mul-result array-copy-out-result returns)
+power-spec =
+    tie.close
+    (tie.spec
+    (λ c. search needs)
+    (λ c. search needs)
+    (λ c. search needs)
+    (λ c. search needs)
+    (λ c. search needs)
+    (λ c. search needs)
+    (λ c. search needs)
+    (λ c. search needs)
+    (λ c. sym (ap of-three (c .before .match .keys1)))
+    (λ c. sym (ap of-three (c .before .match .keys2)))
+    (λ c. sym (ap of-three (c .before .match .keys3)))
+    (λ c. sym (ap of-three (c .before .match .keys4)))
+    (λ c. sym (ap of-three (c .before .match .keys5)))
+    (λ c. sym (ap of-three (c .before .match .keys6)))
+    (λ c. sym (ap of-three (c .before .match .keys7)))
+    returns-8)

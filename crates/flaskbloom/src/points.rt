@@ -1,0 +1,89 @@
+// The calls that give points: without any mesh, and of a vertex of one.
+ghost use mathlib.Core.Path.{_≡_};
+ghost use Rattle.lattice.specs.Points.{normalOf};
+ghost use Rattle.lattice.specs.Stars.{starOf};
+ghost use Rattle.queries.specs.Queries.{neighboursOf, facesOf};
+ghost use Rattle.flaskbloom.specs.Numbers.{pointNumbers, answerNumbers, recordOf};
+use crate::numbers::ANSWER_NUMBERS;
+use crate::numbers::answer_numbers;
+use crate::numbers::point_numbers;
+use lattice::Depth;
+use lattice::Level;
+use lattice::Point;
+use lattice::Record;
+
+// The normalised point. Always 0.
+#[no_mangle]
+pub extern "C" fn fb_normalise(a: i32, b: i32, m: u8, point: &mut [i32; 3]) -> u8
+    ensures { λ r. ⌜ r ≡ 0 ⌝ }
+    ensures { λ r. ⌜ now (point .exit) ≡ pointNumbers (normalOf a b m) ⌝ }
+{
+    *point = point_numbers(lattice::normalise(a, b, m));
+    0
+}
+
+// The record of six fields, valid or not.
+fn record_of(a: i32, b: i32, m: u8, d: u8, k: u8, n: u8) -> Record
+    ensures { λ r. ⌜ r ≡ recordOf a b m d k n ⌝ }
+{
+    let at = Point { a, b, m: Depth(m) };
+    Record {
+        at,
+        d,
+        k,
+        n: Level(n),
+    }
+}
+
+// The star of a record: 9 where it is not valid, 14 where its degree is 0.
+#[no_mangle]
+pub extern "C" fn fb_star(
+    a: i32,
+    b: i32,
+    m: u8,
+    d: u8,
+    k: u8,
+    n: u8,
+    points: &mut [i32; ANSWER_NUMBERS],
+) -> u8
+    ensures { λ r. ⌜ r ≡ starOf (recordOf a b m d k n) .number ⌝ }
+    ensures { λ r. ⌜ now (points .exit) ≡ answerNumbers (starOf (recordOf a b m d k n)) ⌝ }
+{
+    let answer = lattice::star(record_of(a, b, m, d, k, n));
+    *points = answer_numbers(answer);
+    answer.number
+}
+
+// The adjacent points of the vertex at [a, b, m], or 1, 3, 14, 7.
+#[no_mangle]
+pub extern "C" fn fb_neighbours(
+    table: &[u8],
+    a: i32,
+    b: i32,
+    m: u8,
+    points: &mut [i32; ANSWER_NUMBERS],
+) -> u8
+    ensures { λ r. ⌜ r ≡ neighboursOf (now (table .entry)) a b m .number ⌝ }
+    ensures { λ r. ⌜ now (points .exit) ≡ answerNumbers (neighboursOf (now (table .entry)) a b m) ⌝ }
+{
+    let answer = queries::neighbours(table, a, b, m);
+    *points = answer_numbers(answer);
+    answer.number
+}
+
+// The opposite of each corner of the vertex at [a, b, m], or 1, 3, 14, 7.
+#[no_mangle]
+pub extern "C" fn fb_faces(
+    table: &[u8],
+    a: i32,
+    b: i32,
+    m: u8,
+    points: &mut [i32; ANSWER_NUMBERS],
+) -> u8
+    ensures { λ r. ⌜ r ≡ facesOf (now (table .entry)) a b m .number ⌝ }
+    ensures { λ r. ⌜ now (points .exit) ≡ answerNumbers (facesOf (now (table .entry)) a b m) ⌝ }
+{
+    let answer = queries::faces(table, a, b, m);
+    *points = answer_numbers(answer);
+    answer.number
+}

@@ -1,0 +1,2 @@
+-- Searches in a row.
+pub mod Lookups
