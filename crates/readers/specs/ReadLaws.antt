@@ -1,6 +1,6 @@
 -- What reading the lines of a file obeys: a file is read where it is the lines of valid records that rise strictly, and no more of them than slots; the table then holds those records and no other.
 -- `read-lines` what a file that was read is (`Lined`) · `lines-read` such a file is read · `lines-one` valid records are told by their lines.
--- The line before is a bound on ranks (writers' specs/Ranks): what the table holds lies below it, so the point of the next line is absent.
+-- The line before is a bound on the order of lines (writers' specs/LineOrder): what the table holds lies below it, so the point of the next line is absent.
 -- Assumes nothing.
 use mathlib.Core.Path.{_≡_, refl, sym, ap, _∙_, subst}
 use mathlib.Core.Logic.{_⊎_, inl, inr}
@@ -37,7 +37,7 @@ use Rattle.writers.specs.KeptLaws.{close}
 use Rattle.readers.specs.Readers.{Lines, Read, Fault, after, above, noSlot, lineRead, linesFrom, readLines}
 use Rattle.readers.specs.Additions.{Adds, adds-none, adds-one, adds-then, adds-as, adds-slots, held-absent}
 
--- ---- the order of lines, by ranks
+-- ---- the order of lines, as a number
 
 abbrev pub Valid : List Record → Type 0
 Valid rs = (r : Record) → List·Memᴰ r rs → validOf r ≡ true
@@ -49,7 +49,7 @@ module _ (r s : Record) (v : validOf r ≡ true) (w : validOf s ≡ true) where
   pub order-before : orderOf (r .at) < orderOf (s .at) → Before r s
   order-before h = order-earlier (r .at) (s .at) (close r v) (close s w) ∙ lt-ltb (orderOf (r .at)) (orderOf (s .at)) h
 
--- what the ranks of the lines to come are at least
+-- what the order of the lines to come is at least
 abbrev pub bound : Option Record → ℕ
 bound none = 0
 bound (some q) = suc (orderOf (q .at))
