@@ -92,22 +92,23 @@ refused : allBad (
 unfolding lineAt spelledAt placeAt starAt signedAt numberAt run value
 refused = refl
 
--- 256 for m, d, k or n of 0, 0, 0, 0, 0, 0, which a byte would take for 0
+-- 256 for m, d, k or n, which a byte would take for 0: the line of 0, 0, 0, 0, 0, 0 is good
 abbrev line : List ℕ → List ℕ → List ℕ → List ℕ → List ℕ
 line m d k n = 48 ∷ 9 ∷ 48 ∷ 9 ∷ m ++ 9 ∷ d ++ 9 ∷ k ++ 9 ∷ n ++ 10 ∷ []
 
-abbrev nought : List ℕ
-nought = 48 ∷ []
+abbrev small : List ℕ
+small = 48 ∷ []
 
-abbrev many : List ℕ
-many = 50 ∷ 53 ∷ 54 ∷ []
+abbrev large : List ℕ
+large = 50 ∷ 53 ∷ 54 ∷ []
 
-wrapped : (bad (lineAt (line many nought nought nought) 0)
-    && (bad (lineAt (line nought many nought nought) 0)
-    && (bad (lineAt (line nought nought many nought) 0)
-    && bad (lineAt (line nought nought nought many) 0)))) ≡ true
+wrapped : (lineAt (line small small small small) 0 ≡ Good (rec (pt (pos 0) (pos 0) 0) 0 0 0) 12)
+    × (bad (lineAt (line large small small small) 0) ≡ true)
+    × (bad (lineAt (line small large small small) 0) ≡ true)
+    × (bad (lineAt (line small small large small) 0) ≡ true)
+    × (bad (lineAt (line small small small large) 0) ≡ true)
 unfolding lineAt spelledAt placeAt starAt signedAt numberAt run value
-wrapped = refl
+wrapped = (refl, refl, refl, refl, refl)
 
 -- an empty line; a last line without its line feed; a blank for a tab; two tabs; five fields; a carriage return before the line feed
 misshapen : (bad (lineAt (10 ∷ []) 0)

@@ -46,7 +46,7 @@ fn write_kept(table: &[u8], marks: &[u8; MARK_BYTES], n: usize, out: &mut [u8]) 
     }
     let k = put_keys(table, marks, n, out);
     make_heap(out, k);
-    write_lines(table, marks, out, k, total);
+    write_lines(table, out, k, total);
     answer(0, total as u64)
 }
 

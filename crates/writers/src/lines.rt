@@ -1,7 +1,7 @@
 // The lines of a file, from the last back: each key is taken off the heap at the output's beginning, and its line written at the end, which never meets the keys.
 ghost use mathlib.Core.Path.{_≡_};
-ghost use mathlib.Core.List.{_++_};
-ghost use Prim.Native.Nat.{_+_, _*_, _%_, _≤_};
+ghost use mathlib.Core.List.{List, _++_};
+ghost use Prim.Native.Nat.{ℕ, _+_, _*_, _%_, _≤_};
 ghost use lib.ListN.{length, drop};
 ghost use Rattle.table.specs.Slots.{slotWidth};
 ghost use Rattle.table.specs.Order.{InOrder};
@@ -10,7 +10,6 @@ ghost use Rattle.writers.specs.Kept.{recordOf};
 ghost use Rattle.writers.specs.LeftLaws.{Ready, fileOf};
 use crate::keys::pop;
 use crate::line_order::PLACES;
-use crate::named::MARK_BYTES;
 use lattice::Depth;
 use lattice::Level;
 use lattice::Point;
@@ -41,10 +40,10 @@ fn record_of(table: &[u8], v: u64) -> Record
     }
 }
 
-// Writes the lines of k keys, which are a heap; total is how long the lines are.
-pub fn write_lines(table: &[u8], marks: &[u8; MARK_BYTES], out: &mut [u8], k: usize, total: usize)
-    requires { ⌜ InOrder (now table) × Ready (now table) (now marks) (now out) k total ⌝ }
-    ensures { λ _. ⌜ now (out .exit) ≡ fileOf (now (table .entry)) (now (marks .entry)) ++ drop total (now (out .entry)) ⌝ }
+// Writes the lines of k keys, which are a heap, whatever marks m left them; total is how long the lines are.
+pub fn write_lines(table: &[u8], out: &mut [u8], k: usize, total: usize)
+    requires { ⌜ InOrder (now table) × ((m : List ℕ) × Ready (now table) m (now out) k total) ⌝ }
+    ensures { λ _. ⌜ ((m : List ℕ) → Ready (now (table .entry)) m (now (out .entry)) k total → now (out .exit) ≡ fileOf (now (table .entry)) m ++ drop total (now (out .entry))) ⌝ }
 {
     let mut left = k;
     let mut at = total;

@@ -7,8 +7,8 @@ use lib.ListN.{length}
 use borrow.Author.Needs.{needs}
 use Rattle.table.specs.Slots.{slotsOf}
 use Rattle.writers.specs.Kept.{keptAt}
-use Rattle.writers.specs.KeptLaws.{keys-few}
-use Rattle.writers.specs.LeftLaws.{fileOf, filled-all, counted-all, keys-all, keys-fit, put-short, put-done, ready, ready-past}
+use Rattle.writers.specs.KeptLaws.{keys-few, Filled}
+use Rattle.writers.specs.LeftLaws.{fileOf, keysOf, Ready, filled-all, counted-all, keys-all, keys-fit, put-short, put-done, ready, ready-past}
 use Rattle.writers.specs.CallLaws.{out-is}
 use Rattle.writers.proofs.write_kept.Statement.{statement}
 use Rattle.writers.proofs.write_kept.Tie as tie
@@ -41,41 +41,47 @@ put-keys-requires c κs =
     let f = e .before in
     (s f .pre, omega (arith, e .if1 .left, long f, keys-all (t f) (m f) (s f .args .n) (s f .pre .1)))
 
+-- past the keys
+module _ (c : tie.After-put-keys) where
+  abbrev f : tie.After-file-length
+  f = c .before .before .before
+
+  room : f .file-length .result ≤ length (o f)
+  room = omega (arith, c .before .before .if1 .left)
+
+  filled : Filled (o f) (keysOf (t f) (m f)) (c .put-keys .last .1 .1 .1 .0) (c .put-keys .result)
+  filled = filled-all (t f) (m f) (o f) (s f .args .n) (s f .pre .1) (c .put-keys .ensures)
+
 make-heap-requires : tie.Need-make-heap-requires
 make-heap-requires c κs =
     let w = c .before .before .before in
-    let e = w .before .before in
-    let f = e .before in
-    let g = filled-all (t f) (m f) (o f) (s f .args .n) (s f .pre .1) (w .put-keys .ensures) in
-    let count = g .count in
-    let same = g .long in
-    let fit = keys-fit (t f) (m f) in
-    let all = long f in
-    let few = keys-few (keptAt (t f) (m f)) (slotsOf (t f)) in
-    let most = s f .pre .0 .fits .most in
-    (omega (arith, e .if1 .left), omega arith)
+    let count = filled w .count in
+    let same = filled w .long in
+    let fit = keys-fit (t (f w)) (m (f w)) in
+    let all = long (f w) in
+    let few = keys-few (keptAt (t (f w)) (m (f w))) (slotsOf (t (f w))) in
+    let most = s (f w) .pre .0 .fits .most in
+    (omega (arith, room w), omega arith)
+
+-- past the heap
+module _ (c : tie.After-make-heap) where
+  abbrev w : tie.After-put-keys
+  w = c .before .before .before .before
+
+  stand : Ready (t (f w)) (m (f w)) (c .make-heap .last .0) (w .put-keys .result) (f w .file-length .result)
+  stand = ready (t (f w)) (m (f w)) (o (f w)) (f w .file-length .result) (long (f w)) _ _ (w .put-keys .result) (room w) (filled w) (c .make-heap .ensures)
 
 write-lines-requires : tie.Need-write-lines-requires
-write-lines-requires c κs =
-    let h = c .before .before .before in
-    let w = h .before .before .before .before in
-    let e = w .before .before in
-    let f = e .before in
-    let g = filled-all (t f) (m f) (o f) (s f .args .n) (s f .pre .1) (w .put-keys .ensures) in
-    (s f .pre .0, ready (t f) (m f) (o f) (f .file-length .result) (long f) _ _ (w .put-keys .result) (omega (arith, e .if1 .left)) g (h .make-heap .ensures))
+write-lines-requires c κs = let h = c .before .before .before in (s (f (w h)) .pre .0, (m (f (w h)), stand h))
 
 returns-2 : tie.Need-returns-2
 returns-2 c =
     let x = c .before .before .before in
     let h = x .before .before .before .before in
-    let w = h .before .before .before .before in
-    let e = w .before .before in
-    let f = e .before in
-    let total = f .file-length .result in
-    let g = filled-all (t f) (m f) (o f) (s f .args .n) (s f .pre .1) (w .put-keys .ensures) in
-    let room : total ≤ length (o f) = omega (arith, e .if1 .left) in
-    let past = ready-past (t f) (m f) (o f) total (long f) _ _ (w .put-keys .result) room g (h .make-heap .ensures) in
-    out-is _ (c .answer2 .ensures .0) (c .answer2 .ensures .1) ∙ put-done (t f) (m f) (o f) total (long f) _ room (x .write-lines .ensures ∙ ap (λ (l : List ℕ). fileOf (t f) (m f) ++ l) past)
+    let g = f (w h) in
+    let total = g .file-length .result in
+    let past = ready-past (t g) (m g) (o g) total (long g) _ _ (w h .put-keys .result) (room (w h)) (filled (w h)) (h .make-heap .ensures) in
+    out-is _ (c .answer2 .ensures .0) (c .answer2 .ensures .1) ∙ put-done (t g) (m g) (o g) total (long g) _ (room (w h)) (x .write-lines .ensures (m g) (stand h) ∙ ap (λ (l : List ℕ). fileOf (t g) (m g) ++ l) past)
 
 pub write-kept-spec : {M : Type 1} → statement M
 write-kept-spec =

@@ -14,28 +14,28 @@ use Rattle.writers.specs.Tally.{nth}
 use Rattle.writers.specs.Heaps.{Heap}
 use Rattle.writers.specs.Keys.{places, keyIn}
 use Rattle.writers.specs.Kept.{recordOf}
-use Rattle.writers.specs.LeftLaws.{ordered, Left, ordered-rising, ordered-file, ordered-inside, ordered-few, left-start, left-room, left-top, left-place, left-step, left-end}
+use Rattle.writers.specs.LeftLaws.{ordered, Ready, Left, ordered-rising, ordered-file, ordered-inside, ordered-few, left-start, left-room, left-top, left-place, left-step, left-end}
 use Rattle.writers.proofs.lines.write_lines.Statement.{statement}
 use Rattle.writers.proofs.lines.write_lines.Tie as tie
 
 abbrev Inv-loop : tie.InvT-loop
-Inv-loop table marks out₀ k total left₀ at₀ out left at = (length out ≡ length out₀) × Left table (ordered table marks) (drop total out₀) out left at
+Inv-loop table out₀ k total left₀ at₀ out left at = (length out ≡ length out₀) × ((m : List ℕ) → Ready table m out₀ k total → Left table (ordered table m) (drop total out₀) out left at)
 
 abbrev μ-loop : tie.MeasureT-loop
-μ-loop table marks out₀ k total left₀ at₀ out left at = left
+μ-loop table out₀ k total left₀ at₀ out left at = left
 
 loop-holds : tie.Need-loop-holds Inv-loop μ-loop
 loop-holds c =
     let s = c .before .before in
-    (refl, left-start (s .args .table .now) (s .pre .0) (s .args .marks .now) (s .args .out .now) (s .args .k) (s .args .total) (s .pre .1))
+    (refl, λ m r. left-start (s .args .table .now) (s .pre .0) m (s .args .out .now) (s .args .k) (s .args .total) r)
 
 pop-requires : tie.Need-pop-requires Inv-loop μ-loop
 pop-requires c κs =
     let l = c .before .before in
     let s = l .before .before .before in
     let t = s .args .table .now in
-    let m = s .args .marks .now in
-    let v = l .loop .inv .1 in
+    let m = s .pre .1 .0 in
+    let v = l .loop .inv .1 m (s .pre .1 .1) in
     let e : l .loop .left ≡ l .loop .left - 1 + 1 = omega arith in
     let room = left-room t (ordered t m) (drop (s .args .total) (s .args .out .now)) (l .loop .out) (l .loop .left) (l .loop .at) v in (
       (omega (arith, room, v .room), omega (arith, v .count, ordered-few t (s .pre .0) m)),
@@ -53,80 +53,88 @@ module _ (c : tie.After-pop Inv-loop μ-loop) where
   abbrev t : List ℕ
   t = s .args .table .now
 
-  abbrev keys : List ℕ
-  keys = ordered t (s .args .marks .now)
-
   abbrev k : ℕ
   k = l .loop .left - 1
 
   abbrev rest : List ℕ
   rest = drop (s .args .total) (s .args .out .now)
 
-  one : Left t keys rest (l .loop .out) (k + 1) (l .loop .at)
-  one = let e : l .loop .left ≡ k + 1 = omega arith in subst (λ (x : ℕ). Left t keys rest (l .loop .out) x (l .loop .at)) e (l .loop .inv .1)
+  module _ (m : List ℕ) (r : Ready t m (s .args .out .now) (s .args .k) (s .args .total)) where
+    one : Left t (ordered t m) rest (l .loop .out) (k + 1) (l .loop .at)
+    one = let e : l .loop .left ≡ k + 1 = omega arith in subst (λ (x : ℕ). Left t (ordered t m) rest (l .loop .out) x (l .loop .at)) e (l .loop .inv .1 m r)
 
-  top : c .pop .result ≡ nth keys k
-  top = c .pop .ensures .0 ∙ left-top t keys rest (l .loop .out) k (l .loop .at) (ordered-rising t (s .args .marks .now)) one
+    top : c .pop .result ≡ nth (ordered t m) k
+    top = c .pop .ensures .0 ∙ left-top t (ordered t m) rest (l .loop .out) k (l .loop .at) (ordered-rising t m) one
 
-  abbrev rec : Record
-  rec = recordOf t (nth keys k)
+    abbrev rec : Record
+    rec = recordOf t (nth (ordered t m) k)
 
-  place : length (lineOf rec) ≤ l .loop .at
-  place = omega (arith, left-place t keys rest (l .loop .out) k (l .loop .at) (ordered-rising t (s .args .marks .now)) one)
+    place : length (lineOf rec) ≤ l .loop .at
+    place = omega (arith, left-place t (ordered t m) rest (l .loop .out) k (l .loop .at) (ordered-rising t m) one)
 
 record-of-requires : tie.Need-record-of-requires Inv-loop μ-loop
 record-of-requires c κs =
     let p = c .before .before in
-    subst (λ (v : ℕ). slotWidth * (v % places) + slotWidth ≤ length (t p)) (sym (top p)) (ordered-inside (t p) (s p .pre .0) (s p .args .marks .now) (k p) (omega (arith, one p .count)))
+    let m = s p .pre .1 .0 in
+    let r = s p .pre .1 .1 in
+    subst (λ (v : ℕ). slotWidth * (v % places) + slotWidth ≤ length (t p)) (sym (top p m r)) (ordered-inside (t p) (s p .pre .0) m (k p) (omega (arith, one p m r .count)))
+
+-- the record of the key, and its line's length
+module _ (c : tie.After-record-of Inv-loop μ-loop) where
+  abbrev p : tie.After-pop Inv-loop μ-loop
+  p = c .before .before .before
+
+  module _ (m : List ℕ) (r : Ready (t p) m (s p .args .out .now) (s p .args .k) (s p .args .total)) where
+    is : c .record-of .result ≡ rec p m r
+    is = c .record-of .ensures ∙ ap (recordOf (t p)) (top p m r)
+
+    long : length (lineOf (c .record-of .result)) ≡ length (lineOf (rec p m r))
+    long = ap (λ (x : Record). length (lineOf x)) is
 
 sub-at : tie.Need-sub-at Inv-loop μ-loop
 sub-at c =
-    let r = c .before in
-    let p = r .before .before .before in
-    let e : r .record-of .result ≡ rec p = r .record-of .ensures ∙ ap (recordOf (t p)) (top p) in
-    let w : c .line-length .result ≡ length (lineOf (rec p)) = c .line-length .ensures ∙ ap (λ (x : Record). length (lineOf x)) e in
-    omega (arith, w, place p)
+    let q = c .before in
+    let m = s (p q) .pre .1 .0 in
+    let r = s (p q) .pre .1 .1 in
+    omega (arith, c .line-length .ensures, long q m r, place (p q) m r)
 
 write-line-requires : tie.Need-write-line-requires Inv-loop μ-loop
 write-line-requires c κs =
     let n = c .before in
-    let r = n .before in
-    let p = r .before .before .before in
-    let e : r .record-of .result ≡ rec p = r .record-of .ensures ∙ ap (recordOf (t p)) (top p) in
-    let w : n .line-length .result ≡ length (lineOf (rec p)) = n .line-length .ensures ∙ ap (λ (x : Record). length (lineOf x)) e in
-    let u : length (lineOf (r .record-of .result)) ≡ length (lineOf (rec p)) = ap (λ (x : Record). length (lineOf x)) e in
-    omega (arith, w, u, place p, p .pop .ensures .1 .long, one p .room)
+    let q = n .before in
+    let m = s (p q) .pre .1 .0 in
+    let r = s (p q) .pre .1 .1 in
+    omega (arith, n .line-length .ensures, long q m r, place (p q) m r, p q .pop .ensures .1 .long, one (p q) m r .room)
 
 loop-again : tie.Need-loop-again Inv-loop μ-loop
 loop-again c =
     let x = c .before .before in
     let n = x .before .before in
-    let r = n .before in
-    let p = r .before .before .before in
-    let o₁ = p .pop .last .0 in
+    let q = n .before in
+    let o₁ = p q .pop .last .0 in
     let o₂ = x .write-line .last .0 in
-    let at = l p .loop .at in
-    let e : r .record-of .result ≡ rec p = r .record-of .ensures ∙ ap (recordOf (t p)) (top p) in
-    let w : n .line-length .result ≡ length (lineOf (rec p)) = n .line-length .ensures ∙ ap (λ (q : Record). length (lineOf q)) e in
-    let at′ = at - n .line-length .result in
-    let wrote : Wrote o₁ at′ (lineOf (rec p)) o₂ (x .write-line .result) = subst (λ (q : Record). Wrote o₁ at′ (lineOf q) o₂ (x .write-line .result)) e (x .write-line .ensures) in
-    let fit = place p in (
-      ap length (wrote .bytes) ∙ length-sets o₁ at′ (lineOf (rec p)) ∙ p .pop .ensures .1 .long ∙ l p .loop .inv .0,
-      left-step (t p) (keys p) (rest p) (l p .loop .out) (k p) at (ordered-rising (t p) (s p .args .marks .now)) (one p) o₁ o₂ at′ (x .write-line .result) (p .pop .ensures .1) (omega arith) wrote,
+    let at = l (p q) .loop .at in
+    let at′ = at - n .line-length .result in (
+      ap length (x .write-line .ensures .bytes) ∙ length-sets o₁ at′ (lineOf (q .record-of .result)) ∙ p q .pop .ensures .1 .long ∙ l (p q) .loop .inv .0,
+      λ m r.
+          let w = n .line-length .ensures in
+          let e = long q m r in
+          let fit = place (p q) m r in
+          left-step (t (p q)) (ordered (t (p q)) m) (rest (p q)) (l (p q) .loop .out) (k (p q)) at (ordered-rising (t (p q)) m) (one (p q) m r) o₁ o₂ at′ (x .write-line .result) (p q .pop .ensures .1) (omega arith)
+          (subst (λ (y : Record). Wrote o₁ at′ (lineOf y) o₂ (x .write-line .result)) (is q m r) (x .write-line .ensures)),
     )
 
 same-length : tie.Need-same-length Inv-loop μ-loop
 same-length c = c .before .loop .inv .0
 
 returns : tie.Need-returns Inv-loop μ-loop
-returns c =
+returns c m r =
     let q = c .before in
     let a = q .before .before .before in
     let tb = a .args .table .now in
-    let m = a .args .marks .now in
     let rst = drop (a .args .total) (a .args .out .now) in
     let e : q .loop .left ≡ 0 = omega arith in
-    left-end tb (ordered tb m) rst (q .loop .out) (q .loop .at) (subst (λ (x : ℕ). Left tb (ordered tb m) rst (q .loop .out) x (q .loop .at)) e (q .loop .inv .1))
+    left-end tb (ordered tb m) rst (q .loop .out) (q .loop .at) (subst (λ (x : ℕ). Left tb (ordered tb m) rst (q .loop .out) x (q .loop .at)) e (q .loop .inv .1 m r))
     ∙ ap (λ (x : List ℕ). x ++ rst) (ordered-file tb (a .pre .0) m)
 
 pub write-lines-spec : {M : Type 1} → statement M
