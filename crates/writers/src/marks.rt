@@ -37,7 +37,7 @@ pub fn marked(marks: &[u8; MARK_BYTES], i: usize) -> bool
     ensures { λ r. ⌜ r ≡ markedAt (now (marks .entry)) i ⌝ }
 {
     let byte = marks[i / 8];
-    byte / power(i % 8) % 2 == 1
+    (byte >> (i % 8)) % 2 == 1
 }
 
 // A byte with bit k set, which it has not yet.
