@@ -32,7 +32,7 @@ pub fn marked(marks: &[u8], i: usize) -> bool
     ensures { λ r. ⌜ r ≡ markedAt (now (marks .entry)) i ⌝ }
 {
     let byte = marks[i / 8];
-    byte / power(i % 8) % 2 == 1
+    (byte >> (i % 8)) % 2 == 1
 }
 
 // Marks place i, marked already or not.
