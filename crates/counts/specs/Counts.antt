@@ -114,15 +114,8 @@ abbrev pub degreeIn : ℕ → List ℕ → ℕ
 degreeIn d t = ofDegree d (recordsOf t)
 
 -- "V E F d0 d3 d4 d5 d6"
+abbrev pub numbers : ℕ → ℕ → ℕ → ℕ → ℕ → ℕ → ℕ → ℕ → Counts
+numbers v e f d0 d3 d4 d5 d6 = record { vertices = v; edges = e; faces = f; d0 = d0; d3 = d3; d4 = d4; d5 = d5; d6 = d6 }
+
 unfoldable pub countsOf : List ℕ → Counts
-countsOf t =
-    record {
-      vertices = length (recordsOf t);
-      edges = edgesIn t;
-      faces = facesIn t;
-      d0 = degreeIn 0 t;
-      d3 = degreeIn 3 t;
-      d4 = degreeIn 4 t;
-      d5 = degreeIn 5 t;
-      d6 = degreeIn 6 t;
-    }
+countsOf t = numbers (length (recordsOf t)) (edgesIn t) (facesIn t) (degreeIn 0 t) (degreeIn 3 t) (degreeIn 4 t) (degreeIn 5 t) (degreeIn 6 t)

@@ -32,6 +32,10 @@ among-none : (P : ℕ → Bool) (n : ℕ) → ((i : ℕ) → i < n → P i ≡ f
 among-none P zero h = refl
 among-none P (suc n) h = let l : n < suc n = omega arith in (λ i. h n l i || among n P) ∙ among-none P n (λ i m. h i (omega arith))
 
+-- one number more at which the test fails
+pub among-more : (P : ℕ → Bool) (i : ℕ) → among i P ≡ false → P i ≡ false → among (i + 1) P ≡ false
+among-more P i a b = let e : i + 1 ≡ suc i = omega arith in ap (λ (k : ℕ). among k P) e ∙ (λ z. b z || a z)
+
 -- a test of a slot's record
 abbrev pub slotTest : (Record → Bool) → Slot → Bool
 slotTest f Free = false

@@ -1,11 +1,13 @@
 -- The records that stand before a slot, found by their points: `earlier-yes` what stands there is found, `yes-earlier` what is found stands there, `earlier-valid` it is valid ·
--- `Passes` a record that stands before slot k passes a test, `slots-pass`, `pass-slots` the same slot by slot · `other-point`, `star-inner` the record in slot k.
+-- `Passes` a record that stands before slot k passes a test, `slots-pass`, `pass-slots` the same slot by slot · `valid-inner`, `valid-degree`
+-- a valid record · `other-point`, `star-inner` the record in slot k.
 -- Assumes nothing.
 use mathlib.Core.Path.{_≡_, refl, sym, ap, _∙_, subst}
 use mathlib.Core.Bool.{Bool, true, false, cond}
 use mathlib.Core.List.{List}
 use Prim.Native.Nat.{ℕ, _≤_, _<_}
 use native.Mathlib.Omega.{arith}
+use native.Mathlib.Decide.{ℕ-discrete}
 use borrow.Author.Tests.{ltb-true, lt-ltb}
 use lib.Dec.{ltb}
 use Rattle.laws.specs.Each.{not-both, among-at, at-among, true-fact}
@@ -104,6 +106,17 @@ module _ (t : List ℕ) (k : ℕ) (f : Record → Bool) where
   pub pass-slots : Passes t k f → among k (λ i. slotTest f (slotAt t i)) ≡ true
   pass-slots x = at-among (λ i. slotTest f (slotAt t i)) k (x .slot) (x .below) (ap (slotTest f) (x .holds) ∙ x .passes)
 
+-- a valid record that has a place has a star
+pub valid-inner : (v : Record) (j : ℕ) → validOf v ≡ true → j < v .d → Inner v
+valid-inner v j ok h = inner v (true-fact (validOf v) ok) (λ e. omega arith)
+
+pub valid-degree : (v : Record) → validOf v ≡ true → v .d ≤ 6
+valid-degree v ok = go (ℕ-discrete (v .d) 0)
+  where
+    go : Dec (v .d ≡ 0) → v .d ≤ 6
+    go (yes e) = omega arith
+    go (no e) = inner v (true-fact (validOf v) ok) e .top
+
 -- the record v in slot k
 module _ (t : List ℕ) (o : InOrder t) (k : ℕ) (v : Record) (l : k < slotsOf t) (here : slotAt t k ≡ Holds v) where
   -- an earlier slot holds another point
@@ -111,4 +124,4 @@ module _ (t : List ℕ) (o : InOrder t) (k : ℕ) (v : Record) (l : k < slotsOf 
   other-point x s = let e : x .slot ≡ k = o .once (x .slot) k (x .rec) v (omega (arith, x .below)) l (x .holds) here s in omega (arith, x .below)
 
   pub star-inner : (j : ℕ) → j < v .d → Inner v
-  star-inner j h = inner v (true-fact (validOf v) (o .valid k v l here)) (λ e. omega arith)
+  star-inner j h = valid-inner v j (o .valid k v l here) h

@@ -1,4 +1,4 @@
--- Document 01's counts of one hexagon and of "Three", computed from the bytes of their tables; and of a table that is no grown mesh.
+-- Document 01's counts of one hexagon and of "Three", computed from the bytes of their tables.
 -- Assumes nothing.
 use mathlib.Core.Path.{_≡_, refl}
 use mathlib.Core.List.{List, [], _∷_}
@@ -13,12 +13,7 @@ use Rattle.table.specs.Search.{homeOf, samePoint, searchFrom, findOf}
 use Rattle.table.specs.Entries.{lookUp, enterOf, recordsBelow}
 use Rattle.base.specs.Base.{listedIn, firstBad, internal, cornerRecord, hexagonOf, layHexagon, layAll, laidOf, baseOf}
 use Rattle.queries.specs.Queries.{chosenAt}
-use Rattle.counts.specs.Counts.{someIn, differentAfter, gather, each, samePair, fits, sameFace, ofDegree, countsOf}
-use Rattle.counts.specs.declared.Counts.{Counts}
-
--- "V E F d0 d3 d4 d5 d6"
-abbrev numbers : ℕ → ℕ → ℕ → ℕ → ℕ → ℕ → ℕ → ℕ → Counts
-numbers v e f d0 d3 d4 d5 d6 = record { vertices = v; edges = e; faces = f; d0 = d0; d3 = d3; d4 = d4; d5 = d5; d6 = d6 }
+use Rattle.counts.specs.Counts.{someIn, differentAfter, gather, each, samePair, fits, sameFace, ofDegree, numbers, countsOf}
 
 -- the base of these centres, in 16 slots
 laid : List ℤ → List ℕ

@@ -9,5 +9,6 @@ pub mod StarLaws
 pub mod PairLaws
 pub mod FaceLaws
 pub mod DegreeLaws
+pub mod CaseLaws
 -- examples that compute
 pub mod Examples

@@ -86,7 +86,7 @@ fn slot_pairs(t: &[u8], k: usize, n: usize) -> u32
 }
 
 // The different pairs of a table. In time linear in the slots, as long as the searches are short.
-pub fn edges(t: &[u8], n: usize) -> u32
+pub fn count_edges(t: &[u8], n: usize) -> u32
     requires { ⌜ InOrder (now t) × (n ≡ slotsOf (now t)) ⌝ }
     ensures { λ r. ⌜ r ≡ edgesIn (now (t .entry)) ⌝ }
 {
