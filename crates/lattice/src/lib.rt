@@ -20,6 +20,7 @@ pub use points::turn60;
 pub use ranks::birth;
 pub use ranks::class;
 pub use ranks::creator;
+pub use ranks::moved;
 pub use ranks::parent;
 pub use ranks::rank;
 pub use records::Level;

@@ -69,7 +69,7 @@ pub fn birth(p: Point) -> u8
 }
 
 // From p, the step of level i in direction e.
-fn moved(p: Point, e: u8, i: u8) -> Point
+pub fn moved(p: Point, e: u8, i: u8) -> Point
     requires { ⌜ Small p × ((e < 12) × ((i ≤ 12) × (e % 2 ≡ i % 2))) ⌝ }
     ensures { λ r. ⌜ r ≡ moveOf p e i ⌝ }
 {

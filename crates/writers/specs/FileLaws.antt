@@ -1,6 +1,6 @@
 -- The file depends on the set of records alone, not on where they stand in the table.
--- `sorted-rises` the records of a table rise strictly in their file, `sorted-holds`, `holds-sorted` and are the table's · `sorted-one` no other list does so · `full-same`,
--- `reduced-same` two tables that hold the same at every point have the same files.
+-- `sorted-rises` the records of a table rise strictly in their file, `sorted-holds`, `holds-sorted` and are the table's · `sorted-one` no other list does so · `left-rises`, `left-holds`, `holds-left`,
+-- `left-one` the same of those that a test leaves · `full-same`, `reduced-same` two tables that hold the same at every point have the same files.
 -- Assumes nothing.
 use mathlib.Core.Path.{_≡_, refl, sym, ap, _∙_}
 use mathlib.Core.Logic.{_⊎_, inl, inr}
@@ -48,6 +48,30 @@ rises (r ∷ rs) a c = (λ s m. pair s m (c r (List·Memᴰ·head refl)) (c s (L
 
 lower-sorted : (rs : List Record) → Apart rs → Closes rs → Rising Lower (sorted rs)
 lower-sorted rs a c = sort-rising before Lower (λ x y z p q. omega arith) rs (rises rs a c)
+
+-- so their lines rise strictly, and no other list of these records rises so
+before-sorted : (rs : List Record) → Apart rs → Closes rs → Rising Before (sorted rs)
+before-sorted rs a c = go (sorted rs) (λ r m. c r (mem-sort before rs r m)) (lower-sorted rs a c)
+  where
+    go : (qs : List Record) → Closes qs → Rising Lower qs → Rising Before qs
+    go [] c h = tt
+    go (r ∷ qs) c h = (
+      λ s m. rank-earlier (r .at) (s .at) (c r (List·Memᴰ·head refl)) (c s (List·Memᴰ·tail m)) ∙ lt-ltb (rankOf (r .at)) (rankOf (s .at)) (h .0 s m),
+      go qs (λ s m. c s (List·Memᴰ·tail m)) (h .1),
+    )
+
+before-one : (rs : List Record) → Apart rs → Closes rs → (qs : List Record) → Rising Before qs → ((r : Record) → List·Memᴰ r qs → List·Memᴰ r rs) → ((r : Record) → List·Memᴰ r rs → List·Memᴰ r qs) → qs ≡ sorted rs
+before-one rs a c qs h f g =
+    rising-one Lower (λ x y p q. omega arith) qs (sorted rs) (go qs (λ r m. c r (f r m)) h) (lower-sorted rs a c)
+    (λ r m. sort-mem before rs r (f r m))
+    (λ r m. g r (mem-sort before rs r m))
+  where
+    go : (xs : List Record) → Closes xs → Rising Before xs → Rising Lower xs
+    go [] c h = tt
+    go (r ∷ xs) c h = (
+      λ s m. ltb-true (rankOf (r .at)) (rankOf (s .at)) (sym (rank-earlier (r .at) (s .at) (c r (List·Memᴰ·head refl)) (c s (List·Memᴰ·tail m))) ∙ h .0 s m),
+      go xs (λ s m. c s (List·Memᴰ·tail m)) (h .1),
+    )
 
 -- two lists of the same records, none with two of one point, have one file
 sorted-same : (rs qs : List Record) → Apart rs → Apart qs → Closes rs → Closes qs → ((r : Record) → List·Memᴰ r rs → List·Memᴰ r qs) → ((r : Record) → List·Memᴰ r qs → List·Memᴰ r rs) → sorted rs ≡ sorted qs
@@ -124,29 +148,36 @@ pub holds-sorted : (t : List ℕ) (r : Record) → List·Memᴰ r (recordsOf t) 
 holds-sorted t r m = sort-mem before (recordsOf t) r m
 
 pub sorted-rises : (t : List ℕ) → InOrder t → Rising Before (sorted (recordsOf t))
-sorted-rises t o = go (sorted (recordsOf t)) (λ r m. closes t o r (sorted-holds t r m)) (lower-sorted (recordsOf t) (records-apart t o) (closes t o))
-  where
-    go : (rs : List Record) → Closes rs → Rising Lower rs → Rising Before rs
-    go [] c h = tt
-    go (r ∷ rs) c h = (
-      λ s m. rank-earlier (r .at) (s .at) (c r (List·Memᴰ·head refl)) (c s (List·Memᴰ·tail m)) ∙ lt-ltb (rankOf (r .at)) (rankOf (s .at)) (h .0 s m),
-      go rs (λ s m. c s (List·Memᴰ·tail m)) (h .1),
-    )
+sorted-rises t o = before-sorted (recordsOf t) (records-apart t o) (closes t o)
 
 -- no other list of the table's records rises so
 pub sorted-one : (t : List ℕ) → InOrder t → (rs : List Record) → Rising Before rs → ((r : Record) → List·Memᴰ r rs → List·Memᴰ r (recordsOf t)) → ((r : Record) → List·Memᴰ r (recordsOf t) → List·Memᴰ r rs)
     → rs ≡ sorted (recordsOf t)
-sorted-one t o rs h f g =
-    rising-one Lower (λ x y p q. omega arith) rs (sorted (recordsOf t)) (go rs (λ r m. closes t o r (f r m)) h) (lower-sorted (recordsOf t) (records-apart t o) (closes t o))
-    (λ r m. holds-sorted t r (f r m))
-    (λ r m. g r (sorted-holds t r m))
-  where
-    go : (qs : List Record) → Closes qs → Rising Before qs → Rising Lower qs
-    go [] c h = tt
-    go (r ∷ qs) c h = (
-      λ s m. ltb-true (rankOf (r .at)) (rankOf (s .at)) (sym (rank-earlier (r .at) (s .at) (c r (List·Memᴰ·head refl)) (c s (List·Memᴰ·tail m))) ∙ h .0 s m),
-      go qs (λ s m. c s (List·Memᴰ·tail m)) (h .1),
-    )
+sorted-one t o rs h f g = before-one (recordsOf t) (records-apart t o) (closes t o) rs h f g
+
+-- the same of those that a test leaves
+module _ (t : List ℕ) (o : InOrder t) (f : Record → Bool) where
+  apart : Apart (leaveOut f (recordsOf t))
+  apart = leave-apart f (recordsOf t) (records-apart t o)
+
+  near : Closes (leaveOut f (recordsOf t))
+  near r m = closes t o r (mem-leave f (recordsOf t) r m .0)
+
+  pub left-rises : Rising Before (sorted (leaveOut f (recordsOf t)))
+  left-rises = before-sorted (leaveOut f (recordsOf t)) apart near
+
+  pub left-holds : (r : Record) → List·Memᴰ r (sorted (leaveOut f (recordsOf t))) → List·Memᴰ r (recordsOf t) × (f r ≡ false)
+  left-holds r m = mem-leave f (recordsOf t) r (mem-sort before (leaveOut f (recordsOf t)) r m)
+
+  pub holds-left : (r : Record) → List·Memᴰ r (recordsOf t) → f r ≡ false → List·Memᴰ r (sorted (leaveOut f (recordsOf t)))
+  holds-left r m e = sort-mem before (leaveOut f (recordsOf t)) r (leave-mem f (recordsOf t) r m e)
+
+  pub left-one : (rs : List Record) → Rising Before rs → ((r : Record) → List·Memᴰ r rs → List·Memᴰ r (recordsOf t) × (f r ≡ false)) → ((r : Record) → List·Memᴰ r (recordsOf t) → f r ≡ false → List·Memᴰ r rs)
+      → rs ≡ sorted (leaveOut f (recordsOf t))
+  left-one rs h into from =
+      before-one (leaveOut f (recordsOf t)) apart near rs h
+      (λ r m. let w = into r m in leave-mem f (recordsOf t) r (w .0) (w .1))
+      (λ r m. let w = mem-leave f (recordsOf t) r m in from r (w .0) (w .1))
 
 module _ (t u : List ℕ) (o : InOrder t) (v : InOrder u) (same : (p : Point) → lookUp t p ≡ lookUp u p) where
   into : (r : Record) → List·Memᴰ r (recordsOf t) → List·Memᴰ r (recordsOf u)

@@ -1,0 +1,5 @@
+pub mod Calls
+pub mod Numbers
+pub mod Refused
+pub mod Points
+pub mod Starred

@@ -1,0 +1,59 @@
+-- `local::adjacents_there` meets its promise. The invariant: the adjacents so far are there. Assumes nothing.
+use borrow.Author.Needs.{needs}
+use mathlib.Core.Path.{_≡_, sym, _∙_, ap}
+use mathlib.Core.Bool.{Bool, true}
+use mathlib.Core.List.{List}
+use Prim.Native.Nat.{ℕ, _≤_, _-_}
+use native.Mathlib.Omega.{arith}
+use Rattle.laws.specs.Rules.{upto}
+use Rattle.laws.specs.Each.{upto-more, upto-fails}
+use Rattle.lattice.specs.Stars.{adjacentAt}
+use Rattle.lattice.specs.declared.records.Record.{Record}
+use Rattle.growth.specs.Local.{there}
+use Rattle.local.specs.Sheet.{sheetOf}
+use Rattle.local.proofs.lookups.adjacents_there.Statement.{statement}
+use Rattle.local.proofs.lookups.adjacents_there.Tie as tie
+
+abbrev thereAt : List ℕ → Record → ℕ → Bool
+thereAt t r j = there (sheetOf t) (adjacentAt r j)
+
+abbrev Inv-loop : tie.InvT-loop
+Inv-loop t r n j₀ j = (j ≤ 6) × (upto j (thereAt t r) ≡ true)
+
+abbrev μ-loop : tie.MeasureT-loop
+μ-loop t r n j₀ j = 6 - j
+
+loop-again : tie.Need-loop-again Inv-loop μ-loop
+loop-again c =
+    let p = c .before in
+    let l = p .before .before in
+    let a = l .before .before .args in
+    (search needs, upto-more (thereAt (a .t .now) (a .r)) (l .loop .j) (l .loop .inv .1) (sym (p .adjacent-there .ensures) ∙ c .if1 .taken))
+
+returns : tie.Need-returns Inv-loop μ-loop
+returns c =
+    let p = c .before in
+    let l = p .before .before in
+    let a = l .before .before .args in
+    sym (upto-fails (thereAt (a .t .now) (a .r)) (l .loop .j) 6 (p .before .loop-test .taken) (sym (p .adjacent-there .ensures) ∙ c .if1 .left))
+
+returns-2 : tie.Need-returns-2 Inv-loop μ-loop
+returns-2 c =
+    let l = c .before in
+    let a = l .before .before .args in
+    let e : l .loop .j ≡ 6 = omega arith in
+    sym (l .loop .inv .1) ∙ ap (λ (k : ℕ). upto k (thereAt (a .t .now) (a .r))) e
+
+pub adjacents-there-spec : {M : Type 1} → statement M
+adjacents-there-spec =
+    tie.close
+    (tie.spec
+    Inv-loop
+    μ-loop
+    (λ c. search needs)
+    (λ c κs. search needs)
+    (λ c. search needs)
+    (λ c. search needs)
+    loop-again
+    returns
+    returns-2)

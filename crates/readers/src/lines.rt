@@ -1,0 +1,119 @@
+// The lines of a file, one after the other, entered into a table.
+ghost use mathlib.Core.Path.{_≡_};
+ghost use Rattle.table.specs.Slots.{Table};
+ghost use Rattle.text.specs.Line.{lineAt};
+ghost use Rattle.writers.specs.Files.{earlier};
+ghost use Rattle.readers.specs.Readers.{above, readLines};
+ghost use Rattle.readers.specs.LineSteps.{lineBefore, enteredStep, stepAt, tableAfter, Ended};
+use lattice::Depth;
+use lattice::Level;
+use lattice::Point;
+use lattice::Record;
+use table::Found;
+use table::enter;
+use text::Line;
+use text::parse_line;
+
+// What a reader gives back: document 01's number, and the line at fault, else 0.
+pub struct ReadBack {
+    pub number: u8,
+    pub line: u64,
+}
+
+pub fn answer(number: u8, line: u64) -> ReadBack
+    ensures { λ r. ⌜ (r .number ≡ number) × (r .line ≡ line) ⌝ }
+{
+    ReadBack { number, line }
+}
+
+// What became of a line: its record is entered, and the next line stands at a position; there is none; or it is refused with a number.
+pub enum Step {
+    Entered(Record, usize),
+    Over,
+    Faulty(u8),
+}
+
+// The line of the vertex at p stands before that of the vertex at q.
+fn is_earlier(p: Point, q: Point) -> bool
+    ensures { λ r. ⌜ r ≡ earlier p q ⌝ }
+{
+    (p.m.0 < q.m.0) | ((p.m.0 == q.m.0) & ((p.a < q.a) | ((p.a == q.a) & (p.b < q.b))))
+}
+
+// r stands above the line before, where there is one.
+fn rises(line: u64, last: Record, r: Record) -> bool
+    ensures { λ v. ⌜ v ≡ above (lineBefore line last) r ⌝ }
+{
+    if line == 1 {
+        return true;
+    }
+    is_earlier(last.at, r.at)
+}
+
+// Enters the record of a line behind which the next stands at a position: 8 where no slot is free.
+fn enter_line(table: &mut [u8], n: usize, r: Record, next: usize) -> Step
+    requires { ⌜ Table (now table) n ⌝ }
+    ensures { λ s. ⌜ s ≡ enteredStep (now (table .entry)) r next ⌝ }
+    ensures { λ s. ⌜ now (table .exit) ≡ tableAfter (now (table .entry)) s ⌝ }
+{
+    let f = enter(table, r, n);
+    match f {
+        Found::At(_) => Step::Entered(r, next),
+        Found::Free(_) => Step::Entered(r, next),
+        Found::Full => Step::Faulty(8),
+    }
+}
+
+// The line at a position, the line before it having the record `last`: 9, 10, 8 in this order, or its record is entered.
+fn read_line(table: &mut [u8], n: usize, file: &[u8], at: usize, line: u64, last: Record) -> Step
+    requires { ⌜ Table (now table) n ⌝ }
+    ensures { λ s. ⌜ s ≡ stepAt (lineBefore line last) (now (table .entry)) (lineAt (now (file .entry)) at) ⌝ }
+    ensures { λ s. ⌜ now (table .exit) ≡ tableAfter (now (table .entry)) s ⌝ }
+{
+    match parse_line(file, at) {
+        Line::End => Step::Over,
+        Line::Bad => Step::Faulty(9),
+        Line::Good(r, next) => {
+            if !rises(line, last, r) {
+                return Step::Faulty(10);
+            }
+            enter_line(table, n, r, next)
+        }
+    }
+}
+
+// No record's line: what stands before the first.
+fn nothing() -> Record {
+    Record {
+        at: Point {
+            a: 0,
+            b: 0,
+            m: Depth(0),
+        },
+        d: 0,
+        k: 0,
+        n: Level(0),
+    }
+}
+
+// Enters the records of a file, in its order, up to the first fault.
+pub fn read_lines(table: &mut [u8], n: usize, file: &[u8]) -> ReadBack
+    requires { ⌜ Table (now table) n ⌝ }
+    ensures { λ r. ⌜ Ended (readLines (now (file .entry)) (now (table .entry))) (r .number) (r .line) (now (table .exit)) ⌝ }
+{
+    let mut at = 0;
+    let mut line: u64 = 1;
+    let mut last = nothing();
+    loop {
+        let s = read_line(table, n, file, at, line, last);
+        match s {
+            Step::Over => return answer(0, 0),
+            Step::Faulty(number) => return answer(number, line),
+            Step::Entered(r, next) => {
+                last = r;
+                at = next;
+                line += 1;
+            }
+        }
+    }
+}
