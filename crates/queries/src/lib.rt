@@ -9,3 +9,4 @@ mod vertices;
 
 pub use answers::faces;
 pub use answers::neighbours;
+pub use opposites::chosen;

@@ -9,7 +9,7 @@ use table::clear;
 use table::slots_of;
 
 // Clears both tables, and gives the number of slots; where the lengths don't fit both stay untouched, and it is 0.
-fn prepare(table: &mut [u8], scratch: &mut [u8]) -> usize
+pub fn prepare(table: &mut [u8], scratch: &mut [u8]) -> usize
     ensures { λ n. ⌜ Prepared (now (table .entry)) (now (scratch .entry)) (now (table .exit)) (now (scratch .exit)) n ⌝ }
 {
     let n = slots_of(table);

@@ -10,6 +10,7 @@ mod restore;
 
 ghost use mathlib.Core.Path.{_≡_};
 ghost use Rattle.readers.specs.Readers.{outcome, readFullOf, readReducedOf};
+pub use begin::prepare;
 use crate::begin::begin;
 use crate::begin::refuse;
 use crate::complete::complete;

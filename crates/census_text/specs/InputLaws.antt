@@ -1,0 +1,164 @@
+-- The input, read: `input-long`, `long-unfit`, `long-fit`, `input-read` the ways of reading it · `input-line` no line at fault is past the input's bytes · `input-order` what is read is a
+-- table in order · `census-refused`, `census-counted` the text that follows, `refused-most`, `counted-most` of at most 128 bytes.
+-- Assumes nothing.
+use mathlib.Core.Path.{_≡_, refl, sym, ap, _∙_, subst}
+use mathlib.Core.Bool.{Bool, true, false, cond}
+use mathlib.Core.List.{List}
+use mathlib.Core.Option.{Option, none, some}
+use Prim.Native.Nat.{ℕ, zero, suc, _+_, _≤_, _<_}
+use native.Mathlib.Omega.{arith}
+use borrow.Author.Tests.{ltb-false, lt-ltb, le-ltb, eq-eqb, ne-eqb}
+use lib.Dec.{eqb, ltb}
+use lib.ListN.{length}
+use Rattle.lattice.specs.declared.records.Record.{Record}
+use Rattle.laws.specs.Each.{both-left}
+use Rattle.table.specs.Slots.{fitsLength, slotsOf, clearedOf}
+use Rattle.table.specs.SlotLaws.{test-table}
+use Rattle.table.specs.Search.{findOf}
+use Rattle.table.specs.Order.{InOrder}
+use Rattle.table.specs.Entries.{enterOf}
+use Rattle.text.specs.Line.{lineAt}
+use Rattle.text.specs.declared.line.Line.{Line}
+use Rattle.text.specs.declared.line.Line.the-variants.{Good, Bad, End}
+use Rattle.grown.specs.Grown.{isGrown}
+use Rattle.readers.specs.Readers.{Lines, Read, Fault, after, above, noSlot, lineRead, linesFrom, readLines, Outcome, outcome, refused, accepted, lengthsFit, endFull, readFullOf}
+use Rattle.readers.specs.BeginLaws.{Prepared, prepared-unfit, prepared-fit}
+use Rattle.readers.specs.FaultLaws.{fault-number}
+use Rattle.readers.specs.ReadLaws.{read-lines}
+use Rattle.counts.specs.Counts.{countsOf}
+use Rattle.census_text.specs.Census.{countsText, refusedText, textOf, mostInput, readInputOf, Put, putText, result, resultFrom, censusOf}
+
+-- ---- the ways of reading
+
+-- too long an input, once it is known that the lengths fit
+abbrev pub longOf : List ℕ → List ℕ → Outcome
+longOf t s = cond (lengthsFit t s) (refused 8 0 t s) (outcome 1 0 t s)
+
+pub input-long : (t s input : List ℕ) → mostInput < length input → longOf t s ≡ readInputOf t s input
+unfolding readInputOf
+input-long t s input h = ap (λ (b : Bool). cond (lengthsFit t s) (cond b (refused 8 0 t s) (readFullOf t s input)) (outcome 1 0 t s)) (sym (lt-ltb mostInput (length input) h))
+
+full-unfit : (t s input : List ℕ) → lengthsFit t s ≡ false → readFullOf t s input ≡ outcome 1 0 t s
+unfolding readFullOf
+full-unfit t s input e = ap (λ (b : Bool). cond b (endFull t s (readLines input (clearedOf t))) (outcome 1 0 t s)) e
+
+pub input-read : (t s input : List ℕ) → length input ≤ mostInput → readFullOf t s input ≡ readInputOf t s input
+unfolding readInputOf
+input-read t s input h = go (lengthsFit t s) refl
+  where
+    short : ltb mostInput (length input) ≡ false
+    short = le-ltb mostInput (length input) h
+
+    go : (b : Bool) → lengthsFit t s ≡ b → readFullOf t s input ≡ cond b (cond (ltb mostInput (length input)) (refused 8 0 t s) (readFullOf t s input)) (outcome 1 0 t s)
+    go true e = ap (λ (x : Bool). cond x (refused 8 0 t s) (readFullOf t s input)) (sym short)
+    go false e = full-unfit t s input e
+
+-- both tables cleared, or untouched
+pub long-unfit : (t s t′ s′ : List ℕ) (n : ℕ) → Prepared t s t′ s′ n → n ≡ 0 → outcome 1 0 t′ s′ ≡ longOf t s
+long-unfit t s t′ s′ n p h =
+    let x = prepared-unfit t s p h in
+    (λ i. outcome 1 0 (x .1 i) (x .2 i)) ∙ ap (λ (b : Bool). cond b (refused 8 0 t s) (outcome 1 0 t s)) (sym (x .0))
+
+pub long-fit : (t s t′ s′ : List ℕ) (n : ℕ) → Prepared t s t′ s′ n → (n ≡ 0 → ⊥) → outcome 8 0 t′ s′ ≡ longOf t s
+long-fit t s t′ s′ n p h =
+    let x = prepared-fit t s p h in
+    (λ i. outcome 8 0 (x .1 i) (x .2 i)) ∙ ap (λ (b : Bool). cond b (refused 8 0 t s) (outcome 1 0 t s)) (sym (x .0))
+
+-- ---- what has been read
+
+-- a line at fault is one of the first so many
+abbrev LineBelow : ℕ → Lines → Type 0
+LineBelow m (Read rs t) = Unit
+LineBelow m (Fault number line) = line < m
+
+line-below : (f : List ℕ) (left p i : ℕ) (q : Option Record) (t : List ℕ) → LineBelow (i + left) (linesFrom f left p i q t)
+unfolding linesFrom
+line-below f zero p i q t = tt
+line-below f (suc left) p i q t = go (lineAt f p) (λ r next. line-below f left next (i + 1) (some r) (enterOf t r))
+  where
+    rest : Record → ℕ → Lines
+    rest r next = linesFrom f left next (i + 1) (some r) (enterOf t r)
+
+    later : (r : Record) (x : Lines) → LineBelow (i + 1 + left) x → LineBelow (i + suc left) (after r x)
+    later r (Read rs u) h = tt
+    later r (Fault number line) h = omega arith
+
+    by : (a b : Bool) (r : Record) (x : Lines) → LineBelow (i + 1 + left) x → LineBelow (i + suc left) (cond a (cond b (Fault 8 i) (after r x)) (Fault 10 i))
+    by true true r x h = omega arith
+    by true false r x h = later r x h
+    by false b r x h = omega arith
+
+    go : (l : Line) → ((r : Record) (next : ℕ) → LineBelow (i + 1 + left) (rest r next)) → LineBelow (i + suc left) (lineRead i q t rest l)
+    go End ih = tt
+    go Bad ih = omega arith
+    go (Good r next) ih = by (above q r) (noSlot (findOf t (r .at))) r (rest r next) (ih r next)
+
+module _ (t s input : List ℕ) where
+  -- what is known of an outcome: the line is none past the bytes, and a table that is read is in order
+  pub record Sound (r : Outcome) : Type 0 where
+    pub line-low : r .line ≤ mostInput
+    pub order : r .number ≡ 0 → InOrder (r .table)
+
+  zero-one : {A : Type 0} {n : ℕ} → n ≡ 0 → 1 ≤ n → A
+  zero-one e h = absurd (omega arith)
+
+  ended-sound : lengthsFit t s ≡ true → length input ≤ mostInput → (x : Lines) → readLines input (clearedOf t) ≡ x → Sound (endFull t s x)
+  ended-sound fit short (Fault number line) e =
+      let l : line < 1 + length input = subst (LineBelow (1 + length input)) e (line-below input (length input) 0 1 none (clearedOf t)) in
+      let k = fault-number input (length input) 0 1 none (clearedOf t) number line e in
+      record { line-low = omega arith; order = λ z. zero-one z (omega (arith, k .0)) }
+  ended-sound fit short (Read rs u) e = go (isGrown u)
+    where
+      order-u : InOrder u
+      order-u = read-lines t (slotsOf t) (test-table t (both-left (fitsLength (length t)) (eqb (length s) (length t)) fit)) input rs u e .order
+
+      go : (b : Bool) → Sound (cond b (accepted u s) (refused 11 0 t s))
+      go true = record { line-low = omega arith; order = λ z. order-u }
+      go false = record { line-low = omega arith; order = λ z. zero-one z (omega arith) }
+
+  input-sound : Sound (readInputOf t s input)
+  unfolding readInputOf readFullOf
+  input-sound = go (lengthsFit t s) refl (ltb mostInput (length input)) refl
+    where
+      go : (a : Bool) → lengthsFit t s ≡ a → (b : Bool) → ltb mostInput (length input) ≡ b
+          → Sound (cond a (cond b (refused 8 0 t s) (cond a (endFull t s (readLines input (clearedOf t))) (outcome 1 0 t s))) (outcome 1 0 t s))
+      go false e b h = record { line-low = omega arith; order = λ z. zero-one z (omega arith) }
+      go true e true h = record { line-low = omega arith; order = λ z. zero-one z (omega arith) }
+      go true e false h = ended-sound e (ltb-false mostInput (length input) h) (readLines input (clearedOf t)) refl
+
+  -- the same of what the reader gave back
+  module _ (number line : ℕ) (t′ s′ : List ℕ) (e : outcome number line t′ s′ ≡ readInputOf t s input) where
+    sound : Sound (outcome number line t′ s′)
+    sound = subst Sound (sym e) input-sound
+
+    pub input-line : line ≤ mostInput
+    input-line = sound .line-low
+
+    pub input-order : number ≡ 0 → InOrder t′
+    input-order z = sound .order z
+
+    -- the text that follows
+    module _ (ne : number ≡ 0 → ⊥) where
+      text-refused : refusedText number line ≡ textOf (outcome number line t′ s′)
+      unfolding textOf
+      text-refused = ap (λ (b : Bool). cond b (countsText (countsOf t′)) (refusedText number line)) (sym (ne-eqb number 0 ne))
+
+      pub census-refused : (out : List ℕ) (p : Put) → p ≡ putText number (refusedText number line) out → result p t′ s′ ≡ censusOf input t s out
+      unfolding censusOf
+      census-refused out p h = (λ i. result ((h ∙ ap (λ (x : List ℕ). putText number x out) text-refused) i) t′ s′) ∙ ap (λ (r : Outcome). resultFrom r out) e
+
+      pub refused-most : length (refusedText number line) ≤ 128 → length (textOf (readInputOf t s input)) ≤ 128
+      refused-most h = subst (λ (x : List ℕ). length x ≤ 128) (text-refused ∙ ap textOf e) h
+
+    module _ (z : number ≡ 0) where
+      text-counted : countsText (countsOf t′) ≡ textOf (outcome number line t′ s′)
+      unfolding textOf
+      text-counted = ap (λ (b : Bool). cond b (countsText (countsOf t′)) (refusedText number line)) (sym (eq-eqb number 0 z))
+
+      pub census-counted : (out : List ℕ) (p : Put) → p ≡ putText 0 (countsText (countsOf t′)) out → result p t′ s′ ≡ censusOf input t s out
+      unfolding censusOf
+      census-counted out p h =
+          (λ i. result ((h ∙ (λ k. putText (sym z k) (text-counted k) out)) i) t′ s′) ∙ ap (λ (r : Outcome). resultFrom r out) e
+
+      pub counted-most : length (countsText (countsOf t′)) ≤ 128 → length (textOf (readInputOf t s input)) ≤ 128
+      counted-most h = subst (λ (x : List ℕ). length x ≤ 128) (text-counted ∙ ap textOf e) h

@@ -1,0 +1,121 @@
+-- Document 01, "Census program": "V is records; E is the different unordered pairs of a vertex and one of its star's adjacent points; F the different faces; then
+-- records by degree." What the promise cites: `countsOf`.
+-- `different` how many different ones a list has · `pairsAt`, `facesAt` the pairs and the faces of a vertex, `samePair`, `sameFace` which are the same · `edgesIn`, `facesIn`, `degreeIn`
+-- those of a table.
+-- Assumes nothing.
+use mathlib.Core.Bool.{Bool, true, false, cond, not, _&&_, _||_}
+use mathlib.Core.List.{List, [], _∷_, _++_}
+use Prim.Native.Nat.{ℕ, zero, suc, _+_}
+use lib.Dec.{eqb}
+use lib.ListN.{length}
+use Rattle.lattice.specs.Stars.{adjacentAt}
+use Rattle.lattice.specs.declared.points.Point.{Point}
+use Rattle.lattice.specs.declared.records.Record.{Record}
+use Rattle.lattice.specs.declared.patterns.Spot.{Spot}
+use Rattle.lattice.specs.declared.patterns.Spot.the-variants.{At, Nothing}
+use Rattle.table.specs.Search.{samePoint}
+use Rattle.table.specs.Entries.{recordsOf}
+use Rattle.queries.specs.Queries.{chosenAt}
+use Rattle.counts.specs.declared.faces.Face.{Face}
+use Rattle.counts.specs.declared.Counts.{Counts}
+
+-- ---- "the different": those of a list with no same one before them
+
+abbrev pub bit : Bool → ℕ
+bit true = 1
+bit false = 0
+
+-- the test passes at an element of the list
+unfoldable pub someIn : {A : Type 0} → (A → Bool) → List A → Bool
+someIn f [] = false
+someIn f (x ∷ xs) = f x || someIn f xs
+
+-- `seen` are the ones before
+unfoldable pub differentAfter : {A : Type 0} → (A → A → Bool) → List A → List A → ℕ
+unfolding someIn
+differentAfter same seen [] = 0
+differentAfter same seen (x ∷ xs) = bit (not (someIn (same x) seen)) + differentAfter same (seen ++ x ∷ []) xs
+
+abbrev pub different : {A : Type 0} → (A → A → Bool) → List A → ℕ
+different same xs = differentAfter same [] xs
+
+-- what the places 0, 1, .. below d give, one after the other
+unfoldable pub gather : {A : Type 0} → ℕ → (ℕ → List A) → List A
+gather zero f = []
+gather (suc d) f = gather d f ++ f d
+
+-- what the records of a list give, one after the other
+unfoldable pub each : {A : Type 0} → (Record → List A) → List Record → List A
+each g [] = []
+each g (v ∷ vs) = g v ++ each g vs
+
+-- ---- "pairs of a vertex and one of its star's adjacent points"
+
+pub record Pair : Type 0 where
+  pub vertex : Point
+  pub adjacent : Point
+
+abbrev pub pair : Point → Point → Pair
+pair p q = record { vertex = p; adjacent = q }
+
+abbrev pub pairsAt : Record → List Pair
+pairsAt v = gather (v .d) (λ j. pair (v .at) (adjacentAt v j) ∷ [])
+
+-- "unordered"
+unfoldable pub samePair : Pair → Pair → Bool
+samePair p q =
+    samePoint (p .vertex) (q .vertex) && samePoint (p .adjacent) (q .adjacent)
+    || samePoint (p .vertex) (q .adjacent) && samePoint (p .adjacent) (q .vertex)
+
+-- ---- "Corner j lies between adjacent j and the next, the last before the first. Its face is v, adjacent j, opposite j, next adjacent."
+
+abbrev pub nextPlace : ℕ → ℕ → ℕ
+nextPlace d j = cond (eqb (j + 1) d) 0 (j + 1)
+
+abbrev pub face : Point → Point → Point → Point → Face
+face v a o b = record { at = v; adjacent = a; opposite = o; next = b }
+
+-- the face of corner j with this opposite; a corner with no opposite in the table has none
+abbrev pub faceWith : Record → ℕ → Spot → List Face
+faceWith v j (At o) = face (v .at) (adjacentAt v j) o (adjacentAt v (nextPlace (v .d) j)) ∷ []
+faceWith v j Nothing = []
+
+-- "The opposite is the first one if that is in the table, else the second.": `chosenAt`
+abbrev pub facesAt : List ℕ → Record → List Face
+facesAt t v = gather (v .d) (λ j. faceWith v j (chosenAt t v j))
+
+-- the face read from its next vertex on
+abbrev pub turned : Face → Face
+turned f = face (f .adjacent) (f .opposite) (f .next) (f .at)
+
+-- the same four points in the same places
+unfoldable pub fits : Face → Face → Bool
+fits f g = samePoint (f .at) (g .at) && (samePoint (f .adjacent) (g .adjacent) && (samePoint (f .opposite) (g .opposite) && samePoint (f .next) (g .next)))
+
+-- one is the other, read from one of its vertices on
+unfoldable pub sameFace : Face → Face → Bool
+unfolding fits
+sameFace f g = fits f g || (fits (turned f) g || (fits (turned (turned f)) g || fits (turned (turned (turned f))) g))
+
+-- ---- the numbers
+
+abbrev pub edgesIn : List ℕ → ℕ
+edgesIn t = different samePair (each pairsAt (recordsOf t))
+
+abbrev pub facesIn : List ℕ → ℕ
+facesIn t = different sameFace (each (facesAt t) (recordsOf t))
+
+-- how many records of a list have degree d
+unfoldable pub ofDegree : ℕ → List Record → ℕ
+ofDegree d [] = 0
+ofDegree d (r ∷ rs) = bit (eqb (r .d) d) + ofDegree d rs
+
+abbrev pub degreeIn : ℕ → List ℕ → ℕ
+degreeIn d t = ofDegree d (recordsOf t)
+
+-- "V E F d0 d3 d4 d5 d6"
+abbrev pub numbers : ℕ → ℕ → ℕ → ℕ → ℕ → ℕ → ℕ → ℕ → Counts
+numbers v e f d0 d3 d4 d5 d6 = record { vertices = v; edges = e; faces = f; d0 = d0; d3 = d3; d4 = d4; d5 = d5; d6 = d6 }
+
+unfoldable pub countsOf : List ℕ → Counts
+countsOf t = numbers (length (recordsOf t)) (edgesIn t) (facesIn t) (degreeIn 0 t) (degreeIn 3 t) (degreeIn 4 t) (degreeIn 5 t) (degreeIn 6 t)

@@ -1,0 +1,155 @@
+-- How many different ones a list has, part by part.
+-- `different-none`, `different-more` · `some-append`, `some-gather`, `some-each` where a test passes in a list put together of parts · `gather-none`, `gather-more`, `each-more`
+-- the parts · `sum-none`, `sum-more` a sum · `different-star` the different ones of a star, place by place · `different-slots` those of a table, slot by slot.
+-- Assumes nothing.
+use mathlib.Core.Path.{_≡_, refl, sym, ap, _∙_}
+use mathlib.Core.Bool.{Bool, true, false, not, _||_, or-assoc, or-false}
+use mathlib.Core.List.{List, [], _∷_, _++_, append-assoc, append-nil}
+use Prim.Native.Nat.{ℕ, zero, suc, _+_, _≤_, _<_}
+use native.Mathlib.Omega.{arith}
+use Rattle.laws.specs.Rules.{among}
+use Rattle.lattice.specs.declared.records.Record.{Record}
+use Rattle.table.specs.Slots.{slotAt}
+use Rattle.table.specs.Entries.{listed, recordsBelow}
+use Rattle.table.specs.declared.slots.Slot.{Slot}
+use Rattle.table.specs.declared.slots.Slot.the-variants.{Free, Holds}
+use Rattle.counts.specs.Counts.{bit, someIn, differentAfter, gather, each}
+use Rattle.counts.specs.Earlier.{sumBelow, slotSum}
+
+-- ---- sums
+
+pub sum-none : (f : ℕ → ℕ) → sumBelow f 0 ≡ 0
+unfolding sumBelow
+sum-none f = refl
+
+pub sum-more : (f : ℕ → ℕ) (i : ℕ) → sumBelow f (i + 1) ≡ sumBelow f i + f i
+unfolding sumBelow
+sum-more f i = let e : i + 1 ≡ suc i = omega arith in ap (sumBelow f) e
+
+-- ---- lists put together of parts
+
+among-none : (P : ℕ → Bool) (n : ℕ) → ((i : ℕ) → i < n → P i ≡ false) → among n P ≡ false
+among-none P zero h = refl
+among-none P (suc n) h = let l : n < suc n = omega arith in (λ i. h n l i || among n P) ∙ among-none P n (λ i m. h i (omega arith))
+
+-- one number more at which the test fails
+pub among-more : (P : ℕ → Bool) (i : ℕ) → among i P ≡ false → P i ≡ false → among (i + 1) P ≡ false
+among-more P i a b = let e : i + 1 ≡ suc i = omega arith in ap (λ (k : ℕ). among k P) e ∙ (λ z. b z || a z)
+
+-- a test of a slot's record
+abbrev pub slotTest : (Record → Bool) → Slot → Bool
+slotTest f Free = false
+slotTest f (Holds v) = f v
+
+or-turn : (a b : Bool) → a || b ≡ b || a
+or-turn true true = refl
+or-turn true false = refl
+or-turn false true = refl
+or-turn false false = refl
+
+module _ {A : Type 0} where
+  pub some-append : (f : A → Bool) (xs ys : List A) → someIn f (xs ++ ys) ≡ someIn f xs || someIn f ys
+  unfolding someIn
+  some-append f [] ys = refl
+  some-append f (x ∷ xs) ys = ap (λ (b : Bool). f x || b) (some-append f xs ys) ∙ sym (or-assoc (f x) (someIn f xs) (someIn f ys))
+
+  pub some-gather : (f : A → Bool) (d : ℕ) (g : ℕ → List A) → someIn f (gather d g) ≡ among d (λ j. someIn f (g j))
+  unfolding gather someIn
+  some-gather f zero g = refl
+  some-gather f (suc d) g = some-append f (gather d g) (g d) ∙ ap (λ (b : Bool). b || someIn f (g d)) (some-gather f d g) ∙ or-turn (among d (λ j. someIn f (g j))) (someIn f (g d))
+
+  pub some-one : (f : A → Bool) (x : A) → someIn f (x ∷ []) ≡ f x
+  unfolding someIn
+  some-one f x = or-false (f x)
+
+  pub some-none : (f : A → Bool) → someIn f [] ≡ false
+  unfolding someIn
+  some-none f = refl
+
+  pub gather-none : (g : ℕ → List A) → gather 0 g ≡ []
+  unfolding gather
+  gather-none g = refl
+
+  each-append : (g : Record → List A) (vs ws : List Record) → each g (vs ++ ws) ≡ each g vs ++ each g ws
+  unfolding each
+  each-append g [] ws = refl
+  each-append g (v ∷ vs) ws = ap (λ (l : List A). g v ++ l) (each-append g vs ws) ∙ sym (append-assoc (g v) (each g vs) (each g ws))
+
+  -- what a slot's record gives
+  abbrev slotGives : (Record → List A) → Slot → List A
+  slotGives g Free = []
+  slotGives g (Holds v) = g v
+
+  -- the records of one slot more
+  each-more : (g : Record → List A) (t : List ℕ) (k : ℕ) → each g (recordsBelow t (suc k)) ≡ each g (recordsBelow t k) ++ slotGives g (slotAt t k)
+  unfolding recordsBelow each
+  each-more g t k = each-append g (recordsBelow t k) (listed (slotAt t k)) ∙ ap (λ (l : List A). each g (recordsBelow t k) ++ l) (one (slotAt t k))
+    where
+      one : (s : Slot) → each g (listed s) ≡ slotGives g s
+      one Free = refl
+      one (Holds v) = append-nil (g v)
+
+  pub some-each : (f : A → Bool) (g : Record → List A) (t : List ℕ) (k : ℕ) → someIn f (each g (recordsBelow t k)) ≡ among k (λ i. slotTest (λ u. someIn f (g u)) (slotAt t i))
+  unfolding recordsBelow each someIn
+  some-each f g t zero = refl
+  some-each f g t (suc k) =
+      let a = each g (recordsBelow t k) in
+      let s = slotAt t k in
+      ap (someIn f) (each-more g t k) ∙ some-append f a (slotGives g s) ∙ or-turn (someIn f a) (someIn f (slotGives g s))
+      ∙ (λ i. one s i || some-each f g t k i)
+    where
+      one : (s : Slot) → someIn f (slotGives g s) ≡ slotTest (λ u. someIn f (g u)) s
+      one Free = refl
+      one (Holds v) = refl
+
+  -- ---- the different ones, part by part
+
+  module _ (same : A → A → Bool) where
+    different-append : (seen xs ys : List A) → differentAfter same seen (xs ++ ys) ≡ differentAfter same seen xs + differentAfter same (seen ++ xs) ys
+    unfolding differentAfter
+    different-append seen [] ys = let a = ap (λ (l : List A). differentAfter same l ys) (append-nil seen) in omega (arith, a)
+    different-append seen (x ∷ xs) ys =
+        let a = different-append (seen ++ x ∷ []) xs ys in
+        let b = ap (λ (l : List A). differentAfter same l ys) (append-assoc seen (x ∷ []) xs) in
+        omega (arith, a, b)
+
+    -- an element, by whether a same one is among those before
+    pub different-one : (seen : List A) (x : A) (b : Bool) → someIn (same x) seen ≡ b → differentAfter same seen (x ∷ []) ≡ bit (not b)
+    unfolding differentAfter
+    different-one seen x b e = let z = ap (λ (c : Bool). bit (not c)) e in omega (arith, z)
+
+    -- an element at place j of a star, none of whose earlier places gives a same one
+    pub different-place : (seen : List A) (g : ℕ → List A) (j : ℕ) (x : A) (b : Bool) → someIn (same x) seen ≡ b → ((i : ℕ) → i < j → someIn (same x) (g i) ≡ false) → differentAfter same (seen ++ gather j g) (x ∷ []) ≡ bit (not b)
+    different-place seen g j x b e h =
+        different-one (seen ++ gather j g) x b
+        (some-append (same x) seen (gather j g) ∙ (λ i. e i || (some-gather (same x) j g ∙ among-none (λ i. someIn (same x) (g i)) j h) i) ∙ or-false b)
+
+    pub different-nothing : (seen : List A) → differentAfter same seen [] ≡ 0
+    unfolding differentAfter
+    different-nothing seen = refl
+
+    -- a star's places, of which place j adds c j
+    pub different-star : (seen : List A) (g : ℕ → List A) (c : ℕ → ℕ) (d : ℕ) → ((j : ℕ) → j < d → differentAfter same (seen ++ gather j g) (g j) ≡ c j) → differentAfter same seen (gather d g) ≡ sumBelow c d
+    unfolding gather sumBelow
+    different-star seen g c zero h = different-nothing seen
+    different-star seen g c (suc d) h =
+        let a = different-star seen g c d (λ j l. h j (omega arith)) in
+        let b = different-append seen (gather d g) (g d) in
+        let e = h d (omega arith) in
+        omega (arith, a, b, e)
+
+    -- a table's slots, of which the record v in slot k adds c k v
+    pub different-slots : (g : Record → List A) (c : ℕ → Record → ℕ) (t : List ℕ) (n : ℕ)
+        → ((k : ℕ) (v : Record) → k < n → slotAt t k ≡ Holds v → differentAfter same (each g (recordsBelow t k)) (g v) ≡ c k v)
+        → differentAfter same [] (each g (recordsBelow t n)) ≡ sumBelow (λ k. slotSum (c k) (slotAt t k)) n
+    unfolding recordsBelow each sumBelow
+    different-slots g c t zero h = different-nothing []
+    different-slots g c t (suc n) h =
+        let a = different-slots g c t n (λ k v l. h k v (omega arith)) in
+        let b = ap (differentAfter same []) (each-more g t n) ∙ different-append [] (each g (recordsBelow t n)) (slotGives g (slotAt t n)) in
+        let e = one (slotAt t n) refl in
+        omega (arith, a, b, e)
+      where
+        one : (s : Slot) → slotAt t n ≡ s → differentAfter same (each g (recordsBelow t n)) (slotGives g s) ≡ slotSum (c n) s
+        one Free e = different-nothing (each g (recordsBelow t n))
+        one (Holds v) e = h n v (omega arith) e

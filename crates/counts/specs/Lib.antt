@@ -1,0 +1,14 @@
+-- Document 01, "Census program", in antt: what is counted of a table.
+pub mod Counts
+-- what the promises of the functions below cite besides
+pub mod Earlier
+-- their laws
+pub mod DifferentLaws
+pub mod EarlierLaws
+pub mod StarLaws
+pub mod PairLaws
+pub mod FaceLaws
+pub mod DegreeLaws
+pub mod CaseLaws
+-- examples that compute
+pub mod Examples
