@@ -15,9 +15,10 @@ use Rattle.mesh.specs.Subdivide as divided
 use Rattle.queries.specs.Queries.{neighboursOf, facesOf}
 use Rattle.writers.specs.Files as written
 use Rattle.readers.specs.Readers as read
+use Rattle.census_text.specs.Census as counted
 
 pub data Call : Type 0 where
-  normalise star base subdivide subdivideAll neighbours faces writeFull writeReduced readFull readReduced : Call
+  normalise star base subdivide subdivideAll neighbours faces writeFull writeReduced readFull readReduced census : Call
 
 -- lent bytes are lists of ℕ, lent whole numbers lists of ℤ
 abbrev pub Lent : Call → Type 0
@@ -32,6 +33,7 @@ Lent writeFull = List ℕ × List ℕ
 Lent writeReduced = List ℕ × List ℕ
 Lent readFull = List ℕ × List ℕ × List ℕ
 Lent readReduced = List ℕ × List ℕ × List ℕ
+Lent census = List ℕ × List ℕ × List ℕ × List ℕ
 
 -- the answer, and the bytes after of all that was lent to be written
 abbrev pub Outcome : Call → Type 0
@@ -46,6 +48,7 @@ Outcome writeFull = written.Outcome
 Outcome writeReduced = written.Outcome
 Outcome readFull = read.Outcome
 Outcome readReduced = read.Outcome
+Outcome census = counted.Result
 
 abbrev pub does : (c : Call) → Lent c → Outcome c
 does normalise (a, b, m) = normalOf a b m
@@ -59,6 +62,7 @@ does writeFull (t, out) = written.writeFullOf t out
 does writeReduced (t, out) = written.writeReducedOf t out
 does readFull (t, s, f) = read.readFullOf t s f
 does readReduced (t, s, f) = read.readReducedOf t s f
+does census (i, t, s, out) = counted.censusOf i t s out
 
 -- "show that two outcomes allowed by it are equal"
 pub one-outcome : (c : Call) (x : Lent c) (o o′ : Outcome c) → o ≡ does c x → o′ ≡ does c x → o ≡ o′

@@ -4,8 +4,9 @@ pub mod Calls
 pub mod Numbers
 pub mod ReadNumbers
 pub mod Refused
--- demand 2: one form of a point, the files
+-- demand 2: one form of a point, the meshes, the files
 pub mod Points
+pub mod Meshes
 pub mod Files
 -- demand 3: what is written comes back
 pub mod Returns

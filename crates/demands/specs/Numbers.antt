@@ -1,11 +1,12 @@
 -- Demand 1, the numbers: "What is wrong is refused by document 01's numbers, on its conditions and no others." For each call its conditions, in the order that 01 has them: the number is that of
 -- the first that holds, and 0 where none does.
--- `Rule`, `firstOf` · `first-number`, `number-first` refused with a number exactly when its condition holds and none before it · `star-number`, `base-number`, `subdivide-number`, `neighbours-number`,
+-- `Rule`, `firstOf` · `first-number`, `number-first` refused with a number exactly when its condition holds and none before it, `zero-none`, `none-zero` 0 exactly where none does · `star-number`, `base-number`, `subdivide-number`, `neighbours-number`,
 -- `faces-number`, `write-number` the calls.
 -- Assumes nothing.
 use mathlib.Core.Path.{_≡_, refl, sym, _∙_, ap}
 use mathlib.Core.Bool.{Bool, true, false, cond, _&&_, not}
-use mathlib.Core.List.{List, [], _∷_, _++_}
+use mathlib.Core.Logic.{_≢_}
+use mathlib.Core.List.{List, [], _∷_, _++_, List·Memᴰ, List·Memᴰ·head, List·Memᴰ·tail}
 use Prim.Native.Nat.{ℕ}
 use lib.Dec.{eqb, ltb}
 use lib.IntN.{ℤ}
@@ -70,6 +71,19 @@ number-first (r ∷ rs) n e z = go (r .when) refl e (λ k. number-first rs n k z
     go false h e ih =
         let f = ih e in
         record { before = r ∷ f .before; rule = f .rule; rest = f .rest; among = ap (λ (xs : List Rule). r ∷ xs) (f .among); none = (h, f .none); holds = f .holds; gives = f .gives }
+
+-- 0 exactly where none holds, of rules with numbers other than 0
+pub zero-none : (rules : List Rule) → ((r : Rule) → List·Memᴰ r rules → r .number ≢ 0) → firstOf rules ≡ 0 → noneHolds rules
+zero-none [] h e = tt
+zero-none (r ∷ rs) h e = go (r .when) refl e (λ k. zero-none rs (λ x m. h x (List·Memᴰ·tail m)) k)
+  where
+    go : (b : Bool) → r .when ≡ b → cond b (r .number) (firstOf rs) ≡ 0 → (firstOf rs ≡ 0 → noneHolds rs) → noneHolds (r ∷ rs)
+    go true w e ih = absurd (h r (List·Memᴰ·head refl) e)
+    go false w e ih = (w, ih e)
+
+pub none-zero : (rules : List Rule) → noneHolds rules → firstOf rules ≡ 0
+none-zero [] n = refl
+none-zero (r ∷ rs) n = rw (n .0) (none-zero rs (n .1))
 
 -- a condition on the record that was looked for, where there is one
 abbrev pub ofHeld : (Record → Bool) → Looked → Bool

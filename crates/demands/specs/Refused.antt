@@ -1,18 +1,27 @@
 -- Demand 1, the bytes: "A refused request leaves the mesh untouched; a refused base or read leaves an empty table, or an untouched one where its length was the fault."
 -- `subdivide-untouched`, `all-untouched`, `write-untouched` · `base-untouched`, `base-cleared` · `Reading`, `full-reading`, `reduced-reading` how a reader ends, `read-untouched`, `read-cleared`, `scratch-cleared`.
--- Queries and the star call are lent nothing to write.
+-- Queries and the star call are lent nothing to write: `star-refused`, `neighbours-refused`, `faces-refused` "Refused, count 0 and all zeros."
 -- Assumes nothing.
 use mathlib.Core.Path.{_≡_, refl, sym, _∙_, ap}
 use mathlib.Core.Logic.{_≢_}
-use mathlib.Core.Bool.{Bool, true, false, cond}
+use mathlib.Core.Bool.{Bool, true, false, cond, _&&_}
 use mathlib.Core.List.{List, _++_}
 use mathlib.Core.Option.{none}
 use Prim.Native.Nat.{ℕ, _≤_}
 use native.Mathlib.Omega.{arith}
-use lib.Dec.{ltb, lit≤}
+use lib.Dec.{eqb, ltb, lit≤}
 use lib.IntN.{ℤ}
 use lib.ListN.{length, drop}
+use Rattle.lattice.specs.Points.{normalOf}
+use Rattle.lattice.specs.Records.{validOf}
+use Rattle.lattice.specs.Stars.{starOf, given}
+use Rattle.lattice.specs.Stars as stars
 use Rattle.lattice.specs.declared.records.Record.{Record}
+use Rattle.lattice.specs.declared.stars.Answer.{Answer}
+use Rattle.table.specs.Entries.{lookUp}
+use Rattle.table.specs.declared.entries.Looked.{Looked}
+use Rattle.table.specs.declared.entries.Looked.the-variants.{Absent, Held}
+use Rattle.queries.specs.Queries.{neighboursOf, facesOf, facesGiven, queryLooked, adjacentsThere, cornersThere}
 use Rattle.table.specs.Slots.{fitsLength, clearedOf}
 use Rattle.table.specs.Order.{inOrderOf}
 use Rattle.base.specs.Base.{Laid, Room, NoRoom, baseOf, unpaired, badPlace, centresIn, laidOf, fromLaid}
@@ -38,6 +47,44 @@ subdivide-untouched t a b m n = go (subdivision t a b m)
 -- of a list, those before the refused one stand; none do where the table is not in order
 pub all-untouched : (t : List ℕ) (ps : List ℤ) → inOrderOf t ≡ false → subdivideAllOf t ps ≡ record { number = 1; done = 0; bytes = t }
 all-untouched t ps h = sym (cases.many-1 t ps h)
+
+-- ---- the star call and queries
+abbrev zeros : ℕ → Answer
+zeros n = stars.refused n
+
+pub star-refused : (r : Record) → starOf r .number ≢ 0 → starOf r ≡ zeros (starOf r .number)
+unfolding starOf
+star-refused r = go (validOf r) (eqb (r .d) 0)
+  where
+    go : (v z : Bool) → cond v (cond z (zeros 14) (given r)) (zeros 9) .number ≢ 0 → cond v (cond z (zeros 14) (given r)) (zeros 9) ≡ zeros (cond v (cond z (zeros 14) (given r)) (zeros 9) .number)
+    go true true n = refl
+    go true false n = absurd (n refl)
+    go false z n = refl
+
+query-refused : (t : List ℕ) (l : Looked) (whole : Record → Bool) (found : Record → Answer) → ((v : Record) → found v .number ≡ 0)
+    → (x : Answer) → x ≡ cond (inOrderOf t) (queryLooked (λ v. cond (whole v) (found v) (zeros 7)) l) (zeros 1) → x .number ≢ 0 → x ≡ zeros (x .number)
+query-refused t l whole found zero x e n = go (inOrderOf t) l e
+  where
+    is : (k : ℕ) → x ≡ zeros k → x ≡ zeros (x .number)
+    is k h = h ∙ ap zeros (sym (ap (λ (y : Answer). y .number) h))
+
+    at : (v : Record) (z w : Bool) → x ≡ cond z (zeros 14) (cond w (found v) (zeros 7)) → x ≡ zeros (x .number)
+    at v true w h = is 14 h
+    at v false true h = absurd (n (ap (λ (y : Answer). y .number) h ∙ zero v))
+    at v false false h = is 7 h
+
+    go : (o : Bool) (l : Looked) → x ≡ cond o (queryLooked (λ v. cond (whole v) (found v) (zeros 7)) l) (zeros 1) → x ≡ zeros (x .number)
+    go false l h = is 1 h
+    go true Absent h = is 3 h
+    go true (Held v) h = at v (eqb (v .d) 0) (whole v) h
+
+pub neighbours-refused : (t : List ℕ) (a b : ℤ) (m : ℕ) → neighboursOf t a b m .number ≢ 0 → neighboursOf t a b m ≡ zeros (neighboursOf t a b m .number)
+unfolding neighboursOf
+neighbours-refused t a b m = query-refused t (lookUp t (normalOf a b m)) (adjacentsThere t) given (λ v. refl) (neighboursOf t a b m) refl
+
+pub faces-refused : (t : List ℕ) (a b : ℤ) (m : ℕ) → facesOf t a b m .number ≢ 0 → facesOf t a b m ≡ zeros (facesOf t a b m .number)
+unfolding facesOf
+faces-refused t a b m = query-refused t (lookUp t (normalOf a b m)) (λ v. adjacentsThere t v && cornersThere t v) (facesGiven t) (λ v. refl) (facesOf t a b m) refl
 
 -- ---- writers
 module _ (file t out : List ℕ) where
