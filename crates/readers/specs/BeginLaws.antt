@@ -14,7 +14,7 @@ use Rattle.lattice.specs.declared.records.Record.{Record}
 use Rattle.table.specs.Slots.{Table, fitsLength, slotsOf, clearedOf}
 use Rattle.table.specs.MapLaws.{table-of}
 use Rattle.table.specs.SlotLaws.{table-test, slots-table, no-slots}
-use Rattle.readers.specs.Readers.{Lines, Read, Fault, readLines, Outcome, outcome, refused, lengthsFit, endFull, endReduced, readFullOf, readReducedOf}
+use Rattle.readers.specs.Readers.{Lines, Read, Fault, readLines, outcome, refused, lengthsFit, endFull, endReduced, readFullOf, readReducedOf}
 use Rattle.readers.specs.ReadLaws.{Lined, read-lines}
 use Rattle.readers.specs.LineSteps.{Ended, ended-read, ended-fault}
 

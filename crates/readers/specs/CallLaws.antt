@@ -2,7 +2,7 @@
 -- restoring leaves, `end-stopped`, `end-judged` · `lined-again` and `reduced-refused`, `reduced-read`: what `read_reduced` answers then.
 -- Assumes nothing.
 use mathlib.Core.Path.{_≡_, sym, ap, _∙_, subst}
-use mathlib.Core.Bool.{Bool, true, cond}
+use mathlib.Core.Bool.{Bool, cond}
 use mathlib.Core.List.{List}
 use Prim.Native.Nat.{ℕ}
 use borrow.Author.Tests.{eq-eqb, ne-eqb}

@@ -1,6 +1,6 @@
 -- `readers::prepare` meets its promise. Assumes nothing.
 use borrow.Author.Needs.{needs}
-use mathlib.Core.Path.{_≡_, sym, _∙_}
+use mathlib.Core.Path.{sym, _∙_}
 use Rattle.readers.specs.BeginLaws.{none-unfit, other-unfit, both-fit}
 use Rattle.readers.proofs.begin.prepare.Statement.{statement}
 use Rattle.readers.proofs.begin.prepare.Tie as tie

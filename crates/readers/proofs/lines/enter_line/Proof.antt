@@ -1,6 +1,6 @@
 -- `readers::enter_line` meets its promise: by where the search ended. Assumes nothing.
 use borrow.Author.Needs.{needs}
-use mathlib.Core.Path.{_≡_, sym, _∙_}
+use mathlib.Core.Path.{sym, _∙_}
 use Rattle.readers.specs.LineSteps.{entered-there, entered-free, entered-full, full-stays}
 use Rattle.readers.proofs.lines.enter_line.Statement.{statement}
 use Rattle.readers.proofs.lines.enter_line.Tie as tie

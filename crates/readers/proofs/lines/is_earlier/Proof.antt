@@ -1,5 +1,4 @@
 -- `readers::is_earlier` meets its promise: the code compares the bits. Assumes nothing.
-use mathlib.Core.Path.{_≡_}
 use mathlib.Core.Bool.{_&&_, _||_}
 use Prim.Native.Nat.{_<_, _^_}
 use native.Mathlib.Omega.{arith}

@@ -1,13 +1,11 @@
 -- `readers::restore_round` meets its promise. The invariant: the adjacent points so far are restored. Assumes nothing.
-use borrow.Author.Needs.{needs}
 use mathlib.Core.Path.{_≡_, refl, sym, _∙_, ap}
 use mathlib.Core.List.{List}
-use Prim.Native.Nat.{ℕ, _+_, _-_, _≤_, _<_}
+use Prim.Native.Nat.{ℕ, _+_, _-_, _≤_}
 use native.Mathlib.Omega.{arith}
 use lib.ListN.{length}
 use Rattle.laws.specs.Choices.{of-true}
 use Rattle.lattice.specs.RecordLaws.{valid-turn}
-use Rattle.lattice.specs.declared.records.Record.{Record}
 use Rattle.table.specs.MapLaws.{table-same}
 use Rattle.readers.specs.Readers.{With, restore, restoreTo}
 use Rattle.readers.specs.RestoreSteps.{restoredBy, by-none, by-stopped, six-inner, born-restored, to-none, to-more, to-stopped}

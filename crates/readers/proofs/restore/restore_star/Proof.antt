@@ -1,6 +1,6 @@
 -- `readers::restore_star` meets its promise. Assumes nothing.
 use borrow.Author.Needs.{needs}
-use mathlib.Core.Path.{_≡_, _∙_}
+use mathlib.Core.Path.{_∙_}
 use Rattle.readers.specs.Readers.{With}
 use Rattle.readers.specs.RestoreSteps.{star-six, star-other}
 use Rattle.readers.proofs.restore.restore_star.Statement.{statement}
