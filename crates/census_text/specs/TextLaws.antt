@@ -4,18 +4,18 @@
 -- Assumes nothing.
 use mathlib.Core.Path.{_≡_, refl, sym, ap, _∙_}
 use mathlib.Core.Bool.{Bool, cond}
-use mathlib.Core.List.{List, [], _∷_, _++_, map, append-assoc, append-nil}
+use mathlib.Core.List.{List, [], _∷_, _++_, append-assoc, append-nil}
 use Prim.Native.Nat.{ℕ, zero, suc, _+_, _*_, _≤_, _<_}
 use native.Mathlib.Omega.{arith}
 use native.Mathlib.Decide.{ℕ-discrete}
 use borrow.Author.Tests.{lt-ltb, le-ltb, eq-eqb, ne-eqb}
-use lib.Dec.{eqb, ltb}
+use lib.Dec.{eqb}
 use lib.ListN.{length, getD, set, take, drop, length-append}
 use lib.Seq.{sets, sets-eq, length-sets, take-suc, take-length, length-take-le}
 use Rattle.laws.specs.Sets.{sets-append}
 use Rattle.laws.specs.Stores.{Wrote, wrote-then}
 use Rattle.text.specs.Decimal.{tab, feed, digitsBy, digits, ended}
-use Rattle.census_text.specs.Census.{stopOf, tabbed, header, row, refusedWord, refusedText, put, putText}
+use Rattle.census_text.specs.Census.{tabbed, header, row, refusedText, put, putText}
 
 -- ---- the first part of each text, as the code has it
 

@@ -2,7 +2,7 @@
 -- `corner-third`. A corner: `corner-none`, `corner-counted`. A face: `before-second`,
 -- `before-third`, `before-fourth`. A slot: `pairs-free`, `pairs-holds`, `faces-free`, `faces-holds`, `degree-free`, `degree-holds`.
 -- Assumes nothing.
-use mathlib.Core.Path.{_≡_, refl, sym, ap, _∙_}
+use mathlib.Core.Path.{_≡_, sym, ap, _∙_}
 use mathlib.Core.Bool.{Bool, true, false, not, _&&_, _||_, or-true}
 use mathlib.Core.List.{List}
 use Prim.Native.Nat.{ℕ, _+_, _*_, _≤_}
@@ -13,11 +13,9 @@ use Rattle.laws.specs.Each.{and-false}
 use Rattle.lattice.specs.Stars.{adjacentAt}
 use Rattle.lattice.specs.declared.points.Point.{Point}
 use Rattle.lattice.specs.declared.records.Record.{Record}
-use Rattle.lattice.specs.declared.patterns.Spot.{Spot}
 use Rattle.lattice.specs.declared.patterns.Spot.the-variants.{At, Nothing}
 use Rattle.table.specs.Slots.{slotAt}
 use Rattle.table.specs.Search.{samePoint}
-use Rattle.table.specs.declared.slots.Slot.{Slot}
 use Rattle.table.specs.declared.slots.Slot.the-variants.{Free, Holds}
 use Rattle.queries.specs.Queries.{chosenAt}
 use Rattle.counts.specs.Counts.{bit, nextPlace, turned}

@@ -1,11 +1,12 @@
 -- How many different ones a list has, part by part.
--- `different-none`, `different-more` · `some-append`, `some-gather`, `some-each` where a test passes in a list put together of parts · `gather-none`, `gather-more`, `each-more`
--- the parts · `sum-none`, `sum-more` a sum · `different-star` the different ones of a star, place by place · `different-slots` those of a table, slot by slot.
+-- `sum-none`, `sum-more` a sum · `among-more`, `slotTest` tests of numbers and of slots · `some-one`, `some-none`, `some-gather`, `some-each` where a test passes in a list put together of
+-- parts · `different-one`, `different-place`, `different-nothing` an element, by those before it · `different-star` the different ones of a star, place by place · `different-slots` those of a
+-- table, slot by slot.
 -- Assumes nothing.
 use mathlib.Core.Path.{_≡_, refl, sym, ap, _∙_}
 use mathlib.Core.Bool.{Bool, true, false, not, _||_, or-assoc, or-false}
 use mathlib.Core.List.{List, [], _∷_, _++_, append-assoc, append-nil}
-use Prim.Native.Nat.{ℕ, zero, suc, _+_, _≤_, _<_}
+use Prim.Native.Nat.{ℕ, zero, suc, _+_, _<_}
 use native.Mathlib.Omega.{arith}
 use Rattle.laws.specs.Rules.{among}
 use Rattle.lattice.specs.declared.records.Record.{Record}
@@ -65,10 +66,6 @@ module _ {A : Type 0} where
   pub some-none : (f : A → Bool) → someIn f [] ≡ false
   unfolding someIn
   some-none f = refl
-
-  pub gather-none : (g : ℕ → List A) → gather 0 g ≡ []
-  unfolding gather
-  gather-none g = refl
 
   each-append : (g : Record → List A) (vs ws : List Record) → each g (vs ++ ws) ≡ each g vs ++ each g ws
   unfolding each

@@ -2,7 +2,7 @@
 -- `sumBelow` a sum · `earlierOf` the record at a point, if it stands before a slot · `namesPoint`, `pairCount` the pairs of a star · `cornerIs`, `namesFace`, `faceBefore`, `cornerCount`
 -- its faces · `slotPairs`, `slotFaces`, `slotDegree` what a slot adds.
 -- Assumes nothing.
-use mathlib.Core.Bool.{Bool, true, false, cond, not, _&&_, _||_}
+use mathlib.Core.Bool.{Bool, false, cond, not, _&&_, _||_}
 use mathlib.Core.List.{List}
 use Prim.Native.Nat.{ℕ, zero, suc, _+_}
 use lib.Dec.{eqb, ltb}

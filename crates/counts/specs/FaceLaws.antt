@@ -5,15 +5,14 @@
 -- Assumes nothing.
 use mathlib.Core.Path.{_≡_, refl, sym, ap, _∙_}
 use mathlib.Core.Logic.{_⊎_, inl, inr}
-use mathlib.Core.Bool.{Bool, true, false, cond, not, _&&_, _||_, or-true}
-use mathlib.Core.List.{List, [], _∷_, _++_}
+use mathlib.Core.Bool.{Bool, true, false, _&&_, _||_, or-true}
+use mathlib.Core.List.{List, _++_}
 use Prim.Native.Nat.{ℕ, _+_, _≤_, _<_}
 use native.Mathlib.Omega.{arith}
 use native.Mathlib.Decide.{ℕ-discrete}
 use borrow.Author.Tests.{eq-eqb, ne-eqb}
-use lib.Dec.{eqb}
 use Rattle.laws.specs.Rules.{among}
-use Rattle.laws.specs.Each.{not-both, both-left, both-right, among-at, at-among, same-test}
+use Rattle.laws.specs.Each.{not-both, never, among-at, at-among, same-test}
 use Rattle.lattice.specs.Stars.{adjacentAt}
 use Rattle.lattice.specs.RecordLaws.{Inner}
 use Rattle.lattice.specs.declared.points.Point.{Point}
@@ -28,7 +27,7 @@ use Rattle.table.specs.Entries.{recordsBelow}
 use Rattle.table.specs.MapLaws.{same-refl, same-true}
 use Rattle.table.specs.declared.slots.Slot.the-variants.{Holds}
 use Rattle.queries.specs.Queries.{chosenAt}
-use Rattle.counts.specs.Counts.{bit, someIn, differentAfter, gather, each, nextPlace, face, faceWith, facesAt, turned, fits, sameFace, facesIn}
+use Rattle.counts.specs.Counts.{someIn, differentAfter, gather, each, nextPlace, face, faceWith, facesAt, turned, fits, sameFace, facesIn}
 use Rattle.counts.specs.Earlier.{sumBelow, spotIs, cornerIs, namesFace, faceSeen, faceBefore, faceOn, faceCount, cornerCount, starFaces, slotFaces}
 use Rattle.counts.specs.DifferentLaws.{slotTest, some-one, some-none, some-gather, some-each, different-nothing, different-place, different-star, different-slots}
 use Rattle.counts.specs.EarlierLaws.{Passes, other-point, star-inner, earlier-yes, yes-earlier, slots-pass, pass-slots}
@@ -76,38 +75,27 @@ reading-same : (f g : Face) → Reading f g → sameFace f g ≡ true
 unfolding sameFace
 reading-same f g r = go r
   where
-    a : Bool
-    a = fits f g
+    some4 : (a b c d : Bool) → (a ≡ true) ⊎ ((b ≡ true) ⊎ ((c ≡ true) ⊎ (d ≡ true))) → a || (b || (c || d)) ≡ true
+    some4 true b c d h = refl
+    some4 false true c d h = refl
+    some4 false false true d h = refl
+    some4 false false false d (inl e) = absurd (never e)
+    some4 false false false d (inr (inl e)) = absurd (never e)
+    some4 false false false d (inr (inr (inl e))) = absurd (never e)
+    some4 false false false d (inr (inr (inr e))) = e
 
-    b : Bool
-    b = fits (turned f) g
-
-    c : Bool
-    c = fits (turned (turned f)) g
-
-    d : Bool
-    d = fits (turned (turned (turned f))) g
+    one : (fits f g ≡ true) ⊎ ((fits (turned f) g ≡ true) ⊎ ((fits (turned (turned f)) g ≡ true) ⊎ (fits (turned (turned (turned f))) g ≡ true)))
+        → fits f g || (fits (turned f) g || (fits (turned (turned f)) g || fits (turned (turned (turned f))) g)) ≡ true
+    one = some4 (fits f g) (fits (turned f) g) (fits (turned (turned f)) g) (fits (turned (turned (turned f))) g)
 
     is : (x : Face) → x ≡ g → fits x g ≡ true
     is x e = ap (λ (y : Face). fits y g) e ∙ fits-refl g
 
-    first : (a b c d : Bool) → a ≡ true → a || (b || (c || d)) ≡ true
-    first a b c d e = rw e
-
-    second : (a b c d : Bool) → b ≡ true → a || (b || (c || d)) ≡ true
-    second a b c d e = rw e (or-true a)
-
-    third : (a b c d : Bool) → c ≡ true → a || (b || (c || d)) ≡ true
-    third a b c d e = ap (λ (x : Bool). a || (b || (x || d))) e ∙ ap (λ (x : Bool). a || x) (or-true b) ∙ or-true a
-
-    fourth : (a b c d : Bool) → d ≡ true → a || (b || (c || d)) ≡ true
-    fourth a b c d e = ap (λ (x : Bool). a || (b || (c || x))) e ∙ ap (λ (x : Bool). a || (b || x)) (or-true c) ∙ ap (λ (x : Bool). a || x) (or-true b) ∙ or-true a
-
     go : Reading f g → fits f g || (fits (turned f) g || (fits (turned (turned f)) g || fits (turned (turned (turned f))) g)) ≡ true
-    go (straight e) = first a b c d (is f e)
-    go (once e) = second a b c d (is (turned f) e)
-    go (twice e) = third a b c d (is (turned (turned f)) e)
-    go (thrice e) = fourth a b c d (is (turned (turned (turned f))) e)
+    go (straight e) = one (inl (is f e))
+    go (once e) = one (inr (inl (is (turned f) e)))
+    go (twice e) = one (inr (inr (inl (is (turned (turned f)) e))))
+    go (thrice e) = one (inr (inr (inr (is (turned (turned (turned f))) e))))
 
 -- ---- the faces that a vertex names
 

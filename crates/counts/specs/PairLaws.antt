@@ -5,12 +5,12 @@
 -- Assumes nothing.
 use mathlib.Core.Path.{_≡_, refl, sym, ap, _∙_}
 use mathlib.Core.Logic.{_⊎_, inl, inr}
-use mathlib.Core.Bool.{Bool, true, false, not, _&&_, _||_, or-true}
-use mathlib.Core.List.{List, [], _∷_, _++_}
-use Prim.Native.Nat.{ℕ, _+_, _≤_, _<_}
+use mathlib.Core.Bool.{Bool, true, false, _&&_, _||_, or-true}
+use mathlib.Core.List.{List, [], _∷_}
+use Prim.Native.Nat.{ℕ, _≤_, _<_}
 use native.Mathlib.Omega.{arith}
 use Rattle.laws.specs.Rules.{among}
-use Rattle.laws.specs.Each.{not-both, both-left, both-right, among-at, at-among, same-test}
+use Rattle.laws.specs.Each.{both-left, both-right, among-at, at-among, same-test}
 use Rattle.lattice.specs.Stars.{adjacentAt}
 use Rattle.lattice.specs.declared.points.Point.{Point}
 use Rattle.lattice.specs.declared.records.Record.{Record}
@@ -21,10 +21,10 @@ use Rattle.table.specs.Order.{InOrder}
 use Rattle.table.specs.Entries.{recordsBelow}
 use Rattle.table.specs.MapLaws.{same-refl, same-true}
 use Rattle.table.specs.declared.slots.Slot.the-variants.{Holds}
-use Rattle.counts.specs.Counts.{bit, someIn, differentAfter, gather, each, Pair, pair, pairsAt, samePair, edgesIn}
-use Rattle.counts.specs.Earlier.{sumBelow, slotSum, namesPoint, pairBefore, pairCount, starPairs, slotPairs}
+use Rattle.counts.specs.Counts.{someIn, differentAfter, each, Pair, pair, pairsAt, samePair, edgesIn}
+use Rattle.counts.specs.Earlier.{sumBelow, namesPoint, pairBefore, pairCount, starPairs, slotPairs}
 use Rattle.counts.specs.DifferentLaws.{slotTest, some-one, some-gather, some-each, different-place, different-star, different-slots}
-use Rattle.counts.specs.EarlierLaws.{Passes, other-point, star-inner, earlier-yes, yes-earlier, slots-pass, pass-slots}
+use Rattle.counts.specs.EarlierLaws.{other-point, star-inner, earlier-yes, yes-earlier, slots-pass, pass-slots}
 use Rattle.counts.specs.StarLaws.{adjacent-away}
 
 -- two pairs that are the same: equal, or swapped

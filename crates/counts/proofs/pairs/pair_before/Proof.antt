@@ -2,7 +2,6 @@
 use mathlib.Core.Path.{ap, sym, _∙_}
 use native.Mathlib.Omega.{arith}
 use borrow.Author.Needs.{needs}
-use Rattle.table.specs.Slots.{slotsOf}
 use Rattle.counts.specs.Earlier.{heldAnd, namesPoint, pairBefore}
 use Rattle.counts.specs.EarlierLaws.{earlier-valid}
 use Rattle.counts.proofs.pairs.pair_before.Statement.{statement}
