@@ -1,7 +1,8 @@
-// The calls that write a table's files, and read them.
+// The calls that write a table's files and read them, and the census of one.
 ghost use mathlib.Core.Path.{_≡_};
 ghost use Rattle.writers.specs.Files.{outcome, writeFullOf, writeReducedOf};
 ghost use Rattle.readers.specs.Readers as reader;
+ghost use Rattle.census_text.specs.Census.{put, result, censusOf};
 
 // Writes the full file, or 1, 13; written: its bytes, 0 if refused.
 #[no_mangle]
@@ -36,4 +37,35 @@ pub extern "C" fn fb_read_full(
     let read = readers::read_full(table, scratch, file);
     *line = read.line;
     read.number
+}
+
+// Reads a reduced file into the table, or 1, 9, 10, 8, 11, 12; line: the one at fault, else 0.
+#[no_mangle]
+pub extern "C" fn fb_read_reduced(
+    table: &mut [u8],
+    scratch: &mut [u8],
+    file: &[u8],
+    line: &mut u64,
+) -> u8
+    ensures { λ r. ⌜ reader.outcome r (now (line .exit)) (now (table .exit)) (now (scratch .exit)) ≡ reader.readReducedOf (now (table .entry)) (now (scratch .entry)) (now (file .entry)) ⌝ }
+{
+    let read = readers::read_reduced(table, scratch, file);
+    *line = read.line;
+    read.number
+}
+
+// Writes what the census program writes for an input, or 13; the number is the one in the text. written: its bytes, 0 for 13.
+#[no_mangle]
+pub extern "C" fn fb_census(
+    input: &[u8],
+    table: &mut [u8],
+    scratch: &mut [u8],
+    out: &mut [u8],
+    written: &mut u64,
+) -> u8
+    ensures { λ r. ⌜ result (put r (now (written .exit)) (now (out .exit))) (now (table .exit)) (now (scratch .exit)) ≡ censusOf (now (input .entry)) (now (table .entry)) (now (scratch .entry)) (now (out .entry)) ⌝ }
+{
+    let census = census_text::census(input, table, scratch, out);
+    *written = census.written;
+    census.number
 }

@@ -1,6 +1,6 @@
 // The six fields of a vertex, and which of them document 01 calls valid.
 ghost use mathlib.Core.Path.{_≡_};
-ghost use Prim.Native.Nat.{_≤_};
+ghost use Prim.Native.Nat.{_*_, _^_, _≤_};
 ghost use lib.IntN.{natAbs};
 ghost use Rattle.lattice.specs.Points.{normalAt};
 ghost use Rattle.lattice.specs.Records.{within, orientationsOf, suitsOf, validAt, validOf};
@@ -29,13 +29,28 @@ fn size(x: i32) -> u64
 // The most that a numerator may be, at each depth: 251 times a power of 3.
 const RANGE: [u64; 7] = [251, 753, 2259, 6777, 20331, 60993, 182979];
 
+// The range at depth m. Read at fixed indices, as the star patterns are.
+fn range(m: u8) -> u64
+    requires { ⌜ m ≤ 6 ⌝ }
+    ensures { λ r. ⌜ r ≡ 251 * 3 ^ m ⌝ }
+{
+    match m {
+        0 => RANGE[0],
+        1 => RANGE[1],
+        2 => RANGE[2],
+        3 => RANGE[3],
+        4 => RANGE[4],
+        5 => RANGE[5],
+        _ => RANGE[6],
+    }
+}
+
 // A numerator of depth m lies in a record's range.
 fn in_range(x: i32, m: u8) -> bool
     requires { ⌜ m ≤ 6 ⌝ }
     ensures { λ r. ⌜ r ≡ within x m ⌝ }
 {
-    let i = m as usize;
-    size(x) <= RANGE[i]
+    size(x) <= range(m)
 }
 
 // [a, b, m] is normalised.

@@ -10,10 +10,10 @@ mod restore;
 
 ghost use mathlib.Core.Path.{_≡_};
 ghost use Rattle.readers.specs.Readers.{outcome, readFullOf, readReducedOf};
-pub use begin::prepare;
 use crate::begin::begin;
 use crate::begin::refuse;
 use crate::complete::complete;
+pub use begin::prepare;
 pub use lines::ReadBack;
 use local::all_pass;
 use table::slots_of;

@@ -3,7 +3,6 @@
 //! usage: bench [ROUNDS]. `sheets` makes the meshes; `clock` times and prints; `lookups` is the library's search, which no call of the C
 //! interface makes alone. The plain Rust is the crate `plain`: the same flat table,
 //! a constant table of stars, sort_unstable, the local check; for searches and subdivision also the same algorithm on std's HashMap.
-//! What needs a call that the library has not got is left out.
 
 mod clock;
 mod lookups;
@@ -11,7 +10,6 @@ mod sheets;
 
 use clock::{Bench, Task};
 use differential::rng::Rng;
-use differential::suite::absent;
 use flaskbloom::slices as library;
 use plain::lattice::{Point, Star};
 use plain::mesh::{records, subdivide_in};
@@ -183,9 +181,6 @@ fn files(bench: &mut Bench, table: &[u8]) {
         let both = std::cell::RefCell::new(write);
         let task = Task { name, unit: "vertex", units: vertices };
         bench.run(task, &mut || both.borrow_mut()(by_library).0, &mut || both.borrow_mut()(by_plain).0, None);
-        if absent(reader) {
-            continue;
-        }
         let read = |call: Read| {
             let (mut table, mut scratch) = (vec![0; MOST * SLOT], vec![0; MOST * SLOT]);
             clock::time(|| assert_eq!(call(&mut table, &mut scratch, &file), (0, 0)))
@@ -196,9 +191,6 @@ fn files(bench: &mut Bench, table: &[u8]) {
 }
 
 fn census(bench: &mut Bench) {
-    if absent("census") {
-        return;
-    }
     let input = largest_input();
     let vertices = input.iter().filter(|byte| **byte == b'\n').count();
     let (mut table, mut scratch, mut out) = (vec![0; 5461 * SLOT], vec![0; 5461 * SLOT], [0; 128]);
@@ -233,12 +225,8 @@ fn growth(levels: &[(Vec<u8>, Vec<i32>)], rounds: usize) {
         let (mut table, mut scratch) = (after.clone(), after.clone());
         let full = per_vertex(&mut || clock::time(|| assert_eq!(library::write_full(&after, &mut out).0, 0)));
         let less = per_vertex(&mut || clock::time(|| assert_eq!(library::write_reduced(&after, &mut out).0, 0)));
-        let mut reading = |name: &str, call: Read, file: &[u8]| match absent(name) {
-            true => f64::NAN,
-            false => per_vertex(&mut || clock::time(|| assert_eq!(call(&mut table, &mut scratch, file).0, 0))),
-        };
-        let read = reading("read_full", library::read_full, &file);
-        let read_less = reading("read_reduced", library::read_reduced, &reduced);
+        let read = per_vertex(&mut || clock::time(|| assert_eq!(library::read_full(&mut table, &mut scratch, &file).0, 0)));
+        let read_less = per_vertex(&mut || clock::time(|| assert_eq!(library::read_reduced(&mut table, &mut scratch, &reduced).0, 0)));
         println!("  {vertices:>8} {subdivide:>14.0} {full:>11.0} {less:>12.0} {read:>10.0} {read_less:>13.0}");
     }
 }

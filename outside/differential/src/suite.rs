@@ -1,7 +1,6 @@
 //! The tests, for any caller against the mesher; `suite!` makes test functions of them.
 //!
-//! FLASKBLOOM_SEED sets the seed (a number, or `now`), FLASKBLOOM_CASES the number of random cases; FLASKBLOOM_ABSENT names calls that
-//! the library has not got, whose cases are left out.
+//! FLASKBLOOM_SEED sets the seed (a number, or `now`), FLASKBLOOM_CASES the number of random cases.
 
 use crate::caller::{why, Caller, Mesher};
 use crate::case::{difference, Case, Outcome};
@@ -31,17 +30,9 @@ pub fn seed() -> u64 {
     number_from("FLASKBLOOM_SEED", SEED)
 }
 
-/// The library has not got this call.
-pub fn absent(call: &str) -> bool {
-    std::env::var("FLASKBLOOM_ABSENT").is_ok_and(|names| names.split_whitespace().any(|name| name == format!("fb_{call}")))
-}
-
 /// Puts the case to both; ends the test where they differ. Gives the number.
 pub fn same(caller: &dyn Caller, case: &Case) -> u8 {
     let wanted = case.run(&Mesher);
-    if absent(case.call()) {
-        return wanted.number;
-    }
     let got = case.run(caller);
     if let Some(how) = difference(&wanted, &got) {
         panic!("the mesher and the other differ: {how}\n{case}");
@@ -54,7 +45,7 @@ pub fn random_cases(caller: &dyn Caller) {
     let (seed, cases) = (seed(), number_from("FLASKBLOOM_CASES", CASES));
     println!("seed {seed}, {cases} cases");
     let mut coverage = Coverage::default();
-    for case in Cases::new(seed).filter(|case| !absent(case.call())).take(cases as usize) {
+    for case in Cases::new(seed).take(cases as usize) {
         let wanted = case.run(&Mesher);
         coverage.note(case.call(), wanted.number, why());
         let got = case.run(caller);
@@ -65,8 +56,7 @@ pub fn random_cases(caller: &dyn Caller) {
     println!("{}", coverage.table());
     assert_eq!(coverage.unexpected(), [], "reached, and not expected");
     if cases >= CASES {
-        let missing: Vec<_> = coverage.missing().into_iter().filter(|(call, ..)| !absent(call)).collect();
-        assert_eq!(missing, [], "expected, and not reached");
+        assert_eq!(coverage.missing(), [], "expected, and not reached");
     }
 }
 
@@ -367,9 +357,6 @@ const STACK: usize = 128 * 1024;
 
 /// Puts a large case to the caller on a thread of 128 KiB of stack, and compares with the mesher's outcome.
 fn on_small_stack(caller: &dyn Caller, case: &Case) -> Outcome {
-    if absent(case.call()) {
-        return case.run(&Mesher);
-    }
     let got = std::thread::scope(|scope| {
         let thread = std::thread::Builder::new().stack_size(STACK).spawn_scoped(scope, || case.run(caller));
         thread.expect("a thread").join().expect("the call came back")

@@ -86,8 +86,7 @@ fn the_library_is_the_header() {
         let (name, list) = functions(text, "->").remove(0);
         found.push((name, list.iter().flat_map(|p| seen_from_c(p)).collect()));
     }
-    let absent = std::env::var("FLASKBLOOM_ABSENT").unwrap_or_default();
-    let mut wanted: Vec<_> = header().into_iter().filter(|(name, _)| !absent.split_whitespace().any(|a| a == name)).collect();
+    let mut wanted = header();
     found.sort();
     wanted.sort();
     assert_eq!(found, wanted);
