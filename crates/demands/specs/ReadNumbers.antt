@@ -156,7 +156,7 @@ full-number t s f = go (lengthsFit t s) (readLines f (clearedOf t))
 -- the census reads its input so, once it is not too long: "Longer input gives `refused`, 8, 0."
 pub census-number : (t s input : List ℕ)
     → readInputOf t s input .number
-      ≡ firstOf (not (lengthsFit t s) ⇒ 1 ∷ ltb mostInput (length input) ⇒ 8 ∷ fullRules t s (readLines input (clearedOf t)))
+    ≡ firstOf (not (lengthsFit t s) ⇒ 1 ∷ ltb mostInput (length input) ⇒ 8 ∷ fullRules t s (readLines input (clearedOf t)))
 unfolding readInputOf
 census-number t s input = go (lengthsFit t s) (ltb mostInput (length input))
   where
