@@ -1,6 +1,6 @@
 -- Demand 1, the numbers: "What is wrong is refused by document 01's numbers, on its conditions and no others." For each call its conditions, in the order that 01 has them: the number is that of
 -- the first that holds, and 0 where none does.
--- `Rule`, `firstOf` · `first-number`, `number-first` refused with a number exactly when its condition holds and none before it, `zero-none`, `none-zero` 0 exactly where none does · `star-number`, `base-number`, `subdivide-number`, `neighbours-number`,
+-- `Rule`, `firstOf` · `first-number`, `number-first` refused with a number exactly when its condition holds and none before it, `zero-none`, `none-zero` 0 exactly where none does · `star-number`, `base-number`, `base-place`, `subdivide-number`, `neighbours-number`,
 -- `faces-number`, `write-number` the calls.
 -- Assumes nothing.
 use mathlib.Core.Path.{_≡_, refl, sym, _∙_, ap}
@@ -72,13 +72,13 @@ number-first (r ∷ rs) n e z = go (r .when) refl e (λ k. number-first rs n k z
         let f = ih e in
         record { before = r ∷ f .before; rule = f .rule; rest = f .rest; among = ap (λ (xs : List Rule). r ∷ xs) (f .among); none = (h, f .none); holds = f .holds; gives = f .gives }
 
--- 0 exactly where none holds, of rules with numbers other than 0
-pub zero-none : (rules : List Rule) → ((r : Rule) → List·Memᴰ r rules → r .number ≢ 0) → firstOf rules ≡ 0 → noneHolds rules
+-- 0 exactly where none holds, of rules that give other numbers than 0 where they hold
+pub zero-none : (rules : List Rule) → ((r : Rule) → List·Memᴰ r rules → r .when ≡ true → r .number ≢ 0) → firstOf rules ≡ 0 → noneHolds rules
 zero-none [] h e = tt
 zero-none (r ∷ rs) h e = go (r .when) refl e (λ k. zero-none rs (λ x m. h x (List·Memᴰ·tail m)) k)
   where
     go : (b : Bool) → r .when ≡ b → cond b (r .number) (firstOf rs) ≡ 0 → (firstOf rs ≡ 0 → noneHolds rs) → noneHolds (r ∷ rs)
-    go true w e ih = absurd (h r (List·Memᴰ·head refl) e)
+    go true w e ih = absurd (h r (List·Memᴰ·head refl) w e)
     go false w e ih = (w, ih e)
 
 pub none-zero : (rules : List Rule) → noneHolds rules → firstOf rules ≡ 0
@@ -115,6 +115,20 @@ base-number t cs = go (fitsLength (length t)) (unpaired cs) (ltb (badPlace cs) (
     go : (f o b : Bool) (l : Laid)
         → cond f (cond o (laid.outcome 2 0 (clearedOf t)) (cond b (laid.outcome 2 (badPlace cs) (clearedOf t)) (fromLaid t l))) (laid.outcome 1 0 t) .number
         ≡ firstOf (not f ⇒ 1 ∷ o ⇒ 2 ∷ b ⇒ 2 ∷ noRoom l ⇒ 8 ∷ [])
+    go false o b l = refl
+    go true true b l = refl
+    go true false true l = refl
+    go true false false (Room u) = refl
+    go true false false NoRoom = refl
+
+-- "Base gives the 0-based place, counted in centres, of the first bad centre .., else 0; an empty or odd list gives place 0"
+pub base-place : (t : List ℕ) (cs : List ℤ) → baseOf t cs .place ≡ cond (fitsLength (length t) && (not (unpaired cs) && ltb (badPlace cs) (centresIn cs))) (badPlace cs) 0
+unfolding baseOf
+base-place t cs = go (fitsLength (length t)) (unpaired cs) (ltb (badPlace cs) (centresIn cs)) (laidOf t cs)
+  where
+    go : (f o b : Bool) (l : Laid)
+        → cond f (cond o (laid.outcome 2 0 (clearedOf t)) (cond b (laid.outcome 2 (badPlace cs) (clearedOf t)) (fromLaid t l))) (laid.outcome 1 0 t) .place
+          ≡ cond (f && (not o && b)) (badPlace cs) 0
     go false o b l = refl
     go true true b l = refl
     go true false true l = refl

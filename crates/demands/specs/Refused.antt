@@ -1,5 +1,5 @@
 -- Demand 1, the bytes: "A refused request leaves the mesh untouched; a refused base or read leaves an empty table, or an untouched one where its length was the fault."
--- `subdivide-untouched`, `all-untouched`, `write-untouched` · `base-untouched`, `base-cleared` · `Reading`, `full-reading`, `reduced-reading` how a reader ends, `read-untouched`, `read-cleared`, `scratch-cleared`.
+-- `subdivide-untouched`, `all-untouched`, `write-untouched` · `base-untouched`, `base-cleared` · `Reading`, `full-reading`, `reduced-reading` how a reader ends, `read-untouched`, `read-cleared`, `scratch-cleared` · `census-put`, `census-read`, `census-long` the census.
 -- Queries and the star call are lent nothing to write: `star-refused`, `neighbours-refused`, `faces-refused` "Refused, count 0 and all zeros."
 -- Assumes nothing.
 use mathlib.Core.Path.{_≡_, refl, sym, _∙_, ap}
@@ -35,6 +35,8 @@ use Rattle.grown.specs.Grown.{isGrown}
 use Rattle.readers.specs.Readers.{Lines, Read, Fault, readLines, Restored, With, Stopped, restoreAll, lengthsFit, endFull, endReduced, endRestored, readFullOf, readReducedOf}
 use Rattle.readers.specs.FaultLaws.{fault-number, stop-number}
 use Rattle.readers.specs.Readers as read
+use Rattle.census_text.specs.Census.{putText, textOf, readInputOf, mostInput}
+use Rattle.census_text.specs.Census as counted
 
 -- ---- subdivision
 pub subdivide-untouched : (t : List ℕ) (a b : ℤ) (m : ℕ) → subdivideOf t a b m .number ≢ 0 → subdivideOf t a b m .bytes ≡ t
@@ -128,10 +130,11 @@ module _ (t : List ℕ) (cs : List ℤ) where
       go true false false NoRoom z e = refl
 
 -- ---- readers
--- how a reader ends: its lengths don't fit; refused, with a number of at least 8; done
+-- how a reader ends: its lengths don't fit; refused on a line, with 8, 9 or 10 and that line; refused after the lines, with 8, 11 or 12 and line 0; done
 pub data Reading (t s : List ℕ) (o : read.Outcome) : Type 0 where
   unfit : o ≡ read.outcome 1 0 t s → Reading t s o
-  refused : (n i : ℕ) → 8 ≤ n → o ≡ read.refused n i t s → Reading t s o
+  on-line : (n i : ℕ) → 8 ≤ n → n ≤ 10 → o ≡ read.refused n i t s → Reading t s o
+  after-lines : (n : ℕ) → 8 ≤ n → o ≡ read.refused n 0 t s → Reading t s o
   done : (u : List ℕ) → o ≡ read.accepted u s → Reading t s o
 
 module _ (t s f : List ℕ) where
@@ -141,11 +144,11 @@ module _ (t s f : List ℕ) where
     where
       judged : (u : List ℕ) (g : Bool) → Reading t s (cond g (read.accepted u s) (read.refused 11 0 t s))
       judged u true = done u refl
-      judged u false = refused 11 0 (lit≤ tt) refl
+      judged u false = after-lines 11 (lit≤ tt) refl
 
       go : (b : Bool) (x : Lines) → readLines f (clearedOf t) ≡ x → Reading t s (cond b (endFull t s x) (read.outcome 1 0 t s))
       go false x e = unfit refl
-      go true (Fault n i) e = refused n i (fault-number f (length f) 0 1 none (clearedOf t) n i e .0) refl
+      go true (Fault n i) e = let h = fault-number f (length f) 0 1 none (clearedOf t) n i e in on-line n i (h .0) (h .1) refl
       go true (Read rs u) e = judged u (isGrown u)
 
   pub reduced-reading : Reading t s (readReducedOf t s f)
@@ -153,31 +156,53 @@ module _ (t s f : List ℕ) where
   reduced-reading = go (lengthsFit t s) (readLines f (clearedOf t)) refl
     where
       judged : (u : List ℕ) (g r : Bool) → Reading t s (cond g (cond r (read.refused 12 0 t s) (read.accepted u s)) (read.refused 11 0 t s))
-      judged u true true = refused 12 0 (lit≤ tt) refl
+      judged u true true = after-lines 12 (lit≤ tt) refl
       judged u true false = done u refl
-      judged u false r = refused 11 0 (lit≤ tt) refl
+      judged u false r = after-lines 11 (lit≤ tt) refl
 
       restored : (rs : List Record) (u : List ℕ) (x : Restored) → restoreAll rs (With u) ≡ x → Reading t s (endRestored t s rs x)
-      restored rs u (Stopped n) e = refused n 0 (stop-number rs u n e .0) refl
+      restored rs u (Stopped n) e = after-lines n (stop-number rs u n e .0) refl
       restored rs u (With w) e = judged w (isGrown w) (someOf (redundant w) rs)
 
       go : (b : Bool) (x : Lines) → readLines f (clearedOf t) ≡ x → Reading t s (cond b (endReduced t s x) (read.outcome 1 0 t s))
       go false x e = unfit refl
-      go true (Fault n i) e = refused n i (fault-number f (length f) 0 1 none (clearedOf t) n i e .0) refl
+      go true (Fault n i) e = let h = fault-number f (length f) 0 1 none (clearedOf t) n i e in on-line n i (h .0) (h .1) refl
       go true (Read rs u) e = restored rs u (restoreAll rs (With u)) refl
 
 module _ (t s : List ℕ) (o : read.Outcome) where
   pub read-untouched : Reading t s o → o .number ≡ 1 → o ≡ read.outcome 1 0 t s
   read-untouched (unfit e) h = e
-  read-untouched (refused n i l e) h = let k : o .number ≡ n = ap (λ (x : read.Outcome). x .number) e in absurd (omega arith)
+  read-untouched (on-line n i l m e) h = let k : o .number ≡ n = ap (λ (x : read.Outcome). x .number) e in absurd (omega arith)
+  read-untouched (after-lines n l e) h = let k : o .number ≡ n = ap (λ (x : read.Outcome). x .number) e in absurd (omega arith)
   read-untouched (done u e) h = let k : o .number ≡ 0 = ap (λ (x : read.Outcome). x .number) e in absurd (omega arith)
 
   pub read-cleared : Reading t s o → o .number ≢ 0 → o .number ≢ 1 → o .table ≡ clearedOf t
   read-cleared (unfit e) z h = absurd (h (ap (λ (x : read.Outcome). x .number) e))
-  read-cleared (refused n i l e) z h = ap (λ (x : read.Outcome). x .table) e
+  read-cleared (on-line n i l m e) z h = ap (λ (x : read.Outcome). x .table) e
+  read-cleared (after-lines n l e) z h = ap (λ (x : read.Outcome). x .table) e
   read-cleared (done u e) z h = absurd (z (ap (λ (x : read.Outcome). x .number) e))
 
   pub scratch-cleared : Reading t s o → o .number ≢ 1 → o .scratch ≡ clearedOf s
   scratch-cleared (unfit e) h = absurd (h (ap (λ (x : read.Outcome). x .number) e))
-  scratch-cleared (refused n i l e) h = ap (λ (x : read.Outcome). x .scratch) e
+  scratch-cleared (on-line n i l m e) h = ap (λ (x : read.Outcome). x .scratch) e
+  scratch-cleared (after-lines n l e) h = ap (λ (x : read.Outcome). x .scratch) e
   scratch-cleared (done u e) h = ap (λ (x : read.Outcome). x .scratch) e
+
+-- ---- the census
+module _ (number : ℕ) (text out : List ℕ) where
+  -- 13 where the output is shorter than the text, which is then as found; else the number of the text
+  pub census-put : putText number text out ≡ cond (ltb (length out) (length text)) (counted.put 13 0 out) (counted.put number (length text) (text ++ drop (length text) out))
+  unfolding putText
+  census-put = refl
+
+-- the number in the text is the reader's, and both tables are as it leaves them
+pub census-read : (i t s out : List ℕ)
+    → (counted.censusOf i t s out .table ≡ readInputOf t s i .table) × (counted.censusOf i t s out .scratch ≡ readInputOf t s i .scratch)
+      × (counted.censusOf i t s out .put ≡ putText (readInputOf t s i .number) (textOf (readInputOf t s i)) out)
+unfolding counted.censusOf
+census-read i t s out = (refl, refl, refl)
+
+-- "Longer input gives `refused`, 8, 0", and both tables all 255
+pub census-long : (i t s : List ℕ) → lengthsFit t s ≡ true → ltb mostInput (length i) ≡ true → readInputOf t s i ≡ read.refused 8 0 t s
+unfolding readInputOf
+census-long i t s f l = rw (f, l) refl

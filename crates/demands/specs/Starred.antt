@@ -126,6 +126,11 @@ starred =
     ∷ ofPoint (newOf six0 4 .at) is (pos 4 ∷ negsuc 1 ∷ pos 1 ∷ [])
     ∷ ofPoint (newOf six0 5 .at) is (pos 5 ∷ negsuc 0 ∷ pos 1 ∷ [])
     ∷ starAt meshThree (pos 4) (pos 1) 1 is []
+    ∷ starAt meshThree (pos 2) (pos 2) 1 is []
+    ∷ starAt meshThree (pos 1) (pos 1) 1 is []
+    ∷ starAt meshThree (pos 2) (negsuc 0) 1 is []
+    ∷ starAt meshThree (pos 4) (negsuc 1) 1 is []
+    ∷ starAt meshThree (pos 5) (negsuc 0) 1 is []
     ∷ starAt once (pos 4) (pos 1) 1 is (pos 4 ∷ pos 1 ∷ pos 1 ∷ pos 3 ∷ pos 3 ∷ pos 1 ∷ [])
     ∷ starAt once (pos 2) (pos 2) 1 is (pos 2 ∷ pos 2 ∷ pos 1 ∷ pos 3 ∷ pos 1 ∷ pos 1 ∷ [])
     ∷ starAt once (pos 1) (pos 1) 1 is (pos 1 ∷ pos 1 ∷ pos 1 ∷ pos 3 ∷ pos 3 ∷ pos 1 ∷ [])

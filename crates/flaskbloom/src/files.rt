@@ -1,8 +1,10 @@
 // The calls that write a table's files and read them, and the census of one.
 ghost use mathlib.Core.Path.{_≡_};
+ghost use Prim.Native.Nat.{_≤_};
+ghost use lib.ListN.{length};
 ghost use Rattle.writers.specs.Files.{outcome, writeFullOf, writeReducedOf};
 ghost use Rattle.readers.specs.Readers as reader;
-ghost use Rattle.census_text.specs.Census.{put, result, censusOf};
+ghost use Rattle.census_text.specs.Census.{put, result, censusOf, textOf, readInputOf};
 
 // Writes the full file, or 1, 13; written: its bytes, 0 if refused.
 #[no_mangle]
@@ -54,7 +56,7 @@ pub extern "C" fn fb_read_reduced(
     read.number
 }
 
-// Writes what the census program writes for an input, or 13; the number is the one in the text. written: its bytes, 0 for 13.
+// Writes what the census program writes for an input, or 13; the number is the one in the text. written: its bytes, 0 for 13. 128 bytes always suffice.
 #[no_mangle]
 pub extern "C" fn fb_census(
     input: &[u8],
@@ -64,6 +66,7 @@ pub extern "C" fn fb_census(
     written: &mut u64,
 ) -> u8
     ensures { λ r. ⌜ result (put r (now (written .exit)) (now (out .exit))) (now (table .exit)) (now (scratch .exit)) ≡ censusOf (now (input .entry)) (now (table .entry)) (now (scratch .entry)) (now (out .entry)) ⌝ }
+    ensures { λ _. ⌜ length (textOf (readInputOf (now (table .entry)) (now (scratch .entry)) (now (input .entry)))) ≤ 128 ⌝ }
 {
     let census = census_text::census(input, table, scratch, out);
     *written = census.written;
