@@ -128,7 +128,7 @@ base-place t cs = go (fitsLength (length t)) (unpaired cs) (ltb (badPlace cs) (c
   where
     go : (f o b : Bool) (l : Laid)
         → cond f (cond o (laid.outcome 2 0 (clearedOf t)) (cond b (laid.outcome 2 (badPlace cs) (clearedOf t)) (fromLaid t l))) (laid.outcome 1 0 t) .place
-          ≡ cond (f && (not o && b)) (badPlace cs) 0
+        ≡ cond (f && (not o && b)) (badPlace cs) 0
     go false o b l = refl
     go true true b l = refl
     go true false true l = refl

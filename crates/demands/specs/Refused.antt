@@ -198,7 +198,7 @@ module _ (number : ℕ) (text out : List ℕ) where
 -- the number in the text is the reader's, and both tables are as it leaves them
 pub census-read : (i t s out : List ℕ)
     → (counted.censusOf i t s out .table ≡ readInputOf t s i .table) × (counted.censusOf i t s out .scratch ≡ readInputOf t s i .scratch)
-      × (counted.censusOf i t s out .put ≡ putText (readInputOf t s i .number) (textOf (readInputOf t s i)) out)
+    × (counted.censusOf i t s out .put ≡ putText (readInputOf t s i .number) (textOf (readInputOf t s i)) out)
 unfolding counted.censusOf
 census-read i t s out = (refl, refl, refl)
 
