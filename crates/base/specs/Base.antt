@@ -9,6 +9,7 @@ use lib.Dec.{eqb, ltb, leb}
 use lib.IntN.{ℤ, pos, natAbs}
 use lib.ListN.{length, getD}
 use Rattle.laws.specs.Rules.{upto, among}
+use Rattle.laws.specs.Choices.{unless}
 use Rattle.lattice.specs.Points.{classOf}
 use Rattle.lattice.specs.Points.{pt, turns, sumOf}
 use Rattle.table.specs.Search.{samePoint, findOf}
@@ -131,8 +132,7 @@ unpaired cs = eqb (length cs) 0 || not (eqb (length cs % 2) 0)
 -- "Base 1, 2, 8. .. Base gives the 0-based place, counted in centres, of the first bad centre, else 0; an empty or odd list gives place 0, its centres unread."
 unfoldable pub baseOf : List ℕ → List ℤ → Base
 baseOf t cs =
-    cond (fitsLength (length t))
+    unless (fitsLength (length t)) (outcome 1 0 t)
     (cond (unpaired cs) (outcome 2 0 (clearedOf t))
     (cond (ltb (badPlace cs) (centresIn cs)) (outcome 2 (badPlace cs) (clearedOf t))
     (fromLaid t (laidOf t cs))))
-    (outcome 1 0 t)

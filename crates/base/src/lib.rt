@@ -10,6 +10,10 @@ ghost use Rattle.base.specs.Base.{outcome, baseOf};
 use crate::centres::MARK_BYTES;
 use crate::centres::first_bad;
 use crate::hexagons::lay_all;
+use lattice::BAD_LIST;
+use lattice::DONE;
+use lattice::NO_ROOM;
+use lattice::NOT_IN_ORDER;
 use table::clear;
 use table::slots_of;
 
@@ -32,24 +36,24 @@ pub fn base(table: &mut [u8], centres: &[i32]) -> Based
 {
     let n = slots_of(table);
     if n == 0 {
-        return answer(1, 0);
+        return answer(NOT_IN_ORDER, 0);
     }
     clear(table);
     let l = centres.len();
     if l == 0 {
-        return answer(2, 0);
+        return answer(BAD_LIST, 0);
     }
     if l % 2 != 0 {
-        return answer(2, 0);
+        return answer(BAD_LIST, 0);
     }
     let mut marks = [0; MARK_BYTES];
     let bad = first_bad(centres, l / 2, &mut marks);
     if bad < l / 2 {
-        return answer(2, bad);
+        return answer(BAD_LIST, bad);
     }
     if lay_all(table, n, centres, &marks) {
-        return answer(0, 0);
+        return answer(DONE, 0);
     }
     clear(table);
-    answer(8, 0)
+    answer(NO_ROOM, 0)
 }

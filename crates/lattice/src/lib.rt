@@ -3,6 +3,7 @@
 //
 // Two public calls answer every input: `normalise` and `star`. The other functions serve the proved floors above and ask for bounds.
 // The promises cite specs/: Points, Records, Patterns, Stars, Subdivision, and Ranks for the model of grown meshes; what is asked of bounds is in Bounds and RecordLaws.
+mod numbers;
 mod patterns;
 mod points;
 mod ranks;
@@ -10,6 +11,21 @@ mod records;
 mod stars;
 mod updates;
 
+pub use numbers::BAD_LIST;
+pub use numbers::BOUNDARY;
+pub use numbers::DONE;
+pub use numbers::LAST_LEVEL;
+pub use numbers::NO_RECORD;
+pub use numbers::NO_ROOM;
+pub use numbers::NOT_ABOVE;
+pub use numbers::NOT_GROWN;
+pub use numbers::NOT_IN_ORDER;
+pub use numbers::NOT_SIX;
+pub use numbers::NOT_VALID;
+pub use numbers::REDUNDANT;
+pub use numbers::SHORT;
+pub use numbers::TOO_DEEP;
+pub use numbers::TORN;
 pub use patterns::Spot;
 pub use points::Depth;
 pub use points::Point;
