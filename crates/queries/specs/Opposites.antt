@@ -1,5 +1,5 @@
--- What the functions below `faces` promise: `eitherIn` the first of two points that is in the table; the opposite of a corner is chosen so (QueryLaws: `chosen-either`)
--- · `facesIf` the faces, once it is known whether each adjacent point is there.
+-- What the functions below `faces` promise: `eitherIn` the first of two points that is in the table; the opposite of a corner is chosen so
+-- (QueryLaws: `chosen-either`) · `facesIf` the faces, once it is known whether each adjacent point is there.
 -- Assumes nothing.
 use mathlib.Core.Bool.{Bool, cond, _&&_}
 use mathlib.Core.List.{List}

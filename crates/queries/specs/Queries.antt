@@ -1,5 +1,6 @@
 -- Document 01's queries: the neighbours of a vertex, and the faces round it. What the promises cite: `neighboursOf`, `facesOf`.
--- `chosenAt` the opposite of a corner · `queryOf` what the two share.
+-- `chosenAt` the opposite of a corner, with `there`, `isPoint` · `neighboursAt`, `facesAt` what a vertex that has a star is answered · `queryOf` what
+-- the two share.
 -- Assumes nothing.
 use mathlib.Core.Bool.{Bool, true, false, cond, _&&_}
 use mathlib.Core.List.{List}
@@ -23,6 +24,7 @@ use Rattle.table.specs.declared.entries.Looked.the-variants.{Absent, Held}
 unfoldable pub adjacentsThere : List ℕ → Record → Bool
 adjacentsThere t v = upto (v .d) (λ j. holds t (adjacentAt v j))
 
+-- a point, if there is one and it is in the table
 abbrev pub there : List ℕ → Spot → Spot
 there t Nothing = Nothing
 there t (At p) = cond (holds t p) (At p) Nothing
@@ -31,14 +33,16 @@ there t (At p) = cond (holds t p) (At p) Nothing
 unfoldable pub chosenAt : List ℕ → Record → ℕ → Spot
 chosenAt t v j = cond (holds t (firstAt v j)) (At (firstAt v j)) (there t (secondAt v j))
 
-abbrev pub isAt : Spot → Bool
-isAt (At p) = true
-isAt Nothing = false
+-- there is a point
+abbrev pub isPoint : Spot → Bool
+isPoint (At p) = true
+isPoint Nothing = false
 
 -- each corner has an opposite in the table
 unfoldable pub cornersThere : List ℕ → Record → Bool
-cornersThere t v = upto (v .d) (λ j. isAt (chosenAt t v j))
+cornersThere t v = upto (v .d) (λ j. isPoint (chosenAt t v j))
 
+-- the point, or [0, 0, 0] where there is none
 abbrev pub pointOr0 : Spot → Point
 pointOr0 (At p) = p
 pointOr0 Nothing = nowhere

@@ -1,5 +1,5 @@
--- What both queries begin with, as `found` promises it: `vertexOf` the vertex that is asked, or the number of a refusal · `answerOf` what a query answers then (QueryLaws:
--- `neighbours-vertex`, `faces-vertex`) · `Asked` what is known of the vertex and its table.
+-- What both queries begin with, as `found` promises it: `vertexOf` the vertex that is asked, or the number of a refusal · `answerOf` what a query
+-- answers then (QueryLaws: `neighbours-vertex`, `faces-vertex`) · `Asked` what is known of the vertex and its table.
 -- Assumes nothing.
 use mathlib.Core.Path.{_≡_}
 use mathlib.Core.Bool.{true, cond}

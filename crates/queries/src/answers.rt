@@ -62,8 +62,8 @@ fn faces_of(t: &[u8], v: Record, whole: bool, n: usize) -> Answer
     }
 }
 
-// The neighbours of the vertex at [a, b, m]: its degree, and its adjacent points in star order. 1: the table is not in order; 3: no record is at the point; 14: its
-// degree is 0; 7: an adjacent point is not in the table.
+// The neighbours of the vertex at [a, b, m]: its degree, and its adjacent points in star order. 1: the table is not in order; 3: no record is at
+// the point; 14: its degree is 0; 7: an adjacent point is not in the table.
 pub fn neighbours(table: &[u8], a: i32, b: i32, m: u8) -> Answer
     ensures { λ r. ⌜ r ≡ neighboursOf (now (table .entry)) a b m ⌝ }
 {
@@ -77,8 +77,8 @@ pub fn neighbours(table: &[u8], a: i32, b: i32, m: u8) -> Answer
     }
 }
 
-// The faces round the vertex at [a, b, m]: its degree, and the opposite of each corner; with v, adjacent j and the next adjacent, opposite j makes face j. Refused as
-// neighbours are, and 7 also where a corner has no opposite in the table.
+// The faces round the vertex at [a, b, m]: its degree, and the opposite of each corner; with v, adjacent j and the next adjacent, opposite j makes
+// face j. Refused as neighbours are, and 7 also where a corner has no opposite in the table.
 pub fn faces(table: &[u8], a: i32, b: i32, m: u8) -> Answer
     ensures { λ r. ⌜ r ≡ facesOf (now (table .entry)) a b m ⌝ }
 {
