@@ -8,6 +8,7 @@ use Prim.Native.Nat.{ℕ}
 use lib.Dec.{eqb, ltb}
 use lib.IntN.{ℤ}
 use Rattle.laws.specs.Rules.{upto}
+use Rattle.laws.specs.Choices.{unless}
 use Rattle.lattice.specs.Stars.{adjacentAt, firstAt, secondAt, nowhere, answer, refused, given}
 use Rattle.lattice.specs.Points.{normalOf}
 use Rattle.table.specs.Entries.{lookUp, holds}
@@ -56,11 +57,11 @@ facesGiven t v = answer 0 (v .d) (faceCell t v 0) (faceCell t v 1) (faceCell t v
 
 -- "Torn, neighbours: an adjacent is absent."
 abbrev pub neighboursAt : List ℕ → Record → Answer
-neighboursAt t v = cond (adjacentsThere t v) (given v) (refused 7)
+neighboursAt t v = unless (adjacentsThere t v) (refused 7) (given v)
 
 -- "Torn, faces: that, or a corner with no opposite in the table."
 abbrev pub facesAt : List ℕ → Record → Answer
-facesAt t v = cond (adjacentsThere t v && cornersThere t v) (facesGiven t v) (refused 7)
+facesAt t v = unless (adjacentsThere t v && cornersThere t v) (refused 7) (facesGiven t v)
 
 -- "Queries 1, 3, 14, 7."; "Every point in a request is normalised before it is looked up"
 abbrev pub queryLooked : (Record → Answer) → Looked → Answer
@@ -68,7 +69,7 @@ queryLooked f Absent = refused 3
 queryLooked f (Held v) = cond (eqb (v .d) 0) (refused 14) (f v)
 
 abbrev pub queryOf : (Record → Answer) → List ℕ → ℤ → ℤ → ℕ → Answer
-queryOf f t a b m = cond (inOrderOf t) (queryLooked f (lookUp t (normalOf a b m))) (refused 1)
+queryOf f t a b m = unless (inOrderOf t) (refused 1) (queryLooked f (lookUp t (normalOf a b m)))
 
 unfoldable pub neighboursOf : List ℕ → ℤ → ℤ → ℕ → Answer
 neighboursOf t a b m = queryOf (neighboursAt t) t a b m
