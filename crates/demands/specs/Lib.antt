@@ -4,9 +4,11 @@ pub mod Calls
 pub mod Numbers
 pub mod ReadNumbers
 pub mod Refused
--- demand 2: one form of a point, the meshes, the files
+-- demand 2: one form of a point, the opposites of a corner, the meshes, the files
 pub mod Points
+pub mod Opposites
 pub mod Meshes
+pub mod Order
 pub mod Files
 -- demand 3: what is written comes back
 pub mod Returns

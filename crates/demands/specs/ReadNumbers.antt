@@ -10,8 +10,8 @@ use Prim.Native.Nat.{ℕ, suc, _+_}
 use native.Mathlib.Omega.{arith}
 use lib.Dec.{ltb}
 use lib.ListN.{length}
-use Rattle.laws.specs.Choices.{is-false}
-use Rattle.laws.specs.Each.{not-both, fact-true}
+use Rattle.laws.specs.Choices.{is-false, is-true}
+use Rattle.laws.specs.Each.{not-both}
 use Rattle.lattice.specs.Records.{validOf}
 use Rattle.lattice.specs.declared.records.Record.{Record}
 use Rattle.table.specs.Slots.{clearedOf}
@@ -205,7 +205,7 @@ none-held (Held q) r e x = let z : _≡_ {A = ℕ} 0 1 = cc in omega arith
 
 empty-not : (t s : List ℕ) → lengthsFit t s ≡ true → isGrown (clearedOf t) ≡ false
 empty-not t s h =
-    is-false (isGrown (clearedOf t)) (λ g. let (p, (r, x)) = grown-some (sheetOf (clearedOf t)) (grown-sheet (clearedOf t) (is-grown (clearedOf t) (fact-true (isGrown (clearedOf t)) g))) in
+    is-false (isGrown (clearedOf t)) (λ g. let (p, (r, x)) = grown-some (sheetOf (clearedOf t)) (grown-sheet (clearedOf t) (is-grown (clearedOf t) (is-true (isGrown (clearedOf t)) g))) in
     none-held (lookUp (clearedOf t) p) r (clear-absent t (lengths-table t s h) p) x)
 
 -- "An empty file is 11."

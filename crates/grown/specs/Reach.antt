@@ -12,7 +12,7 @@ use lib.IntN.{ℤ}
 use Rattle.laws.specs.Choices.{is-true}
 use Rattle.lattice.specs.declared.points.Point.{Point}
 use Rattle.lattice.specs.declared.records.Record.{Record}
-use Rattle.growth.specs.Sheets.{Sheet, Whole, Step, Base, start, grow}
+use Rattle.growth.specs.Sheets.{Sheet, UntornAt, Step, CentreSet, start, grow, GrownSheet, baseSheet}
 use Rattle.growth.specs.Growth.{step-unique}
 use Rattle.growth.specs.Local.{there}
 use Rattle.growth.specs.LocalTests.{some-there}
@@ -32,7 +32,6 @@ use Rattle.grown.specs.Bases.{list-sheet, base-sheet}
 use Rattle.grown.specs.Steps.{sheet-held, sheet-absent, accepted, whole-accepted, whole-step}
 use Rattle.grown.specs.Room.{Within, count, count-all, count-less, count-base, count-step, within-before}
 use Rattle.grown.specs.Lists.{base-numbers}
-use Rattle.growth.specs.Sheets as model
 use Rattle.base.specs.Base as call
 
 -- the slots that a base leaves free
@@ -59,7 +58,7 @@ module _ (t : List ℕ) (o : InOrder t) where
     pub same : (p : Point) → sheetOf table p ≡ R p
     pub room : slotsOf t ≤ freeSlots table + count rs (there R)
 
-  pub made-base : (H : Point → Bool) (R : Sheet) → Base H → ((p : Point) → R p ≡ model.baseOf H p) → Within R rs → Made R
+  pub made-base : (H : Point → Bool) (R : Sheet) → CentreSet H → ((p : Point) → R p ≡ baseSheet H p) → Within R rs → Made R
   made-base H R b is within =
       record {
         table = baseOf t cs .bytes;
@@ -72,8 +71,8 @@ module _ (t : List ℕ) (o : InOrder t) where
       cs : List ℤ
       cs = base-numbers H b .list
 
-      sheet : (p : Point) → model.baseOf (isCentre cs) p ≡ R p
-      sheet p = ap (λ (K : Point → Bool). model.baseOf K p) (fun-ext (base-numbers H b .same)) ∙ sym (is p)
+      sheet : (p : Point) → baseSheet (isCentre cs) p ≡ R p
+      sheet p = ap (λ (K : Point → Bool). baseSheet K p) (fun-ext (base-numbers H b .same)) ∙ sym (is p)
 
       vertex : (p : Point) → inBase cs p ≡ true → R p ≡ some (vertexOf (isCentre cs) p)
       vertex p e = sym (sheet p) ∙ sym (list-sheet cs (base-numbers H b .good) p) ∙ ap (λ (x : Bool). asOption (cond x (Held (vertexOf (isCentre cs) p)) Absent)) e
@@ -87,7 +86,7 @@ module _ (t : List ℕ) (o : InOrder t) where
       accepts : baseOf t cs .number ≡ 0
       accepts = base-accepts t cs (o .fits) (base-numbers H b .good) (omega (arith, points, count-all rs (inBase cs), records-count t))
 
-  pub made-step : (R : Sheet) (v : Record) (R′ : Sheet) → Made R → R (v .at) ≡ some v → v .d ≡ 6 → v .n .0 < 12 → Whole R v → Step R v R′ → Within R′ rs → Made R′
+  pub made-step : (R : Sheet) (v : Record) (R′ : Sheet) → Made R → R (v .at) ≡ some v → v .d ≡ 6 → v .n .0 < 12 → UntornAt R v → Step R v R′ → Within R′ rs → Made R′
   made-step R v R′ m x six low w s within =
       let r = accepted u (v .at .a) (v .at .b) (v .at .m .0) yes-accepted in
       record {
@@ -108,8 +107,8 @@ module _ (t : List ℕ) (o : InOrder t) where
       held : lookUp u (v .at) ≡ Held v
       held = sheet-held (lookUp u (v .at)) v (m .same (v .at) ∙ x)
 
-      whole : Whole (sheetOf u) v
-      whole = subst (λ (S : Sheet). Whole S v) (sym is) w
+      whole : UntornAt (sheetOf u) v
+      whole = subst (λ (S : Sheet). UntornAt S v) (sym is) w
 
       six-more : count rs (there R) + 6 ≤ count rs (there R′)
       six-more = count-step R v R′ w s six rs within
@@ -120,12 +119,12 @@ module _ (t : List ℕ) (o : InOrder t) where
       yes-accepted : subdivideOf u (v .at .a) (v .at .b) (v .at .m .0) .number ≡ 0
       yes-accepted = whole-accepted u (m .order) v held six low whole free
 
-  pub made : (R : Sheet) → model.Grown R → Within R rs → Made R
+  pub made : (R : Sheet) → GrownSheet R → Within R rs → Made R
   made _ (start H R b is) within = made-base H R b is within
   made _ (grow R v R′ g x six low w s) within = made-step R v R′ (made R g (within-before R v R′ w s rs within)) x six low w s within
 
   -- ---- document 01's "grown", from the model's
-  pub sheet-reached : model.Grown (sheetOf t) → Grown t
+  pub sheet-reached : GrownSheet (sheetOf t) → Grown t
   sheet-reached g =
       let m = made (sheetOf t) g within in
       record { order = o; table = m .table; reached = m .reached; same = λ p. alike (lookUp t p) (lookUp (m .table) p) (sym (m .same p)) }

@@ -17,7 +17,7 @@ use Rattle.laws.specs.Choices.{is-true, of-true}
 use Rattle.lattice.specs.Stars.{adjacentAt}
 use Rattle.lattice.specs.Subdivision.{centreOf, newOf, backOf, updateOf}
 use Rattle.geometry.specs.GeometryLaws.{star-distinct}
-use Rattle.growth.specs.Sheets.{Sheet, Whole, Step}
+use Rattle.growth.specs.Sheets.{Sheet, UntornAt, Step}
 use Rattle.growth.specs.Local.{isThere, there}
 use Rattle.growth.specs.LocalTests.{there-some, some-there}
 use Rattle.growth.specs.Normal.{point?}
@@ -170,7 +170,7 @@ none-there : (R : Sheet) (p : Point) → R p ≡ none → there R p ≡ false
 unfolding there
 none-there R p e = ap isThere e
 
-module _ (R : Sheet) (v : Record) (R′ : Sheet) (w : Whole R v) (s : Step R v R′) where
+module _ (R : Sheet) (v : Record) (R′ : Sheet) (w : UntornAt R v) (s : Step R v R′) where
   -- a subdivision keeps every point
   pub step-keeps : (p : Point) (r : Record) → R p ≡ some r → (u : Record) × (R′ p ≡ some u)
   step-keeps p r x = go (point? p (v .at)) (growth.among (λ j. newOf v j .at) p 6) (growth.among (adjacentAt v) p 6)

@@ -30,7 +30,8 @@ four-five : (updateOf 2 (vertex 4 2 0 0) ≡ vertex 5 6 0 0) × (updateOf 6 (ver
 unfolding updateOf vertex
 four-five = (refl, refl)
 
--- the subdivision of [1, 0, 0] at level 0 enters [4,1,1], [2,2,1], [1,1,1], [2,-1,1], [4,-2,1], [5,-1,1] with k 3, 1, 3, 1, 3, 1, and at level 1 [4,0,1] first, k 2, level 2
+-- the subdivision of [1, 0, 0] at level 0 enters [4,1,1], [2,2,1], [1,1,1], [2,-1,1], [4,-2,1], [5,-1,1] with k 3, 1, 3, 1, 3, 1, and at level 1 [4,0,1]
+-- first, k 2, level 2
 entered : ℕ → ℤ → ℤ → ℕ → ℕ → ℕ → Record
 entered m a b d k n = record { at = pt a b m; d = d; k = k; n = record { 0 = n } }
 

@@ -1,5 +1,6 @@
 -- Truth values again: a disjunction, and what a test is when it passes or fails.
--- `or-split`, `or-left`, `or-right` · `is-true`, `is-false`, `of-true` a test as an equation · `apart` it is not both · `when-true`, `when-false` a conditional · `unless` a refusal.
+-- `or-split`, `or-left`, `or-right` · `is-true`, `is-false`, `of-true` a test as an equation · `apart` it is not both ·
+-- `when-true`, `when-false` a conditional · `unless` a refusal.
 -- Assumes nothing.
 use mathlib.Core.Path.{_≡_, refl, sym, subst}
 use mathlib.Core.Logic.{_⊎_, inl, inr}

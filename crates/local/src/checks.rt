@@ -25,7 +25,7 @@ fn six_passes(t: &[u8], r: Record, n: usize) -> bool
     if r.d != 6 {
         return true;
     }
-    if r.n.0 < rank(p) {
+    if r.n.0 < rank(p).0 {
         return false;
     }
     adjacents_there(t, r, n)

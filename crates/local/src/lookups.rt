@@ -9,6 +9,7 @@ ghost use Rattle.growth.specs.Local.{isThere, isOver, there};
 ghost use Rattle.table.specs.Slots.{Table};
 ghost use Rattle.local.specs.Sheet.{asOption, sheetOf};
 ghost use Rattle.local.specs.Rings.{one, ringOf};
+use lattice::Level;
 use lattice::Point;
 use lattice::Record;
 use lattice::adjacent_of;
@@ -57,9 +58,9 @@ pub fn ring(t: &[u8], p: Point, e: u8, n: usize) -> u8
     requires { ⌜ Small p × ((e < 4) × (e % 2 ≡ 0)) ⌝ }
     ensures { λ r. ⌜ (r ≡ ringOf (sheetOf (now (t .entry))) p e) × (r ≤ 3) ⌝ }
 {
-    let x = has(t, moved(p, e, 0), n);
-    let y = has(t, moved(p, e + 4, 0), n);
-    let z = has(t, moved(p, e + 8, 0), n);
+    let x = has(t, moved(p, e, Level(0)), n);
+    let y = has(t, moved(p, e + 4, Level(0)), n);
+    let z = has(t, moved(p, e + 8, Level(0)), n);
     bit(x) + bit(y) + bit(z)
 }
 

@@ -83,13 +83,13 @@ fn creator_in(p: Point, s: Parents) -> Seen
     requires { ⌜ (p .m .0 ≤ 6) × ((0 < rankOf p) × Ranked s) ⌝ }
     ensures { λ r. ⌜ r ≡ creatorIn p s ⌝ }
 {
-    let b = rank(p) - 1;
+    let b = rank(p).0 - 1;
     let first = s.first;
-    if rank(first.at) < b {
+    if rank(first.at).0 < b {
         return first;
     }
     let second = s.second;
-    if rank(second.at) < b {
+    if rank(second.at).0 < b {
         return second;
     }
     s.third
@@ -100,7 +100,7 @@ pub fn creator_over(p: Point, s: Parents) -> bool
     requires { ⌜ (p .m .0 ≤ 6) × ((1 < rankOf p) × Ranked s) ⌝ }
     ensures { λ r. ⌜ r ≡ creatorOver p s ⌝ }
 {
-    is_split(creator_in(p, s), rank(p) - 2)
+    is_split(creator_in(p, s), rank(p).0 - 2)
 }
 
 // Which parents were subdivided at level b: the first counts 1, the second 2, the third 4.
@@ -131,7 +131,7 @@ pub fn as_told(r: Record, s: Parents) -> bool
 {
     let p = r.at;
     let n = r.n.0;
-    let b = rank(p) - 1;
+    let b = rank(p).0 - 1;
     let i = splits(s, b);
     if i == ALL {
         return same_star(r, 6, n % 2, n);

@@ -25,7 +25,7 @@ fn star_passes(t: &[u8], r: Record, n: usize) -> bool
 {
     let p = r.at;
     let level = r.n.0;
-    if rank(p) == 0 {
+    if rank(p).0 == 0 {
         return same_star(r, 6, level % 2, level);
     }
     as_told(r, parents_of(t, p, n))

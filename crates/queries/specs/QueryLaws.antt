@@ -13,7 +13,8 @@ use lib.Dec.{eqb, ltb}
 use lib.IntN.{ℤ}
 use lib.ListN.{set}
 use Rattle.laws.specs.Rules.{upto}
-use Rattle.laws.specs.Each.{and-false, true-fact, upto-fails}
+use Rattle.laws.specs.Choices.{of-true}
+use Rattle.laws.specs.Each.{and-false, upto-fails}
 use Rattle.lattice.specs.Points.{normalOf}
 use Rattle.lattice.specs.Records.{validOf}
 use Rattle.lattice.specs.RecordLaws.{Inner, inner}
@@ -104,7 +105,7 @@ module _ (t : List ℕ) (a b : ℤ) (m : ℕ) where
   faces-vertex w e = ap (answerOf (facesAt t)) (sym e) ∙ query-vertex (facesAt t)
 
 pub asked-inner : {t : List ℕ} {n : ℕ} {v : Record} → Asked t n v → Inner v
-asked-inner {v = v} k = inner v (true-fact (validOf v) (k .valid)) (k .inside)
+asked-inner {v = v} k = inner v (of-true (k .valid)) (k .inside)
 
 -- ---- the opposite of a corner
 

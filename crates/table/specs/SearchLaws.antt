@@ -10,7 +10,8 @@ use native.Mathlib.Decide.{decLt}
 use lib.Dec.{eqb, ltb}
 use borrow.Author.Tests.{lt-ltb, le-ltb, le-leb, lt-leb, eq-eqb, ne-eqb, eqb-true, eqb-false}
 use Rattle.laws.specs.Rules.{eqZ, eqZ→eq, eqZ-refl}
-use Rattle.laws.specs.Each.{both-left, both-right, true-fact, fact-true, not-both}
+use Rattle.laws.specs.Choices.{of-true, is-true}
+use Rattle.laws.specs.Each.{both-left, both-right, not-both}
 use Rattle.lattice.specs.Points.{pt}
 use Rattle.lattice.specs.declared.points.Point.{Point}
 use Rattle.lattice.specs.declared.records.Record.{Record}
@@ -152,14 +153,14 @@ search-full look n (suc left) i hi hl os =
 
 pub same-refl : (p : Point) → samePoint p p ≡ true
 unfolding samePoint
-same-refl p = rw (fact-true (eqZ (p .a) (p .a)) (eqZ-refl (p .a)), fact-true (eqZ (p .b) (p .b)) (eqZ-refl (p .b)), eq-eqb (p .m .0) (p .m .0) refl)
+same-refl p = rw (is-true (eqZ (p .a) (p .a)) (eqZ-refl (p .a)), is-true (eqZ (p .b) (p .b)) (eqZ-refl (p .b)), eq-eqb (p .m .0) (p .m .0) refl)
 
 pub same-true : (p q : Point) → samePoint p q ≡ true → p ≡ q
 unfolding samePoint
 same-true p q h =
     let ab = both-left (eqZ (p .a) (q .a) && eqZ (p .b) (q .b)) (eqb (p .m .0) (q .m .0)) h in
-    let ea : p .a ≡ q .a = eqZ→eq (p .a) (q .a) (true-fact (eqZ (p .a) (q .a)) (both-left (eqZ (p .a) (q .a)) (eqZ (p .b) (q .b)) ab)) in
-    let eb : p .b ≡ q .b = eqZ→eq (p .b) (q .b) (true-fact (eqZ (p .b) (q .b)) (both-right (eqZ (p .a) (q .a)) (eqZ (p .b) (q .b)) ab)) in
+    let ea : p .a ≡ q .a = eqZ→eq (p .a) (q .a) (of-true (both-left (eqZ (p .a) (q .a)) (eqZ (p .b) (q .b)) ab)) in
+    let eb : p .b ≡ q .b = eqZ→eq (p .b) (q .b) (of-true (both-right (eqZ (p .a) (q .a)) (eqZ (p .b) (q .b)) ab)) in
     let em : p .m .0 ≡ q .m .0 = eqb-true (p .m .0) (q .m .0) (both-right (eqZ (p .a) (q .a) && eqZ (p .b) (q .b)) (eqb (p .m .0) (q .m .0)) h) in
     λ i. pt (ea i) (eb i) (em i)
 

@@ -10,7 +10,8 @@ use borrow.Author.Tests.{lt-ltb, le-ltb, eq-eqb, ne-eqb}
 use lib.Dec.{eqb, ltb, T}
 use lib.IntN.{ℤ, pos, natAbs, _+ℤ_}
 use lib.Signed.{ltZ}
-use Rattle.laws.specs.Each.{true-fact, fact-true, not-both}
+use Rattle.laws.specs.Choices.{of-true, is-true}
+use Rattle.laws.specs.Each.{not-both}
 use Rattle.laws.specs.Parts.{up, dn, apart, abs-is, add-is, eqℤ, lt-true, lt-false}
 use Rattle.laws.specs.Rules.{eqZ, eqZ→eq, eqZ-refl}
 use Rattle.lattice.specs.Points.{pt}
@@ -70,10 +71,10 @@ module _ (x y : ℤ) (hx : natAbs x ≤ widest) (hy : natAbs y ≤ widest) where
   lift-eq = go (eqZ x y) refl
     where
       other : eqZ x y ≡ false → lifted x ≡ lifted y → ⊥
-      other e q = not-both (fact-true (eqZ x y) (subst (λ (z : ℤ). T (eqZ x z)) (lift-one q) (eqZ-refl x))) e
+      other e q = not-both (is-true (eqZ x y) (subst (λ (z : ℤ). T (eqZ x z)) (lift-one q) (eqZ-refl x))) e
 
       go : (b : Bool) → eqZ x y ≡ b → eqZ x y ≡ eqb (lifted x) (lifted y)
-      go true e = e ∙ sym (eq-eqb (lifted x) (lifted y) (ap (λ (z : ℤ). lifted z) (eqZ→eq x y (true-fact (eqZ x y) e))))
+      go true e = e ∙ sym (eq-eqb (lifted x) (lifted y) (ap (λ (z : ℤ). lifted z) (eqZ→eq x y (of-true e))))
       go false e = e ∙ sym (ne-eqb (lifted x) (lifted y) (other e))
 
 -- numbers compared digit by digit
