@@ -28,7 +28,8 @@ three-laid :
     (baseOf (empty 16) three .number ≡ 0)
     × (freeSlots (baseOf (empty 16) three .bytes) ≡ 0)
     × (lookUp (baseOf (empty 16) three .bytes) (pt (pos 1) (pos 0) 0) ≡ Held (record { at = pt (pos 1) (pos 0) 0; d = 6; k = 0; n = record { 0 = 0 } }))
-unfolding empty three baseOf firstBad laidOf layAll layHexagon hexagonOf cornerRecord internal listedIn normalOf turns lookUp enterOf findOf searchFrom slotAt freeAt recordAt putSlot recordBytes slotsIn homeOf samePoint wordAt freeBelow
+unfolding empty three baseOf firstBad laidOf layAll layHexagon hexagonOf cornerRecord internal listedIn normalOf turns lookUp enterOf findOf
+    searchFrom slotAt freeAt recordAt putSlot recordBytes slotsIn homeOf samePoint wordAt freeBelow
 three-laid = (refl, refl, refl)
 
 -- the points of degree 6 among some records
@@ -37,15 +38,16 @@ sixes [] = []
 sixes (r ∷ rs) = cond (eqb (r .d) 6) (r .at ∷ sixes rs) (sixes rs)
 
 only-six : sixes (recordsOf (baseOf (empty 16) three .bytes)) ≡ pt (pos 1) (pos 0) 0 ∷ []
-unfolding sixes empty three recordsBelow baseOf firstBad laidOf layAll layHexagon hexagonOf cornerRecord internal listedIn normalOf turns enterOf findOf searchFrom slotAt freeAt recordAt putSlot recordBytes slotsIn homeOf samePoint wordAt
+unfolding sixes empty three recordsBelow baseOf firstBad laidOf layAll layHexagon hexagonOf cornerRecord internal listedIn normalOf turns enterOf
+    findOf searchFrom slotAt freeAt recordAt putSlot recordBytes slotsIn homeOf samePoint wordAt
 only-six = refl
 
 -- a table before the call: no slot of it is free
 used : ℕ → List ℕ
 used n = replicate (slotWidth * n) 0
 
--- "Centre 250 passes, 251 fails." Refused besides: too few slots; a length that doesn't fit, the table untouched; an odd list; a wrong remainder, though there is no room either;
--- a centre twice, of which the later one is bad
+-- "Centre 250 passes, 251 fails." Refused besides: too few slots; a length that doesn't fit, the table untouched; an odd list; a wrong remainder,
+-- though there is no room either; a centre twice, of which the later one is bad
 refused :
     (baseOf (used 16) (pos 250 ∷ pos 250 ∷ []) .number ≡ 0)
     × (baseOf (used 16) (pos 0 ∷ pos 0 ∷ pos 251 ∷ negsuc 0 ∷ []) ≡ record { number = 2; place = 1; bytes = empty 16 })
@@ -54,5 +56,6 @@ refused :
     × (baseOf (used 16) (pos 0 ∷ []) ≡ record { number = 2; place = 0; bytes = empty 16 })
     × (baseOf (used 16) (pos 0 ∷ pos 0 ∷ pos 30 ∷ pos 0 ∷ pos 60 ∷ pos 0 ∷ pos 1 ∷ pos 0 ∷ []) ≡ record { number = 2; place = 3; bytes = empty 16 })
     × (baseOf (used 16) (pos 0 ∷ pos 0 ∷ pos 3 ∷ pos 0 ∷ pos 0 ∷ pos 0 ∷ []) ≡ record { number = 2; place = 2; bytes = empty 16 })
-unfolding empty used three baseOf firstBad laidOf layAll layHexagon hexagonOf cornerRecord internal listedIn normalOf turns enterOf findOf searchFrom slotAt freeAt recordAt putSlot recordBytes slotsIn homeOf samePoint wordAt
+unfolding empty used three baseOf firstBad laidOf layAll layHexagon hexagonOf cornerRecord internal listedIn normalOf turns enterOf findOf searchFrom
+    slotAt freeAt recordAt putSlot recordBytes slotsIn homeOf samePoint wordAt
 refused = (refl, refl, refl, refl, refl, refl, refl)

@@ -39,7 +39,7 @@ Lent census = List ℕ × List ℕ × List ℕ × List ℕ
 abbrev pub Outcome : Call → Type 0
 Outcome normalise = Point
 Outcome star = Answer
-Outcome base = laid.Base
+Outcome base = laid.Answered
 Outcome subdivide = divided.Outcome
 Outcome subdivideAll = divided.Many
 Outcome neighbours = Answer

@@ -113,7 +113,7 @@ unfolding baseOf
 base-number t cs = go (fitsLength (length t)) (unpaired cs) (ltb (badPlace cs) (centresIn cs)) (laidOf t cs)
   where
     go : (f o b : Bool) (l : Laid)
-        → cond f (cond o (laid.outcome 2 0 (clearedOf t)) (cond b (laid.outcome 2 (badPlace cs) (clearedOf t)) (fromLaid t l))) (laid.outcome 1 0 t) .number
+        → cond f (cond o (laid.answered 2 0 (clearedOf t)) (cond b (laid.answered 2 (badPlace cs) (clearedOf t)) (fromLaid t l))) (laid.answered 1 0 t) .number
         ≡ firstOf (not f ⇒ 1 ∷ o ⇒ 2 ∷ b ⇒ 2 ∷ noRoom l ⇒ 8 ∷ [])
     go false o b l = refl
     go true true b l = refl
@@ -127,7 +127,7 @@ unfolding baseOf
 base-place t cs = go (fitsLength (length t)) (unpaired cs) (ltb (badPlace cs) (centresIn cs)) (laidOf t cs)
   where
     go : (f o b : Bool) (l : Laid)
-        → cond f (cond o (laid.outcome 2 0 (clearedOf t)) (cond b (laid.outcome 2 (badPlace cs) (clearedOf t)) (fromLaid t l))) (laid.outcome 1 0 t) .place
+        → cond f (cond o (laid.answered 2 0 (clearedOf t)) (cond b (laid.answered 2 (badPlace cs) (clearedOf t)) (fromLaid t l))) (laid.answered 1 0 t) .place
         ≡ cond (f && (not o && b)) (badPlace cs) 0
     go false o b l = refl
     go true true b l = refl

@@ -104,14 +104,14 @@ module _ (file t out : List ℕ) where
 
 -- ---- base
 module _ (t : List ℕ) (cs : List ℤ) where
-  abbrev based : Bool → Bool → Bool → Laid → laid.Base
-  based f o b l = cond f (cond o (laid.outcome 2 0 (clearedOf t)) (cond b (laid.outcome 2 (badPlace cs) (clearedOf t)) (fromLaid t l))) (laid.outcome 1 0 t)
+  abbrev based : Bool → Bool → Bool → Laid → laid.Answered
+  based f o b l = cond f (cond o (laid.answered 2 0 (clearedOf t)) (cond b (laid.answered 2 (badPlace cs) (clearedOf t)) (fromLaid t l))) (laid.answered 1 0 t)
 
-  pub base-untouched : baseOf t cs .number ≡ 1 → baseOf t cs ≡ laid.outcome 1 0 t
+  pub base-untouched : baseOf t cs .number ≡ 1 → baseOf t cs ≡ laid.answered 1 0 t
   unfolding baseOf
   base-untouched = go (fitsLength (length t)) (unpaired cs) (ltb (badPlace cs) (centresIn cs)) (laidOf t cs)
     where
-      go : (f o b : Bool) (l : Laid) → based f o b l .number ≡ 1 → based f o b l ≡ laid.outcome 1 0 t
+      go : (f o b : Bool) (l : Laid) → based f o b l .number ≡ 1 → based f o b l ≡ laid.answered 1 0 t
       go false o b l e = refl
       go true true b l e = absurd (omega arith)
       go true false true l e = absurd (omega arith)

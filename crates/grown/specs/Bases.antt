@@ -1,4 +1,5 @@
--- The base that document 01's call lays is the model's. It is said in two ways: by the corners of the listed hexagons (crate base) and by the hexagons round a corner (crate growth).
+-- The base that document 01's call lays is the model's. It is said in two ways: by the corners of the listed hexagons (crate base) and by the
+-- hexagons round a corner (crate growth).
 -- `list-sheet`, `list-model` a good list gives the model's base · `base-sheet`, `base-model` so does a base that is accepted.
 -- Assumes nothing.
 use mathlib.Core.Path.{_≡_, refl, sym, _∙_, ap, subst}
@@ -26,8 +27,8 @@ use Rattle.growth.specs.Sheets.{hexagonRound, insideBase, baseVertex, inList, C
 use Rattle.growth.specs.Hexagons.{unit-step, hexagon-centre, in-any, any-in, inside-all, all-inside, centre-in, centre-inside}
 use Rattle.table.specs.Search.{samePoint}
 use Rattle.table.specs.declared.entries.Looked.the-variants.{Absent, Held}
-use Rattle.base.specs.Base.{centreAt, centresIn, goodCentre, listedIn, isCentre, cornerOf, hexagonListed, internal, cornerRecord, baseOf}
-use Rattle.base.specs.Vertices.{inBase, vertexOf, GoodList}
+use Rattle.base.specs.Base.{centreAt, centresIn, goodCentre, listedIn, isListed, cornerOf, hexagonListed, internal, cornerRecord, baseOf}
+use Rattle.base.specs.Vertices.{inBase, baseRecord, GoodList}
 use Rattle.base.specs.MarkLaws.{good-is, listed-at, listed-is}
 use Rattle.base.specs.BaseLaws.{base-list, base-holds, base-depth, base-centre, base-corner, centre-base, corner-base}
 use Rattle.local.specs.Sheet.{asOption, sheetOf}
@@ -74,7 +75,7 @@ neighbour-hexagon p j m n h c =
 -- ---- a list that is good
 module _ (cs : List ℤ) (g : GoodList cs) where
   abbrev H : Point → Bool
-  H = isCentre cs
+  H = isListed cs
 
   centre-good : (p : Point) → H p ≡ true → (p .m .0 ≡ 0) × (goodCentre p ≡ true)
   centre-good p h =
@@ -120,7 +121,8 @@ module _ (cs : List ℤ) (g : GoodList cs) where
               let e = hexagon-is p t l in
               let c : classOf (cornerOf p (cornerAt p t)) ≡ 0 = ap classOf (sym e) ∙ hexagon-centre p m n t l .1 in
               let q = cornerOf p (cornerAt p t) in
-              ap H e ∙ ap (λ (b : Bool). not b || H q) (sym (eq-eqb (classOf q) 0 c)) ∙ upto-each (λ j. hexagonListed H (cornerOf p j)) 6 (cornerAt p t) h (corner-at p t l)
+              ap H e ∙ ap (λ (b : Bool). not b || H q) (sym (eq-eqb (classOf q) 0 c))
+              ∙ upto-each (λ j. hexagonListed H (cornerOf p j)) 6 (cornerAt p t) h (corner-at p t l)
 
       inside-internal : insideBase H p ≡ true → internal H p ≡ true
       unfolding internal
@@ -137,21 +139,21 @@ module _ (cs : List ℤ) (g : GoodList cs) where
       internal-same = same-test (internal H p) (insideBase H p) internal-inside inside-internal
 
     -- the record of a point of the base
-    vertex-same : inBase cs p ≡ true → vertexOf H p ≡ baseVertex H p
+    vertex-same : inBase cs p ≡ true → baseRecord H p ≡ baseVertex H p
     unfolding cornerRecord
     vertex-same h = go (ℕ-discrete (classOf p) 0)
       where
-        go : Dec (classOf p ≡ 0) → vertexOf H p ≡ baseVertex H p
+        go : Dec (classOf p ≡ 0) → baseRecord H p ≡ baseVertex H p
         go (yes c) =
             let inside : insideBase H p ≡ true = centre-inside H p c ∙ base-centre cs p g h c in
             rw (inside, eq-eqb (classOf p) 0 c)
         go (no c) = rw (internal-same (base-depth cs p g h) c, ne-eqb (classOf p) 0 c)
 
-    pub list-sheet : asOption (cond (inBase cs p) (Held (vertexOf H p)) Absent) ≡ baseSheet H p
+    pub list-sheet : asOption (cond (inBase cs p) (Held (baseRecord H p)) Absent) ≡ baseSheet H p
     unfolding baseSheet
     list-sheet = go (inBase cs p) refl ∙ ap (λ (b : Bool). cond b (some (baseVertex H p)) none) in-same
       where
-        go : (b : Bool) → inBase cs p ≡ b → asOption (cond b (Held (vertexOf H p)) Absent) ≡ cond b (some (baseVertex H p)) none
+        go : (b : Bool) → inBase cs p ≡ b → asOption (cond b (Held (baseRecord H p)) Absent) ≡ cond b (some (baseVertex H p)) none
         go true h = ap some (vertex-same h)
         go false h = refl
 
@@ -193,8 +195,8 @@ module _ (cs : List ℤ) (g : GoodList cs) where
 
 -- ---- a base that is accepted
 module _ (t : List ℕ) (cs : List ℤ) (z : baseOf t cs .number ≡ 0) where
-  pub base-sheet : (p : Point) → sheetOf (baseOf t cs .bytes) p ≡ baseSheet (isCentre cs) p
+  pub base-sheet : (p : Point) → sheetOf (baseOf t cs .bytes) p ≡ baseSheet (isListed cs) p
   base-sheet p = ap asOption (base-holds t cs z p) ∙ list-sheet cs (base-list t cs z) p
 
-  pub base-model : CentreSet (isCentre cs)
+  pub base-model : CentreSet (isListed cs)
   base-model = list-model cs (base-list t cs z)

@@ -1,5 +1,7 @@
--- "grown" of a table, decided: for the readers, whose number 11 turns on it. `Grown` is the mesh's, document 01's sentence; `grown?` decides it, by the local check.
--- `isGrown` the decision as a truth value: `is-grown`, `grown-is` say so · `grown-passes` in a table in order it is the local check · `grown-same` it turns on the records alone.
+-- "grown" of a table, decided: for the readers, whose number 11 turns on it. `Grown` is the mesh's, document 01's sentence; `grown?` decides it, by
+-- the local check.
+-- `isGrown` the decision as a truth value: `is-grown`, `grown-is` say so · `grown-passes` in a table in order it is the local check · `grown-same` it
+-- turns on the records alone.
 -- Assumes nothing.
 use mathlib.Core.Path.{_≡_, refl, _∙_}
 use mathlib.Core.Bool.{Bool, true, false}

@@ -19,7 +19,7 @@ use Rattle.lattice.specs.Points.{pt}
 use Rattle.lattice.specs.PointLaws.{alike, alike-eq}
 use Rattle.lattice.specs.declared.points.Point.{Point}
 use Rattle.growth.specs.Sheets.{inList, CentreSet}
-use Rattle.base.specs.Base.{centreAt, centresIn, goodCentre, listedIn, isCentre, unpaired}
+use Rattle.base.specs.Base.{centreAt, centresIn, goodCentre, listedIn, isListed, unpaired}
 use Rattle.base.specs.Vertices.{GoodList}
 use Rattle.base.specs.MarkLaws.{listed-at, listed-is}
 
@@ -121,13 +121,15 @@ flat-first c cs f = centre-first c cs (f c (List·Memᴰ·head refl))
 centre-member : (cs : List Point) → Flat cs → (i : ℕ) → i < length cs → List·Memᴰ (centreAt (numbers cs) i) cs
 centre-member [] f i l = absurd (omega arith)
 centre-member (c ∷ cs) f zero l = List·Memᴰ·head (flat-first c cs f)
-centre-member (c ∷ cs) f (suc i) l = List·Memᴰ·tail (subst (λ (p : Point). List·Memᴰ p cs) (sym (centre-next c cs i)) (centre-member cs (flat-rest c cs f) i (omega arith)))
+centre-member (c ∷ cs) f (suc i) l =
+    List·Memᴰ·tail (subst (λ (p : Point). List·Memᴰ p cs) (sym (centre-next c cs i)) (centre-member cs (flat-rest c cs f) i (omega arith)))
 
 member-centre : (cs : List Point) → Flat cs → (p : Point) → List·Memᴰ p cs → (i : ℕ) × (i < length cs) × (centreAt (numbers cs) i ≡ p)
 member-centre [] f p m = absurd (List·Memᴰ·not-nil m)
 member-centre (c ∷ cs) f p m = go (List·Memᴰ·cases-cons m) (λ k. member-centre cs (flat-rest c cs f) p k)
   where
-    go : (p ≡ c) ⊎ List·Memᴰ p cs → (List·Memᴰ p cs → (i : ℕ) × (i < length cs) × (centreAt (numbers cs) i ≡ p)) → (i : ℕ) × (i < length (c ∷ cs)) × (centreAt (numbers (c ∷ cs)) i ≡ p)
+    go : (p ≡ c) ⊎ List·Memᴰ p cs → (List·Memᴰ p cs → (i : ℕ) × (i < length cs) × (centreAt (numbers cs) i ≡ p))
+        → (i : ℕ) × (i < length (c ∷ cs)) × (centreAt (numbers (c ∷ cs)) i ≡ p)
     go (inl e) ih = (0, omega arith, flat-first c cs f ∙ sym e)
     go (inr k) ih = let (i, l, e) = ih k in (suc i, omega arith, centre-next c cs i ∙ e)
 
@@ -136,7 +138,8 @@ centres-apart [] f o i j l h e = absurd (omega arith)
 centres-apart (c ∷ cs) f o i zero l h e = absurd (omega arith)
 centres-apart (c ∷ cs) f o zero (suc j) l h e =
     o .0 (subst (λ (p : Point). List·Memᴰ p cs) (sym (centre-next c cs j) ∙ sym e ∙ flat-first c cs f) (centre-member cs (flat-rest c cs f) j (omega arith)))
-centres-apart (c ∷ cs) f o (suc i) (suc j) l h e = centres-apart cs (flat-rest c cs f) (o .1) i j (omega arith) (omega arith) (sym (centre-next c cs i) ∙ e ∙ centre-next c cs j)
+centres-apart (c ∷ cs) f o (suc i) (suc j) l h e =
+    centres-apart cs (flat-rest c cs f) (o .1) i j (omega arith) (omega arith) (sym (centre-next c cs i) ∙ e ∙ centre-next c cs j)
 
 -- ---- a base of the model
 
@@ -144,7 +147,7 @@ centres-apart (c ∷ cs) f o (suc i) (suc j) l h e = centres-apart cs (flat-rest
 pub record Numbered (H : Point → Bool) : Type 0 where
   pub list : List ℤ
   pub good : GoodList list
-  pub same : (p : Point) → isCentre list p ≡ H p
+  pub same : (p : Point) → isListed list p ≡ H p
 
 module _ (H : Point → Bool) (b : CentreSet H) where
   points : List Point
@@ -194,20 +197,20 @@ module _ (H : Point → Bool) (b : CentreSet H) where
       go true e = let (j, h, q) = listed-is cs i (centreAt cs i) e in absurd (centres-apart points flat each-once j i h (below i l) q)
 
   -- it lists what H says
-  lists-in : (p : Point) → isCentre cs p ≡ true → H p ≡ true
+  lists-in : (p : Point) → isListed cs p ≡ true → H p ≡ true
   lists-in p e =
       let (i, l, q) = listed-is cs (centresIn cs) p e in
       is-true (H p) (point-in p (subst (λ (x : Point). List·Memᴰ x points) q (centre-member points flat i (below i l))))
 
-  in-lists : (p : Point) → H p ≡ true → isCentre cs p ≡ true
+  in-lists : (p : Point) → H p ≡ true → isListed cs p ≡ true
   in-lists p e =
       let (i, l, q) = member-centre points flat p (in-point p (of-true e)) in
-      ap (isCentre cs) (sym q) ∙ listed-at cs (centresIn cs) i (omega (arith, how-many))
+      ap (isListed cs) (sym q) ∙ listed-at cs (centresIn cs) i (omega (arith, how-many))
 
   pub base-numbers : Numbered H
   base-numbers =
       record {
         list = cs;
         good = record { paired = pairs; good = good-at; once = once-at };
-        same = λ p. same-test (isCentre cs p) (H p) (lists-in p) (in-lists p);
+        same = λ p. same-test (isListed cs p) (H p) (lists-in p) (in-lists p);
       }

@@ -99,7 +99,8 @@ accepted t a b m z = go (subdivision t a b m)
         }
 
 -- ---- back: a whole one is accepted
-module _ (t : List ℕ) (o : InOrder t) (a b : ℤ) (m : ℕ) (v : Record) (e : lookUp t (normalOf a b m) ≡ Held v) (six : v .d ≡ 6) (low : v .n .0 < 12) (w : UntornAt (sheetOf t) v) where
+module _ (t : List ℕ) (o : InOrder t) (a b : ℤ) (m : ℕ) (v : Record)
+    (e : lookUp t (normalOf a b m) ≡ Held v) (six : v .d ≡ 6) (low : v .n .0 < 12) (w : UntornAt (sheetOf t) v) where
   valid : T (validOf v)
   valid = of-true (lookup-valid t o (normalOf a b m) v e)
 

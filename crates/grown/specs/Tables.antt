@@ -1,5 +1,6 @@
 -- The tables that document 01's calls make have the model's sheets: `reached-order`, `reached-sheet`, `grown-sheet`.
--- A table in order is its sheet, given by its records: `table-listed`. So a grown table passes the local test, and what passes has a sheet that is grown: `grown-checked`, `test-sheet`.
+-- A table in order is its sheet, given by its records: `table-listed`. So a grown table passes the local test, and what passes has a sheet that is
+-- grown: `grown-checked`, `test-sheet`.
 -- Assumes nothing.
 use mathlib.Core.Path.{sym, ap}
 use mathlib.Core.List.{List}
@@ -11,7 +12,7 @@ use Rattle.growth.specs.Sheets.{start, grow, GrownSheet}
 use Rattle.table.specs.Entries.{lookUp, recordsOf}
 use Rattle.table.specs.MapLaws.{lookup-point, lookup-valid, records-looked, looked-records}
 use Rattle.table.specs.Order.{InOrder}
-use Rattle.base.specs.Base.{isCentre, baseOf}
+use Rattle.base.specs.Base.{isListed, baseOf}
 use Rattle.base.specs.BaseLaws.{base-order}
 use Rattle.mesh.specs.Grown.{Reached, laid, divided, Grown}
 use Rattle.mesh.specs.Subdivide.{subdivideOf}
@@ -25,7 +26,7 @@ reached-order _ (laid t cs z) = base-order t cs z
 reached-order _ (divided t r a b m z) = accepted t a b m z .kept
 
 pub reached-sheet : (t : List ℕ) → Reached t → GrownSheet (sheetOf t)
-reached-sheet _ (laid t cs z) = start (isCentre cs) (sheetOf (baseOf t cs .bytes)) (base-model t cs z) (base-sheet t cs z)
+reached-sheet _ (laid t cs z) = start (isListed cs) (sheetOf (baseOf t cs .bytes)) (base-model t cs z) (base-sheet t cs z)
 reached-sheet _ (divided t r a b m z) =
     let s = accepted t a b m z in
     grow (sheetOf t) (s .vertex) (sheetOf (subdivideOf t a b m .bytes)) (reached-sheet t r) (ap asOption (s .held)) (s .six) (s .below) (s .whole) (s .step)

@@ -1,4 +1,4 @@
--- M3's test: what one record has to pass for the mesh to be grown. It makes at most 15 lookups, so a table is judged in one pass.
+-- M3's test: what one record has to pass for the mesh to be grown. It asks at most 12 other points, so a table is judged in one pass.
 -- `there`, `over` what looking a point up tells · `localTest` the test, as code computes it ·
 -- `Local` what it says, in the words of the model (specs/LocalTests has that it does).
 -- Assumes nothing.

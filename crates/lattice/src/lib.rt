@@ -31,6 +31,7 @@ pub use patterns::Spot;
 pub use points::Depth;
 pub use points::Point;
 pub use points::normalise;
+pub use points::turn60;
 pub use ranks::birth;
 pub use ranks::class;
 pub use ranks::moved;

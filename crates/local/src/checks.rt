@@ -32,7 +32,7 @@ fn six_passes(t: &[u8], r: Record, n: usize) -> bool
 }
 
 // The test of one valid record, in a table of n slots.
-pub fn passes(t: &[u8], r: Record, n: usize) -> bool
+fn passes(t: &[u8], r: Record, n: usize) -> bool
     requires { ⌜ Table (now t) n × (validOf r ≡ true) ⌝ }
     ensures { λ v. ⌜ v ≡ localTest (sheetOf (now (t .entry))) r ⌝ }
 {

@@ -3,10 +3,10 @@ ghost use mathlib.Core.Path.{_≡_};
 ghost use Prim.Native.Nat.{_≤_, _<_};
 ghost use Rattle.lattice.specs.Ranks.{rankOf};
 ghost use Rattle.table.specs.Slots.{Table};
-ghost use Rattle.local.specs.Parents.{Born, Ranked, parentAt, parentsOf, seen, split, allThere, creatorIn, creatorOver, splitsIn, sameStar, toldIn};
+ghost use Rattle.local.specs.Parents.{Born, Shallow, parentAt, parentsOf, seen, split, allThere, creatorIn, creatorOver, splitsIn, sameStar, toldIn};
 use crate::lookups::bit;
+use crate::lookups::is_held;
 use crate::lookups::is_over;
-use crate::lookups::is_there;
 use lattice::Point;
 use lattice::Record;
 use lattice::birth;
@@ -60,7 +60,7 @@ fn is_seen(s: Seen) -> bool
     ensures { λ r. ⌜ r ≡ seen s ⌝ }
 {
     let l = s.held;
-    is_there(l)
+    is_held(l)
 }
 
 // It was subdivided at level b.
@@ -80,7 +80,7 @@ pub fn all_there(s: Parents) -> bool
 
 // The creator of p: the first parent that could be subdivided a level earlier still.
 fn creator_in(p: Point, s: Parents) -> Seen
-    requires { ⌜ (p .m .0 ≤ 6) × ((0 < rankOf p) × Ranked s) ⌝ }
+    requires { ⌜ (p .m .0 ≤ 6) × ((0 < rankOf p) × Shallow s) ⌝ }
     ensures { λ r. ⌜ r ≡ creatorIn p s ⌝ }
 {
     let b = rank(p).0 - 1;
@@ -97,7 +97,7 @@ fn creator_in(p: Point, s: Parents) -> Seen
 
 // The creator of p was subdivided at the level that enters p.
 pub fn creator_over(p: Point, s: Parents) -> bool
-    requires { ⌜ (p .m .0 ≤ 6) × ((1 < rankOf p) × Ranked s) ⌝ }
+    requires { ⌜ (p .m .0 ≤ 6) × ((1 < rankOf p) × Shallow s) ⌝ }
     ensures { λ r. ⌜ r ≡ creatorOver p s ⌝ }
 {
     is_split(creator_in(p, s), rank(p).0 - 2)

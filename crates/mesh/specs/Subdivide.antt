@@ -1,6 +1,6 @@
 -- Document 01, "Subdivision of v": when it is refused and what the table holds after. What the promises cite: `subdivideOf`, `subdivideAllOf`.
--- `adjacentFits`, `newFits`, `torn`, `tooDeep` the conditions of 7 and 6 · `renewedTo`, `enteredTo`, `subdivided` the table after · `Outcome` number and table ·
--- `Many` the same of a list.
+-- `adjacentFits`, `newFits`, `torn`, `tooDeep` the conditions of 7 and 6 · `renewedTo`, `enteredTo`, `subdivided` the table after · `Outcome` number
+-- and table · `Many` the same of a list.
 -- Record by record the rules are the lattice's: Subdivision. Assumes nothing.
 use mathlib.Core.Bool.{Bool, false, cond, _&&_, not}
 use mathlib.Core.List.{List}

@@ -22,8 +22,7 @@ use lattice::TOO_DEEP;
 use lattice::TORN;
 use lattice::centre;
 use table::Looked;
-use table::free_slots;
-use table::in_order;
+use table::check_order;
 use table::look_up_request;
 use table::slots_of;
 
@@ -76,11 +75,12 @@ pub fn subdivide(table: &mut [u8], a: i32, b: i32, m: u8) -> u8
     ensures { λ r. ⌜ r ≡ subdivideOf (now (table .entry)) a b m .number ⌝ }
     ensures { λ r. ⌜ now (table .exit) ≡ subdivideOf (now (table .entry)) a b m .bytes ⌝ }
 {
-    if !in_order(table) {
+    let order = check_order(table);
+    if !order.ok {
         return NOT_IN_ORDER;
     }
+    let free = order.free;
     let n = slots_of(table);
-    let free = free_slots(table, n);
     subdivide_ordered(table, a, b, m, n, free)
 }
 
@@ -115,7 +115,8 @@ pub fn subdivide_all(table: &mut [u8], points: &[i32]) -> Made
     ensures { λ r. ⌜ r .done ≡ subdivideAllOf (now (table .entry)) (now (points .entry)) .done ⌝ }
     ensures { λ r. ⌜ now (table .exit) ≡ subdivideAllOf (now (table .entry)) (now (points .entry)) .bytes ⌝ }
 {
-    if !in_order(table) {
+    let order = check_order(table);
+    if !order.ok {
         return Made {
             number: NOT_IN_ORDER,
             done: 0,
@@ -123,7 +124,7 @@ pub fn subdivide_all(table: &mut [u8], points: &[i32]) -> Made
     }
     let n = slots_of(table);
     let count = points.len() / 3;
-    let mut free = free_slots(table, n);
+    let mut free = order.free;
     let mut i = 0;
     while i < count {
         let number = subdivide_triple(table, points, i, n, free);

@@ -1,6 +1,7 @@
 -- The laws of a search.
--- `search-none`, `search-meets` one turn of the loop · `walk n i k` the slot k steps after slot i, `walk-steps`, `steps-walk` its inverse · `search-found`, `search-full` where a search
--- ends · `End`, `ends` how it can end · `same-refl`, `same-true`, `same-or-not` the test of two points · `Kind`, `kind`, `own-hit` what a slot is to a search.
+-- `search-none`, `search-meets` one turn of the loop · `walk n i k` the slot k steps after slot i, `walk-steps`, `steps-walk` its inverse ·
+-- `search-found`, `search-full` where a search ends · `End`, `ends` how it can end · `same-refl`, `same-true`, `same-or-not` the test of two points ·
+-- `Kind`, `kind`, `own-hit` what a slot is to a search.
 -- Assumes nothing.
 use mathlib.Core.Path.{_≡_, refl, sym, ap, _∙_}
 use mathlib.Core.Bool.{Bool, true, false, cond, _&&_}
@@ -128,7 +129,8 @@ pub search-found : (look : ℕ → Meet) (n k i left : ℕ) (o : Found) → i < 
     → ((r : Found) → settle (look (walk n i k)) (walk n i k) r ≡ o) → searchFrom look n i left ≡ o
 search-found look n zero i left o hi hk hl os e =
     let more : 0 < left = omega arith in
-    search-turn look n i left more ∙ ap (λ (x : ℕ). settle (look x) x (searchFrom look n (next n i) (left - 1))) (sym (walk-zero n i hi)) ∙ e (searchFrom look n (next n i) (left - 1))
+    search-turn look n i left more
+    ∙ ap (λ (x : ℕ). settle (look x) x (searchFrom look n (next n i) (left - 1))) (sym (walk-zero n i hi)) ∙ e (searchFrom look n (next n i) (left - 1))
 search-found look n (suc k) i left o hi hk hl os e =
     let more : 0 < left = omega arith in
     let here : look i ≡ Other = ap look (sym (walk-zero n i hi)) ∙ os 0 (omega arith) in

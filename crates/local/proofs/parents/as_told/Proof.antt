@@ -24,7 +24,10 @@ returns c =
 add-k : tie.Need-add-k
 add-k c =
     let s = c .before .before in
-    record { fits = omega (arith, birth-below (s .before .before .before .before .args .r .at), c .birth .ensures, turn-most (s .splits .result) (s .splits .ensures .1)) }
+    record {
+      fits = omega
+          (arith, birth-below (s .before .before .before .before .args .r .at), c .birth .ensures, turn-most (s .splits .result) (s .splits .ensures .1));
+    }
 
 returns-2 : tie.Need-returns-2
 returns-2 c =
