@@ -20,12 +20,13 @@ use Rattle.writers.specs.Files.{before, sorted, fullFile}
 use Rattle.writers.specs.FileLaws.{sorted-rises, sorted-holds, holds-sorted, sorted-one}
 use Rattle.mesh.specs.Grown.{Grown}
 use Rattle.grown.specs.Grown.{is-grown, grown-is, grown-same}
+use Rattle.readers.specs.BeginLaws.{lengths-table}
 use Rattle.readers.specs.Readers.{Outcome, lengthsFit, accepted, refused, readFullOf}
 use Rattle.readers.specs.ReadLaws.{Valid, Lined, read-lines, lines-read, lines-one}
 use Rattle.readers.specs.RestoreLaws.{Within}
-use Rattle.archive.specs.Outcomes.{lengths-table, FullRead, full-ends, full-zero}
+use Rattle.archive.specs.Outcomes.{FullRead, full-ends, full-zero}
 use Rattle.archive.specs.Returns.{Returns, accepted-returns, both-within}
-use Rattle.archive.specs.LineCount.{linesIn, lines-in}
+use Rattle.text.specs.LineCount.{linesIn, lines-in}
 
 -- ---- what is written is read
 

@@ -10,6 +10,7 @@ use Prim.Native.Nat.{ℕ, _*_, _+_, _%_, _≤_, _<_}
 use native.Mathlib.Omega.{arith}
 use lib.ListN.{length}
 use Rattle.laws.specs.Each.{not-both}
+use Rattle.laws.specs.Some.{someOf}
 use Rattle.lattice.specs.Stars.{adjacentAt}
 use Rattle.lattice.specs.declared.points.Point.{Point}
 use Rattle.lattice.specs.declared.records.Record.{Record}
@@ -23,7 +24,7 @@ use Rattle.table.specs.MapLaws.{lookup-point, lookup-valid, records-looked, loo
 use Rattle.table.specs.declared.entries.Looked.the-variants.{Absent, Held}
 use Rattle.text.specs.Line.{lines}
 use Rattle.writers.specs.SortLaws.{Rising}
-use Rattle.writers.specs.Files.{someOf, redundant}
+use Rattle.writers.specs.Files.{redundant}
 use Rattle.writers.specs.FileLaws.{Before, redundant-same}
 use Rattle.writers.specs.RedundantLaws.{Redundant, redundant-is, is-redundant, six-kept}
 use Rattle.mesh.specs.Grown.{Grown}
@@ -31,11 +32,13 @@ use Rattle.local.specs.Sheet.{asOption, sheetOf}
 use Rattle.grown.specs.Steps.{sheet-held}
 use Rattle.grown.specs.Tables.{grown-sheet}
 use Rattle.grown.specs.Grown.{grown-is, grown-same}
-use Rattle.readers.specs.Readers.{With, restoredOf, restoreAll, lengthsFit, accepted, refused, readReducedOf}
+use Rattle.lattice.specs.Subdivision.{bornOf}
+use Rattle.readers.specs.BeginLaws.{lengths-table}
+use Rattle.readers.specs.Readers.{With, restoreAll, lengthsFit, accepted, refused, readReducedOf}
 use Rattle.readers.specs.Additions.{Adds, adds-none, adds-slots, held-absent, held-same}
 use Rattle.readers.specs.ReadLaws.{Valid, Lined, read-lines, lines-read}
-use Rattle.readers.specs.RestoreLaws.{restored-at, restored-degree, Restores, RestoredOf, restore-all, Within, In, Lacks, in-within, restores-into}
-use Rattle.archive.specs.Outcomes.{lengths-table, ReducedRead, reduced-ends}
+use Rattle.readers.specs.RestoreLaws.{Restores, RestoredOf, restore-all, Within, In, Lacks, in-within, restores-into}
+use Rattle.archive.specs.Outcomes.{ReducedRead, reduced-ends}
 use Rattle.archive.specs.Returns.{both-within, rising-apart}
 
 -- ---- records of table t that rise, all of them but redundant ones: of such a file the mesh comes back
@@ -45,8 +48,7 @@ pub record Leaves (t : List ℕ) (rs : List Record) : Type 0 where
   pub rest : (r : Record) → lookUp t (r .at) ≡ Held r → redundant t r ≡ false → List·Memᴰ r rs
 
 -- M4's record is the one that restoring enters
-entered : (v : Record) (j : ℕ) → vertex (adjacentAt v j) 3 ((6 + 2 * j + v .k) % 4) (v .n .0) ≡ restoredOf v j
-unfolding restoredOf
+entered : (v : Record) (j : ℕ) → vertex (adjacentAt v j) 3 ((6 + 2 * j + v .k) % 4) (v .n .0) ≡ bornOf v j
 entered v j = refl
 
 module _ (t : List ℕ) (g : Grown t) (rs : List Record) (x : Leaves t rs) where
@@ -81,7 +83,7 @@ module _ (t : List ℕ) (g : Grown t) (rs : List Record) (x : Leaves t rs) where
         (a, h, λ none. at a h three none (listed (adjacentAt v j) a h))
       where
         at : (a : Record) → lookUp t (adjacentAt v j) ≡ Held a → (a .d ≡ 3 → a ≡ vertex (adjacentAt v j) 3 ((6 + 2 * j + v .k) % 4) (v .n .0)) → lookUp u (adjacentAt v j) ≡ Absent → List·Memᴰ a rs ⊎ Redundant t a
-            → a ≡ restoredOf v j
+            → a ≡ bornOf v j
         at a h three none (inl k) = held-absent (ap (lookUp u) (sym (lookup-point t o (adjacentAt v j) a h)) ∙ l .held a k) none
         at a h three none (inr k) = three (k .three) ∙ entered v j
 
@@ -154,11 +156,11 @@ module _ (table scratch f : List ℕ) (kept : Bool) (x : ReducedRead table scrat
       left r h e (inl k) = lined .only (r .at) r k
       left r h e (inr (v, m, d, j, i, k)) =
           absurd (not-both (is-redundant (x .table) r (record {
-            three = ap (λ (y : Record). y .d) k ∙ restored-degree v j;
+            three = ap (λ (y : Record). y .d) k;
             centre = v;
             listed = looked-records (x .table) read-order (v .at) v (stands v m);
             six = d;
             place = j;
             below = i;
-            adjacent = sym (ap (λ (y : Record). y .at) k ∙ restored-at v j);
+            adjacent = sym (ap (λ (y : Record). y .at) k);
           })) e)

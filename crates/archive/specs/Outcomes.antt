@@ -1,5 +1,5 @@
 -- How a reader comes to 0, and to 12: what was read, restored and judged on the way. Each way there and back.
--- `lengths-table`, `table-lengths` lengths that fit · `full-ends`, `full-zero` · `reduced-ends`, `reduced-zero`, `reduced-twelve`.
+-- `full-ends`, `full-zero` · `reduced-ends`, `reduced-zero`, `reduced-twelve`.
 -- Assumes nothing.
 use mathlib.Core.Path.{_≡_, refl, ap, _∙_}
 use mathlib.Core.Bool.{Bool, true, false, cond, _&&_}
@@ -11,20 +11,14 @@ use borrow.Author.Tests.{eq-eqb}
 use lib.Dec.{eqb}
 use lib.ListN.{length}
 use Rattle.laws.specs.Each.{both-left}
+use Rattle.laws.specs.Some.{someOf}
 use Rattle.lattice.specs.declared.records.Record.{Record}
 use Rattle.table.specs.Slots.{Table, fitsLength, slotsOf, clearedOf}
 use Rattle.table.specs.SlotLaws.{table-test, test-table}
-use Rattle.writers.specs.Files.{someOf, redundant}
+use Rattle.writers.specs.Files.{redundant}
 use Rattle.grown.specs.Grown.{isGrown}
 use Rattle.readers.specs.Readers.{Lines, Read, Fault, readLines, Restored, With, Stopped, restoreAll, Outcome, outcome, refused, accepted, lengthsFit, endFull, endRestored, endReduced, readFullOf, readReducedOf}
 use Rattle.readers.specs.FaultLaws.{fault-number, stop-number}
-
-module _ (t s : List ℕ) where
-  pub lengths-table : lengthsFit t s ≡ true → Table t (slotsOf t)
-  lengths-table h = test-table t (both-left (fitsLength (length t)) (eqb (length s) (length t)) h)
-
-  pub table-lengths : Table t (slotsOf t) → length s ≡ length t → lengthsFit t s ≡ true
-  table-lengths w e = ap (λ (b : Bool). b && eqb (length s) (length t)) (table-test t (slotsOf t) w) ∙ eq-eqb (length s) (length t) e
 
 module _ (t s f : List ℕ) where
   -- ---- the full reader

@@ -8,6 +8,7 @@ use Prim.Native.Nat.{ℕ, _+_, _≤_, _<_}
 use native.Mathlib.Omega.{arith}
 use native.Mathlib.Decide.{decLt}
 use lib.ListN.{length}
+use Rattle.laws.specs.Some.{someOf, some-at, at-some, none-at, at-none}
 use Rattle.lattice.specs.declared.points.Point.{Point}
 use Rattle.lattice.specs.declared.records.Record.{Record}
 use Rattle.table.specs.Slots.{slotsOf}
@@ -16,15 +17,15 @@ use Rattle.table.specs.Entries.{lookUp, recordsOf}
 use Rattle.table.specs.MapLaws.{records-looked, looked-records, records-count}
 use Rattle.text.specs.Line.{lines}
 use Rattle.writers.specs.SortLaws.{sort-length}
-use Rattle.writers.specs.Files.{before, sorted, someOf, redundant, leaveOut, reducedFile}
+use Rattle.writers.specs.Files.{before, sorted, redundant, leaveOut, reducedFile}
 use Rattle.writers.specs.FileLaws.{left-rises, left-holds, holds-left, left-one}
-use Rattle.writers.specs.RedundantLaws.{some-at, at-some, none-at, at-none}
 use Rattle.mesh.specs.Grown.{Grown}
 use Rattle.grown.specs.Grown.{is-grown}
+use Rattle.readers.specs.BeginLaws.{table-lengths}
 use Rattle.readers.specs.Readers.{Outcome, lengthsFit, accepted, refused, readReducedOf}
-use Rattle.archive.specs.Outcomes.{table-lengths, ReducedRead, reduced-zero, reduced-twelve}
+use Rattle.archive.specs.Outcomes.{ReducedRead, reduced-zero, reduced-twelve}
 use Rattle.archive.specs.Returns.{Returns, accepted-returns}
-use Rattle.archive.specs.LineCount.{linesIn, lines-in}
+use Rattle.text.specs.LineCount.{linesIn, lines-in}
 use Rattle.archive.specs.Leaves.{Leaves, read-back, lined, read-order, read-slots, read-leaves}
 
 -- the records of the reduced file

@@ -34,8 +34,8 @@ unfolding tabbed
 header = tabbed ((86 ∷ []) ∷ (69 ∷ []) ∷ (70 ∷ []) ∷ degreeWord 0 ∷ degreeWord 3 ∷ degreeWord 4 ∷ degreeWord 5 ∷ degreeWord 6 ∷ [])
 
 -- "V E F d0 d3 d4 d5 d6"
-abbrev pub listed : Counts → List ℕ
-listed c = c .vertices ∷ c .edges ∷ c .faces ∷ c .d0 ∷ c .d3 ∷ c .d4 ∷ c .d5 ∷ c .d6 ∷ []
+abbrev pub inRow : Counts → List ℕ
+inRow c = c .vertices ∷ c .edges ∷ c .faces ∷ c .d0 ∷ c .d3 ∷ c .d4 ∷ c .d5 ∷ c .d6 ∷ []
 
 -- a line of numbers
 abbrev pub row : List ℕ → List ℕ
@@ -43,7 +43,7 @@ row ns = tabbed (map digits ns)
 
 -- "a header line .. and one line of those numbers"
 abbrev pub countsText : Counts → List ℕ
-countsText c = header ++ row (listed c)
+countsText c = header ++ row (inRow c)
 
 -- the bytes of the word "refused"
 abbrev pub refusedWord : List ℕ

@@ -22,7 +22,7 @@ use Rattle.text.specs.declared.line.Line.{Line}
 use Rattle.text.specs.declared.line.Line.the-variants.{Good, Bad, End}
 use Rattle.grown.specs.Grown.{isGrown}
 use Rattle.readers.specs.Readers.{Lines, Read, Fault, after, above, noSlot, lineRead, linesFrom, readLines, Outcome, outcome, refused, accepted, lengthsFit, endFull, readFullOf}
-use Rattle.readers.specs.BeginLaws.{Prepared, prepared-unfit, prepared-fit}
+use Rattle.readers.specs.BeginLaws.{Prepared, prepared-unfit, prepared-fit, full-unfit}
 use Rattle.readers.specs.FaultLaws.{fault-number}
 use Rattle.readers.specs.ReadLaws.{read-lines}
 use Rattle.counts.specs.Counts.{countsOf}
@@ -37,10 +37,6 @@ longOf t s = cond (lengthsFit t s) (refused 8 0 t s) (outcome 1 0 t s)
 pub input-long : (t s input : List ℕ) → mostInput < length input → longOf t s ≡ readInputOf t s input
 unfolding readInputOf
 input-long t s input h = ap (λ (b : Bool). cond (lengthsFit t s) (cond b (refused 8 0 t s) (readFullOf t s input)) (outcome 1 0 t s)) (sym (lt-ltb mostInput (length input) h))
-
-full-unfit : (t s input : List ℕ) → lengthsFit t s ≡ false → readFullOf t s input ≡ outcome 1 0 t s
-unfolding readFullOf
-full-unfit t s input e = ap (λ (b : Bool). cond b (endFull t s (readLines input (clearedOf t))) (outcome 1 0 t s)) e
 
 pub input-read : (t s input : List ℕ) → length input ≤ mostInput → readFullOf t s input ≡ readInputOf t s input
 unfolding readInputOf

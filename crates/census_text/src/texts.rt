@@ -7,6 +7,8 @@ ghost use Rattle.laws.specs.Stores.{Wrote};
 ghost use Rattle.census_text.specs.Census.{row, countsText, refusedText, put, putText};
 ghost use Rattle.census_text.specs.TextLaws.{stopAt};
 use counts::Counts;
+use text::FEED;
+use text::TAB;
 use text::width;
 use text::write_number;
 
@@ -15,10 +17,6 @@ pub struct Census {
     pub number: u8,
     pub written: u64,
 }
-
-const TAB: u8 = b'\t';
-
-const FEED: u8 = b'\n';
 
 // Document 01's number for an output that is too short.
 const SHORT: u8 = 13;

@@ -8,6 +8,7 @@ use mathlib.Core.List.{List, [], _∷_, _++_}
 use Prim.Native.Nat.{ℕ, zero, suc, _+_}
 use lib.Dec.{eqb}
 use lib.ListN.{length}
+use Rattle.laws.specs.Some.{someOf}
 use Rattle.lattice.specs.Stars.{adjacentAt}
 use Rattle.lattice.specs.declared.points.Point.{Point}
 use Rattle.lattice.specs.declared.records.Record.{Record}
@@ -25,16 +26,10 @@ abbrev pub bit : Bool → ℕ
 bit true = 1
 bit false = 0
 
--- the test passes at an element of the list
-unfoldable pub someIn : {A : Type 0} → (A → Bool) → List A → Bool
-someIn f [] = false
-someIn f (x ∷ xs) = f x || someIn f xs
-
 -- `seen` are the ones before
 unfoldable pub differentAfter : {A : Type 0} → (A → A → Bool) → List A → List A → ℕ
-unfolding someIn
 differentAfter same seen [] = 0
-differentAfter same seen (x ∷ xs) = bit (not (someIn (same x) seen)) + differentAfter same (seen ++ x ∷ []) xs
+differentAfter same seen (x ∷ xs) = bit (not (someOf (same x) seen)) + differentAfter same (seen ++ x ∷ []) xs
 
 abbrev pub different : {A : Type 0} → (A → A → Bool) → List A → ℕ
 different same xs = differentAfter same [] xs

@@ -13,6 +13,7 @@ use native.Mathlib.Decide.{ℕ-discrete}
 use borrow.Author.Tests.{eq-eqb, ne-eqb}
 use Rattle.laws.specs.Rules.{among}
 use Rattle.laws.specs.Each.{not-both, never, among-at, at-among, same-test}
+use Rattle.laws.specs.Some.{someOf}
 use Rattle.lattice.specs.Stars.{adjacentAt}
 use Rattle.lattice.specs.RecordLaws.{Inner}
 use Rattle.lattice.specs.declared.points.Point.{Point}
@@ -27,7 +28,7 @@ use Rattle.table.specs.Entries.{recordsBelow}
 use Rattle.table.specs.MapLaws.{same-refl, same-true}
 use Rattle.table.specs.declared.slots.Slot.the-variants.{Holds}
 use Rattle.queries.specs.Queries.{chosenAt}
-use Rattle.counts.specs.Counts.{someIn, differentAfter, gather, each, nextPlace, face, faceWith, facesAt, turned, fits, sameFace, facesIn}
+use Rattle.counts.specs.Counts.{differentAfter, gather, each, nextPlace, face, faceWith, facesAt, turned, fits, sameFace, facesIn}
 use Rattle.counts.specs.Earlier.{sumBelow, spotIs, cornerIs, namesFace, faceSeen, faceBefore, faceOn, faceCount, cornerCount, starFaces, slotFaces}
 use Rattle.counts.specs.DifferentLaws.{slotTest, some-one, some-none, some-gather, some-each, different-nothing, different-place, different-star, different-slots}
 use Rattle.counts.specs.EarlierLaws.{Passes, other-point, star-inner, earlier-yes, yes-earlier, slots-pass, pass-slots}
@@ -55,25 +56,25 @@ unfolding fits
 fits-refl f = rw (same-refl (f .at), same-refl (f .adjacent), same-refl (f .opposite), same-refl (f .next))
 
 -- which of the four readings of f is g
-pub data Reading (f g : Face) : Type 0 where
-  straight : f ≡ g → Reading f g
-  once : turned f ≡ g → Reading f g
-  twice : turned (turned f) ≡ g → Reading f g
-  thrice : turned (turned (turned f)) ≡ g → Reading f g
+pub data SameRound (f g : Face) : Type 0 where
+  straight : f ≡ g → SameRound f g
+  once : turned f ≡ g → SameRound f g
+  twice : turned (turned f) ≡ g → SameRound f g
+  thrice : turned (turned (turned f)) ≡ g → SameRound f g
 
-same-reading : (f g : Face) → sameFace f g ≡ true → Reading f g
+same-round : (f g : Face) → sameFace f g ≡ true → SameRound f g
 unfolding sameFace
-same-reading f g h = go (fits f g) (fits (turned f) g) (fits (turned (turned f)) g) refl refl refl h
+same-round f g h = go (fits f g) (fits (turned f) g) (fits (turned (turned f)) g) refl refl refl h
   where
-    go : (a b c : Bool) → fits f g ≡ a → fits (turned f) g ≡ b → fits (turned (turned f)) g ≡ c → a || (b || (c || fits (turned (turned (turned f))) g)) ≡ true → Reading f g
+    go : (a b c : Bool) → fits f g ≡ a → fits (turned f) g ≡ b → fits (turned (turned f)) g ≡ c → a || (b || (c || fits (turned (turned (turned f))) g)) ≡ true → SameRound f g
     go true b c x y z k = straight (fits-eq f g x)
     go false true c x y z k = once (fits-eq (turned f) g y)
     go false false true x y z k = twice (fits-eq (turned (turned f)) g z)
     go false false false x y z k = thrice (fits-eq (turned (turned (turned f))) g k)
 
-reading-same : (f g : Face) → Reading f g → sameFace f g ≡ true
+round-same : (f g : Face) → SameRound f g → sameFace f g ≡ true
 unfolding sameFace
-reading-same f g r = go r
+round-same f g r = go r
   where
     some4 : (a b c d : Bool) → (a ≡ true) ⊎ ((b ≡ true) ⊎ ((c ≡ true) ⊎ (d ≡ true))) → a || (b || (c || d)) ≡ true
     some4 true b c d h = refl
@@ -91,7 +92,7 @@ reading-same f g r = go r
     is : (x : Face) → x ≡ g → fits x g ≡ true
     is x e = ap (λ (y : Face). fits y g) e ∙ fits-refl g
 
-    go : Reading f g → fits f g || (fits (turned f) g || (fits (turned (turned f)) g || fits (turned (turned (turned f))) g)) ≡ true
+    go : SameRound f g → fits f g || (fits (turned f) g || (fits (turned (turned f)) g || fits (turned (turned (turned f))) g)) ≡ true
     go (straight e) = one (inl (is f e))
     go (once e) = one (inr (inl (is (turned f) e)))
     go (twice e) = one (inr (inr (inl (is (turned (turned f)) e))))
@@ -141,26 +142,26 @@ module _ (t : List ℕ) where
 
   -- f is one of u's faces, read from one of its vertices on
   abbrev gives : Face → Record → Bool
-  gives f u = someIn (sameFace f) (facesAt t u)
+  gives f u = someOf (sameFace f) (facesAt t u)
 
   abbrev place : Record → ℕ → List Face
   place u i = faceWith u i (chosenAt t u i)
 
-  makes-gives : (f : Face) (u : Record) (g : Face) → Makes u g → Reading f g → gives f u ≡ true
+  makes-gives : (f : Face) (u : Record) (g : Face) → Makes u g → SameRound f g → gives f u ≡ true
   makes-gives f u g m r =
       some-gather (sameFace f) (u .d) (place u)
-      ∙ at-among (λ i. someIn (sameFace f) (place u i)) (u .d) (m .corner) (m .below)
-      (ap (λ (s : Spot). someIn (sameFace f) (faceWith u (m .corner) s)) (m .chosen) ∙ some-one (sameFace f) (faceOn u (m .corner) (m .opposite))
-      ∙ ap (sameFace f) (m .is) ∙ reading-same f g r)
+      ∙ at-among (λ i. someOf (sameFace f) (place u i)) (u .d) (m .corner) (m .below)
+      (ap (λ (s : Spot). someOf (sameFace f) (faceWith u (m .corner) s)) (m .chosen) ∙ some-one (sameFace f) (faceOn u (m .corner) (m .opposite))
+      ∙ ap (sameFace f) (m .is) ∙ round-same f g r)
 
-  gives-makes : (f : Face) (u : Record) → gives f u ≡ true → (g : Face) × Makes u g × Reading f g
+  gives-makes : (f : Face) (u : Record) → gives f u ≡ true → (g : Face) × Makes u g × SameRound f g
   gives-makes f u h =
-      let x = among-at (λ i. someIn (sameFace f) (place u i)) (u .d) (sym (some-gather (sameFace f) (u .d) (place u)) ∙ h) in
+      let x = among-at (λ i. someOf (sameFace f) (place u i)) (u .d) (sym (some-gather (sameFace f) (u .d) (place u)) ∙ h) in
       go (x .0) (x .1) (chosenAt t u (x .0)) refl (x .2)
     where
-      go : (i : ℕ) → i < u .d → (s : Spot) → chosenAt t u i ≡ s → someIn (sameFace f) (faceWith u i s) ≡ true → (g : Face) × Makes u g × Reading f g
+      go : (i : ℕ) → i < u .d → (s : Spot) → chosenAt t u i ≡ s → someOf (sameFace f) (faceWith u i s) ≡ true → (g : Face) × Makes u g × SameRound f g
       go i l Nothing e k = absurd (not-both k (some-none (sameFace f)))
-      go i l (At p) e k = (faceOn u i p, record { corner = i; below = l; opposite = p; chosen = e; is = refl }, same-reading f (faceOn u i p) (sym (some-one (sameFace f) (faceOn u i p)) ∙ k))
+      go i l (At p) e k = (faceOn u i p, record { corner = i; below = l; opposite = p; chosen = e; is = refl }, same-round f (faceOn u i p) (sym (some-one (sameFace f) (faceOn u i p)) ∙ k))
 
 next-below : (d j : ℕ) → j < d → nextPlace d j < d
 next-below d j h = go (ℕ-discrete (j + 1) d)
@@ -182,7 +183,7 @@ module _ (t : List ℕ) (o : InOrder t) where
     seen g x m =
         earlier-yes t o k top (namesFace t g) (g .at) (record { rec = x .rec; slot = x .slot; below = x .below; holds = x .holds; passes = makes-names t (x .rec) g m }) (ap (λ (f : Face). f .at) (m .is))
 
-    seen-gives : (f g : Face) → Reading f g → faceSeen t k g ≡ true → among k (λ i. slotTest (gives t f) (slotAt t i)) ≡ true
+    seen-gives : (f g : Face) → SameRound f g → faceSeen t k g ≡ true → among k (λ i. slotTest (gives t f) (slotAt t i)) ≡ true
     unfolding faceSeen
     seen-gives f g r h =
         let y = yes-earlier t o k top (namesFace t g) (g .at) h in
@@ -190,7 +191,7 @@ module _ (t : List ℕ) (o : InOrder t) where
         pass-slots t k (gives t f)
         (record { rec = x .rec; slot = x .slot; below = x .below; holds = x .holds; passes = makes-gives t f (x .rec) g (names-makes t (x .rec) g (y .1) (x .passes)) r })
 
-    face-before : (f : Face) → f .at ≡ v .at → someIn (sameFace f) (each (facesAt t) (recordsBelow t k)) ≡ faceBefore t k f
+    face-before : (f : Face) → f .at ≡ v .at → someOf (sameFace f) (each (facesAt t) (recordsBelow t k)) ≡ faceBefore t k f
     unfolding faceBefore
     face-before f e = some-each (sameFace f) (facesAt t) t k ∙ same-test (among k (λ i. slotTest (gives t f) (slotAt t i))) (faceBefore t k f) there back
       where
@@ -206,7 +207,7 @@ module _ (t : List ℕ) (o : InOrder t) where
         there : among k (λ i. slotTest (gives t f) (slotAt t i)) ≡ true → faceBefore t k f ≡ true
         there h = let x = slots-pass t k (gives t f) h in let y = gives-makes t f (x .rec) (x .passes) in go x (y .0) (y .1) (y .2)
           where
-            go : (x : Passes t k (gives t f)) (g : Face) → Makes t (x .rec) g → Reading f g → x₁ || (x₂ || x₃) ≡ true
+            go : (x : Passes t k (gives t f)) (g : Face) → Makes t (x .rec) g → SameRound f g → x₁ || (x₂ || x₃) ≡ true
             go x g m (straight q) = absurd (other-point t o k v l here x (ap (λ (z : Face). z .at) (m .is ∙ sym q) ∙ e))
             go x g m (once q) = ap (λ (b : Bool). b || (x₂ || x₃)) (ap (faceSeen t k) q ∙ seen g x m)
             go x g m (twice q) = ap (λ (b : Bool). x₁ || (b || x₃)) (ap (faceSeen t k) q ∙ seen g x m) ∙ or-true x₁
@@ -221,23 +222,23 @@ module _ (t : List ℕ) (o : InOrder t) where
             go false false p q r = seen-gives f (turned (turned (turned f))) (thrice refl) r
 
     -- no two corners of a star make one face
-    corner-apart : (i j : ℕ) → i < j → j < v .d → (p : Point) → chosenAt t v j ≡ At p → someIn (sameFace (faceOn v j p)) (place t v i) ≡ false
+    corner-apart : (i j : ℕ) → i < j → j < v .d → (p : Point) → chosenAt t v j ≡ At p → someOf (sameFace (faceOn v j p)) (place t v i) ≡ false
     corner-apart i j h m p c = go (chosenAt t v i)
       where
         n : Inner v
         n = star-inner t o k v l here j m
 
-        never : (q : Point) → Reading (faceOn v j p) (faceOn v i q) → ⊥
+        never : (q : Point) → SameRound (faceOn v j p) (faceOn v i q) → ⊥
         never q (straight e) = let x : j ≡ i = star-distinct v j i (n .low) (n .top) m (omega arith) (ap (λ (f : Face). f .adjacent) e) in omega arith
         never q (once e) = adjacent-away v n j m (ap (λ (f : Face). f .at) e)
         never q (twice e) = chosen-away v n j m t (c ∙ ap (λ (f : Face). At (f .at)) e)
         never q (thrice e) = adjacent-away v n (nextPlace (v .d) j) (next-below (v .d) j m) (ap (λ (f : Face). f .at) e)
 
         decide : (q : Point) (b : Bool) → sameFace (faceOn v j p) (faceOn v i q) ≡ b → b ≡ false
-        decide q true e = absurd (never q (same-reading (faceOn v j p) (faceOn v i q) e))
+        decide q true e = absurd (never q (same-round (faceOn v j p) (faceOn v i q) e))
         decide q false e = refl
 
-        go : (s : Spot) → someIn (sameFace (faceOn v j p)) (faceWith v i s) ≡ false
+        go : (s : Spot) → someOf (sameFace (faceOn v j p)) (faceWith v i s) ≡ false
         go Nothing = some-none (sameFace (faceOn v j p))
         go (At q) = some-one (sameFace (faceOn v j p)) (faceOn v i q) ∙ decide q (sameFace (faceOn v j p) (faceOn v i q)) refl
 

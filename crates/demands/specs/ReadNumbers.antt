@@ -12,6 +12,7 @@ use lib.Dec.{ltb}
 use lib.ListN.{length}
 use Rattle.laws.specs.Choices.{is-false, is-true}
 use Rattle.laws.specs.Each.{not-both}
+use Rattle.laws.specs.Some.{someOf}
 use Rattle.lattice.specs.Records.{validOf}
 use Rattle.lattice.specs.declared.records.Record.{Record}
 use Rattle.table.specs.Slots.{clearedOf}
@@ -25,13 +26,13 @@ use Rattle.table.specs.declared.probe.Found.the-variants as found
 use Rattle.text.specs.Line.{lineAt}
 use Rattle.text.specs.declared.line.Line.{Line}
 use Rattle.text.specs.declared.line.Line.the-variants.{Good, Bad, End}
-use Rattle.writers.specs.Files.{someOf, redundant}
+use Rattle.writers.specs.Files.{redundant}
 use Rattle.mesh.specs.Grown.{Grown}
 use Rattle.growth.specs.Growth.{grown-some}
 use Rattle.local.specs.Sheet.{asOption, sheetOf}
 use Rattle.grown.specs.Tables.{grown-sheet}
 use Rattle.grown.specs.Grown.{isGrown, is-grown, grown-is}
-use Rattle.archive.specs.Outcomes.{lengths-table}
+use Rattle.readers.specs.BeginLaws.{lengths-table}
 use Rattle.readers.specs.Readers.{Lines, Read, Fault, after, above, noSlot, lineRead, linesFrom, readLines, Restored, With, Stopped, restoreAt, restore, restoreAll, lengthsFit, endFull, endReduced, endRestored, readFullOf, readReducedOf}
 use Rattle.readers.specs.Readers as read
 use Rattle.census_text.specs.Census.{readInputOf, mostInput}

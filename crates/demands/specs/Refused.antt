@@ -12,6 +12,7 @@ use native.Mathlib.Omega.{arith}
 use lib.Dec.{eqb, ltb, lit≤}
 use lib.IntN.{ℤ}
 use lib.ListN.{length, drop}
+use Rattle.laws.specs.Some.{someOf}
 use Rattle.lattice.specs.Points.{normalOf}
 use Rattle.lattice.specs.Records.{validOf}
 use Rattle.lattice.specs.Stars.{starOf, given}
@@ -29,7 +30,7 @@ use Rattle.base.specs.Base as laid
 use Rattle.mesh.specs.Subdivide.{Outcome, subdivideOf, subdivideAllOf}
 use Rattle.mesh.specs.CaseLaws.{Subdivision, subdivision}
 use Rattle.mesh.specs.CaseLaws as cases
-use Rattle.writers.specs.Files.{writeOf, putOf, someOf, redundant}
+use Rattle.writers.specs.Files.{writeOf, putOf, redundant}
 use Rattle.writers.specs.Files as written
 use Rattle.grown.specs.Grown.{isGrown}
 use Rattle.readers.specs.Readers.{Lines, Read, Fault, readLines, Restored, With, Stopped, restoreAll, lengthsFit, endFull, endReduced, endRestored, readFullOf, readReducedOf}

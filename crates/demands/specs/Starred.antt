@@ -26,8 +26,8 @@ use Rattle.writers.specs.Sorting.{insertBy, sortBy}
 use Rattle.writers.specs.Files.{earlier, redundant, leaveOut, reducedFile}
 use Rattle.text.specs.Decimal.{digits, digitsBy}
 use Rattle.text.specs.Line.{pointText, starText, lineOf, lines}
-use Rattle.archive.specs.LineCount.{linesIn}
-use Rattle.counts.specs.Counts.{someIn, differentAfter, gather, each, samePair, fits, sameFace, ofDegree, countsOf}
+use Rattle.text.specs.LineCount.{linesIn}
+use Rattle.counts.specs.Counts.{differentAfter, gather, each, samePair, fits, sameFace, ofDegree, countsOf}
 use Rattle.counts.specs.declared.Counts.{Counts}
 
 -- ---- what is compared: whole numbers
@@ -99,7 +99,7 @@ four2 = record { at = pt (pos 0) (pos 0) 0; d = 4; k = 2; n = record { 0 = 0 } }
 
 -- ---- the table
 pub starred : List Example
-unfolding someIn differentAfter gather each samePair fits sameFace ofDegree countsOf chosenAt sixes threeCentres six0 six1 meshThree once twice reducedLines lines lineOf pointText starText digits digitsBy earlier insertBy sortBy four2 redundant leaveOut neighboursOf adjacentsThere subdivideOf subdivided torn tooDeep renewedTo enteredTo updateOf acceptsOf baseOf firstBad laidOf layAll layHexagon hexagonOf cornerRecord internal listedIn normalOf turns orient patternOf rowsOf inOrderOf allPlaced placedAt lookUp enterOf replaceOf recordsBelow findOf searchFrom slotAt freeAt recordAt putSlot recordBytes slotsIn homeOf samePoint wordAt freeBelow
+unfolding differentAfter gather each samePair fits sameFace ofDegree countsOf chosenAt sixes threeCentres six0 six1 meshThree once twice reducedLines lines lineOf pointText starText digits digitsBy earlier insertBy sortBy four2 redundant leaveOut neighboursOf adjacentsThere subdivideOf subdivided torn tooDeep renewedTo enteredTo updateOf acceptsOf baseOf firstBad laidOf layAll layHexagon hexagonOf cornerRecord internal listedIn normalOf turns orient patternOf rowsOf inOrderOf allPlaced placedAt lookUp enterOf replaceOf recordsBelow findOf searchFrom slotAt freeAt recordAt putSlot recordBytes slotsIn homeOf samePoint wordAt freeBelow
 starred =
     -- "The three normalisations under Points."
     ofPoint (normalOf (pos 3) (pos 0) 1) is (pos 1 ∷ pos 0 ∷ pos 0 ∷ [])
@@ -169,5 +169,5 @@ saidOf [] = []
 saidOf (e ∷ es) = e .said ∷ saidOf es
 
 pub starred-hold : computedOf starred ≡ saidOf starred
-unfolding starred someIn differentAfter gather each samePair fits sameFace ofDegree countsOf chosenAt sixes threeCentres six0 six1 meshThree once twice reducedLines lines lineOf pointText starText digits digitsBy earlier insertBy sortBy four2 redundant leaveOut neighboursOf adjacentsThere subdivideOf subdivided torn tooDeep renewedTo enteredTo updateOf acceptsOf baseOf firstBad laidOf layAll layHexagon hexagonOf cornerRecord internal listedIn normalOf turns orient patternOf rowsOf three four five six inOrderOf allPlaced placedAt lookUp enterOf replaceOf recordsBelow findOf searchFrom slotAt freeAt recordAt putSlot recordBytes slotsIn homeOf samePoint wordAt freeBelow
+unfolding starred differentAfter gather each samePair fits sameFace ofDegree countsOf chosenAt sixes threeCentres six0 six1 meshThree once twice reducedLines lines lineOf pointText starText digits digitsBy earlier insertBy sortBy four2 redundant leaveOut neighboursOf adjacentsThere subdivideOf subdivided torn tooDeep renewedTo enteredTo updateOf acceptsOf baseOf firstBad laidOf layAll layHexagon hexagonOf cornerRecord internal listedIn normalOf turns orient patternOf rowsOf three four five six inOrderOf allPlaced placedAt lookUp enterOf replaceOf recordsBelow findOf searchFrom slotAt freeAt recordAt putSlot recordBytes slotsIn homeOf samePoint wordAt freeBelow
 starred-hold = refl

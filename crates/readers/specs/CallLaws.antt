@@ -7,16 +7,17 @@ use mathlib.Core.List.{List}
 use Prim.Native.Nat.{ℕ}
 use borrow.Author.Tests.{eq-eqb, ne-eqb}
 use lib.Dec.{eqb}
+use Rattle.laws.specs.Some.{someOf}
 use Rattle.lattice.specs.declared.records.Record.{Record}
 use Rattle.table.specs.Slots.{slotsOf, clearedOf}
 use Rattle.table.specs.Order.{InOrder}
-use Rattle.writers.specs.Files.{someOf, redundant}
+use Rattle.writers.specs.Files.{redundant}
 use Rattle.local.specs.Sheet.{passesAll}
 use Rattle.grown.specs.Grown.{grown-passes}
 use Rattle.readers.specs.Readers.{Read, Outcome, refused, accepted, readFullOf, Restored, With, Stopped, restoreAll, endRestored, readReducedOf}
 use Rattle.readers.specs.Additions.{Adds, adds-as, adds-slots}
 use Rattle.readers.specs.ReadLaws.{Lined}
-use Rattle.readers.specs.RestoreLaws.{RestoredOf, restored-degree, restore-all}
+use Rattle.readers.specs.RestoreLaws.{RestoredOf, restore-all}
 use Rattle.readers.specs.RestoreSteps.{fileRecords, read-records}
 use Rattle.readers.specs.Keeps.{tableKeeps, keeps-redundant}
 use Rattle.readers.specs.BeginLaws.{Filled, full-lines, reduced-lines}
@@ -42,7 +43,7 @@ module _ (f : List ℕ) (n : ℕ) (rs : List Record) (t u : List ℕ) (w : Lined
   adds : Adds (λ r. r .d ≡ 3) t u
   adds =
       adds-as (RestoredOf rs) (λ r. r .d ≡ 3) t u
-      (λ r (v, m, d, j, l, k). ap (λ (x : Record). x .d) k ∙ restored-degree v j)
+      (λ r (v, m, d, j, l, k). ap (λ (x : Record). x .d) k)
       (restore-all rs t u (w .order) e .adds)
 
   pub restored-order : InOrder u

@@ -15,7 +15,8 @@ use Rattle.table.specs.declared.probe.Found.{Found}
 use Rattle.text.specs.Line.{lineAt}
 use Rattle.text.specs.declared.line.Line.{Line}
 use Rattle.text.specs.declared.line.Line.the-variants.{Good, Bad, End}
-use Rattle.readers.specs.Readers.{Lines, Read, Fault, after, above, noSlot, lineRead, linesFrom, restoredOf, Restored, With, Stopped, restoreAt, restore, restoreTo, restoreAll}
+use Rattle.lattice.specs.Subdivision.{bornOf}
+use Rattle.readers.specs.Readers.{Lines, Read, Fault, after, above, noSlot, lineRead, linesFrom, Restored, With, Stopped, restoreAt, restore, restoreTo, restoreAll}
 use Rattle.table.specs.declared.probe.Found.the-variants as found
 
 -- "per line 9, 10, 8"
@@ -70,7 +71,7 @@ of-restore (With t) r h = go (findOf t (r .at))
 of-to : (v : Record) (j : ℕ) (x : Restored) → OfRestoring x → OfRestoring (restoreTo v j x)
 unfolding restoreTo
 of-to v zero x h = h
-of-to v (suc j) x h = of-restore (restoreTo v j x) (restoredOf v j) (of-to v j x h)
+of-to v (suc j) x h = of-restore (restoreTo v j x) (bornOf v j) (of-to v j x h)
 
 of-all : (rs : List Record) (x : Restored) → OfRestoring x → OfRestoring (restoreAll rs x)
 unfolding restoreAll

@@ -12,6 +12,7 @@ use borrow.Author.Tests.{eq-eqb, eqb-true, ne-eqb}
 use lib.Dec.{eqb}
 use Rattle.laws.specs.Each.{not-both, both-left, both-right, same-test, among-at, at-among}
 use Rattle.laws.specs.Rules.{among}
+use Rattle.laws.specs.Some.{someOf, some-at, at-some}
 use Rattle.lattice.specs.Stars.{adjacentAt}
 use Rattle.lattice.specs.declared.points.Point.{Point}
 use Rattle.lattice.specs.declared.records.Record.{Record}
@@ -23,8 +24,8 @@ use Rattle.table.specs.declared.slots.Slot.{Slot}
 use Rattle.table.specs.declared.slots.Slot.the-variants.{Free, Holds}
 use Rattle.table.specs.declared.entries.Looked.{Looked}
 use Rattle.table.specs.declared.entries.Looked.the-variants.{Absent, Held}
-use Rattle.writers.specs.Files.{someOf, redundant}
-use Rattle.writers.specs.RedundantLaws.{some-at, at-some, Redundant, redundant-is, is-redundant}
+use Rattle.writers.specs.Files.{redundant}
+use Rattle.writers.specs.RedundantLaws.{Redundant, redundant-is, is-redundant}
 use Rattle.readers.specs.Additions.{Adds}
 use Rattle.readers.specs.ReadLaws.{Lined}
 

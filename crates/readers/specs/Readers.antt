@@ -1,19 +1,20 @@
 -- Document 01, "Files" and "Numbers given back": what the readers do. What the promises cite: `readFullOf`, `readReducedOf`.
--- `Lines`, `readLines` the lines of a file entered, or refused · `restoredOf`, `Restored`, `restoreAll` what a reduced file leaves out, entered · `Outcome` number, line, table and scratch.
+-- `Lines`, `readLines` the lines of a file entered, or refused · `Restored`, `restoreAll` what a reduced file leaves out, entered · `Outcome` number, line, table and scratch.
 -- Assumes nothing.
 use mathlib.Core.Bool.{Bool, true, false, cond, _&&_}
 use mathlib.Core.List.{List, [], _∷_}
 use mathlib.Core.Option.{Option, none, some}
-use Prim.Native.Nat.{ℕ, zero, suc, _+_, _*_, _%_}
+use Prim.Native.Nat.{ℕ, zero, suc, _+_}
 use lib.Dec.{eqb}
 use lib.ListN.{length}
+use Rattle.laws.specs.Some.{someOf}
 use Rattle.lattice.specs.Records.{validOf}
-use Rattle.lattice.specs.Stars.{adjacentAt}
+use Rattle.lattice.specs.Subdivision.{bornOf}
 use Rattle.table.specs.Slots.{fitsLength, clearedOf}
 use Rattle.table.specs.Search.{findOf}
 use Rattle.table.specs.Entries.{enterOf}
 use Rattle.text.specs.Line.{lineAt}
-use Rattle.writers.specs.Files.{before, someOf, redundant}
+use Rattle.writers.specs.Files.{before, redundant}
 use Rattle.grown.specs.Grown.{isGrown}
 use Rattle.lattice.specs.declared.records.Record.{Record}
 use Rattle.table.specs.declared.probe.Found.{Found}
@@ -59,8 +60,7 @@ abbrev pub readLines : List ℕ → List ℕ → Lines
 readLines f t = linesFrom f (length f) 0 1 none t
 
 -- ---- "The reduced reader then takes the degree 6 records in file order and enters each absent adjacent point, j rising, as d 3, level n, orientation (6+2j+k) mod 4."
-unfoldable pub restoredOf : Record → ℕ → Record
-restoredOf v j = record { at = adjacentAt v j; d = 3; k = (6 + 2 * j + v .k) % 4; n = v .n }
+-- that record is `bornOf v j`, the one that a subdivision enters round its centre
 
 -- the table so far; or the number of the refusal
 pub data Restored : Type 0 where
@@ -80,7 +80,7 @@ restore (With t) r = restoreAt t r (findOf t (r .at))
 -- the first j adjacent points of v
 unfoldable pub restoreTo : Record → ℕ → Restored → Restored
 restoreTo v zero x = x
-restoreTo v (suc j) x = restore (restoreTo v j x) (restoredOf v j)
+restoreTo v (suc j) x = restore (restoreTo v j x) (bornOf v j)
 
 abbrev pub restoreStar : Record → Restored → Restored
 restoreStar v x = cond (eqb (v .d) 6) (restoreTo v 6 x) x

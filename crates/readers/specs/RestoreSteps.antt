@@ -28,7 +28,7 @@ use Rattle.text.specs.Line.{lineAt}
 use Rattle.text.specs.LineLaws.{line-end, line-next}
 use Rattle.text.specs.declared.line.Line.{Line}
 use Rattle.text.specs.declared.line.Line.the-variants.{Good, Bad, End}
-use Rattle.readers.specs.Readers.{Lines, Read, Fault, after, above, noSlot, lineRead, linesFrom, readLines, restoredOf, Restored, With, Stopped, restoreAt, restore, restoreTo, restoreStar, restoreAll}
+use Rattle.readers.specs.Readers.{Lines, Read, Fault, after, above, noSlot, lineRead, linesFrom, readLines, Restored, With, Stopped, restoreAt, restore, restoreTo, restoreStar, restoreAll}
 use Rattle.readers.specs.RestoreLaws.{stopped-stays}
 
 -- a number and a table, as what restoring has come to
@@ -67,10 +67,6 @@ module _ (t : List ℕ) (r : Record) where
 pub six-inner : (v : Record) → validOf v ≡ true → v .d ≡ 6 → Inner v
 six-inner v ok e = inner v (of-true ok) (λ z. let q : _≡_ {A = ℕ} 6 0 = sym e ∙ z in omega arith)
 
-pub born-restored : (v : Record) (j : ℕ) → bornOf v j ≡ restoredOf v j
-unfolding restoredOf
-born-restored v j = refl
-
 -- ---- one star
 
 module _ (v : Record) (x : Restored) where
@@ -78,9 +74,9 @@ module _ (v : Record) (x : Restored) where
   unfolding restoreTo
   to-none = refl
 
-  pub to-more : (j : ℕ) (y : Restored) → restoreTo v j x ≡ y → restoreTo v (j + 1) x ≡ restore y (restoredOf v j)
+  pub to-more : (j : ℕ) (y : Restored) → restoreTo v j x ≡ y → restoreTo v (j + 1) x ≡ restore y (bornOf v j)
   unfolding restoreTo
-  to-more j y e = let s : j + 1 ≡ suc j = omega arith in ap (λ (i : ℕ). restoreTo v i x) s ∙ ap (λ (z : Restored). restore z (restoredOf v j)) e
+  to-more j y e = let s : j + 1 ≡ suc j = omega arith in ap (λ (i : ℕ). restoreTo v i x) s ∙ ap (λ (z : Restored). restore z (bornOf v j)) e
 
   pub to-stopped : (n j number : ℕ) → j ≤ n → restoreTo v j x ≡ Stopped number → restoreTo v n x ≡ Stopped number
   unfolding restoreTo
@@ -89,7 +85,7 @@ module _ (v : Record) (x : Restored) where
     where
       go : Dec (j ≡ suc n) → (j ≤ n → restoreTo v n x ≡ Stopped number) → restoreTo v (suc n) x ≡ Stopped number
       go (yes s) ih = ap (λ (i : ℕ). restoreTo v i x) (sym s) ∙ e
-      go (no s) ih = ap (λ (y : Restored). restore y (restoredOf v n)) (ih (omega arith))
+      go (no s) ih = ap (λ (y : Restored). restore y (bornOf v n)) (ih (omega arith))
 
   pub star-six : v .d ≡ 6 → restoreTo v 6 x ≡ restoreStar v x
   star-six e = ap (λ (b : Bool). cond b (restoreTo v 6 x) x) (sym (eq-eqb (v .d) 6 e))

@@ -5,7 +5,7 @@ ghost use Rattle.table.specs.Slots.{Table};
 ghost use Rattle.reader.specs.Met.{metAt};
 ghost use Rattle.writers.specs.Files.{earlier};
 ghost use Rattle.readers.specs.Readers.{above, readLines};
-ghost use Rattle.readers.specs.LineSteps.{lineBefore, enteredStep, stepAt, tableAfter, Ended};
+ghost use Rattle.readers.specs.LineSteps.{lineBefore, enteredStep, stepAt, tableAfter, EndsAs};
 use lattice::Depth;
 use lattice::Level;
 use lattice::Point;
@@ -100,7 +100,7 @@ fn nothing() -> Record {
 // Enters the records of a file, in its order, up to the first fault.
 pub fn read_lines(table: &mut [u8], n: usize, file: &[u8]) -> ReadBack
     requires { ⌜ Table (now table) n ⌝ }
-    ensures { λ r. ⌜ Ended (readLines (now (file .entry)) (now (table .entry))) (r .number) (r .line) (now (table .exit)) ⌝ }
+    ensures { λ r. ⌜ EndsAs (readLines (now (file .entry)) (now (table .entry))) (r .number) (r .line) (now (table .exit)) ⌝ }
 {
     let mut at = 0;
     let mut line: u64 = 1;

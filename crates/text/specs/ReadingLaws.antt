@@ -1,6 +1,6 @@
 -- What reading a number obeys: a written number is read back, and only a written number is read.
 -- `Stands` bytes stand at a position of a file · `number-write`, `number-read`, `signed-write`, `signed-read` the two laws, without a sign and with one ·
--- `Reading` where a reader of digits is, with `reading-..` what each byte does to it.
+-- `Scanned` where a reader of digits is, with `scan-..` what each byte does to it.
 -- Assumes nothing.
 use mathlib.Core.Path.{_≡_, refl, sym, _∙_, subst, ap}
 use mathlib.Core.Bool.{Bool, true, false, cond, _&&_}
@@ -198,7 +198,7 @@ signed-write t p most stop (negsuc n) q h small s =
 -- ---- a reader of digits, byte by byte
 
 -- from `at` on, the reader has come to i with the number v
-pub record Reading (t : List ℕ) (at most i v : ℕ) : Type 0 where
+pub record Scanned (t : List ℕ) (at most i v : ℕ) : Type 0 where
   pub from : at ≤ i
   pub small : v ≤ most
   pub long : at + length (run (drop at t)) ≡ i + length (run (drop i t))
@@ -235,22 +235,22 @@ first-plain x y at i h = go (decLt at i)
         let e : i - at ≡ 0 = omega arith in
         ap (plainly x) e ∙ nothing (eqb x 48) ∙ sym (nothing (eqb y 48)) ∙ sym (ap (plainly y) e)
 
-pub reading-begins : (t : List ℕ) (at most : ℕ) → Reading t at most at 0
-reading-begins t at most = record { from = omega arith; small = omega arith; long = refl; counts = refl; first = λ h. absurd (omega arith) }
+pub scan-begins : (t : List ℕ) (at most : ℕ) → Scanned t at most at 0
+scan-begins t at most = record { from = omega arith; small = omega arith; long = refl; counts = refl; first = λ h. absurd (omega arith) }
 
-module _ (t : List ℕ) (at most i v : ℕ) (r : Reading t at most i v) where
-  pub reading-next : i < length t → isDigit (getD t i 0) ≡ true → value 0 (run (drop at t)) ≡ value (v * 10 + (getD t i 0 - 48)) (run (drop (i + 1) t))
+module _ (t : List ℕ) (at most i v : ℕ) (r : Scanned t at most i v) where
+  pub scan-next : i < length t → isDigit (getD t i 0) ≡ true → value 0 (run (drop at t)) ≡ value (v * 10 + (getD t i 0 - 48)) (run (drop (i + 1) t))
   unfolding value
-  reading-next h e = r .counts ∙ ap (value v) (run-step t i h e)
+  scan-next h e = r .counts ∙ ap (value v) (run-step t i h e)
 
   -- a digit that keeps the number small
-  pub reading-goes : i < length t → isDigit (getD t i 0) ≡ true → v * 10 + (getD t i 0 - 48) ≤ most → Reading t at most (i + 1) (v * 10 + (getD t i 0 - 48))
-  reading-goes h e s =
+  pub scan-goes : i < length t → isDigit (getD t i 0) ≡ true → v * 10 + (getD t i 0 - 48) ≤ most → Scanned t at most (i + 1) (v * 10 + (getD t i 0 - 48))
+  scan-goes h e s =
       record {
         from = omega (arith, r .from);
         small = s;
         long = r .long ∙ omega (arith, ap length (run-step t i h e));
-        counts = reading-next h e;
+        counts = scan-next h e;
         first = λ k. go (decLt at i);
       }
     where
@@ -259,26 +259,26 @@ module _ (t : List ℕ) (at most i v : ℕ) (r : Reading t at most i v) where
       go (no l) = let same : i ≡ at = omega (arith, r .from) in subst (λ (j : ℕ). getD (run (drop j t)) 0 0 ≡ getD t j 0) same (ap (λ (s : List ℕ). getD s 0 0) (run-step t i h e))
 
   -- a digit that takes it above what is wanted: so is the whole
-  pub reading-over : (stop : ℕ) → i < length t → isDigit (getD t i 0) ≡ true → most < v * 10 + (getD t i 0 - 48) → NoNumber ≡ numberAt t at most stop
+  pub scan-over : (stop : ℕ) → i < length t → isDigit (getD t i 0) ≡ true → most < v * 10 + (getD t i 0 - 48) → NoNumber ≡ numberAt t at most stop
   unfolding numberAt
-  reading-over stop h e s =
-      let over : most < value 0 (run (drop at t)) = omega (arith, reading-next h e, value-grows (v * 10 + (getD t i 0 - 48)) (run (drop (i + 1) t))) in
+  scan-over stop h e s =
+      let over : most < value 0 (run (drop at t)) = omega (arith, scan-next h e, value-grows (v * 10 + (getD t i 0 - 48)) (run (drop (i + 1) t))) in
       rw (lt-leb (value 0 (run (drop at t))) most over)
 
   -- the file's end: no byte ends the number
-  pub reading-lacks : (stop : ℕ) → length t ≤ i → NoNumber ≡ numberAt t at most stop
+  pub scan-lacks : (stop : ℕ) → length t ≤ i → NoNumber ≡ numberAt t at most stop
   unfolding numberAt
-  reading-lacks stop h =
+  scan-lacks stop h =
       let s = run (drop at t) in
       let long : at + length s ≡ i = r .long ∙ ap (λ (l : List ℕ). i + length l) (run-past t i h) ∙ omega arith in
       let off : begins stop (drop (at + length s) t) ≡ false = ap (λ (k : ℕ). begins stop (drop k t)) long ∙ ap (begins stop) (drop-of-length-le t {i = i} h) in
       unended (leb (value 0 s) most) (plain s) (Natural (value 0 s) (at + length s + 1)) ∙ (λ j. cond (leb (value 0 s) most && (sym off j && plain s)) (Natural (value 0 s) (at + length s + 1)) NoNumber)
 
   -- a byte that is no digit: it is to be the one that ends the number
-  pub reading-ends : (stop : ℕ) → i < length t → isDigit (getD t i 0) ≡ false
+  pub scan-ends : (stop : ℕ) → i < length t → isDigit (getD t i 0) ≡ false
       → cond (eqb (getD t i 0) stop && plainly (getD t at 0) (i - at)) (Natural v (i + 1)) NoNumber ≡ numberAt t at most stop
   unfolding numberAt value
-  reading-ends stop h e =
+  scan-ends stop h e =
       let s = run (drop at t) in
       let none = run-stop t i h e in
       let long : at + length s ≡ i = r .long ∙ ap (λ (l : List ℕ). i + length l) none ∙ omega arith in

@@ -11,6 +11,7 @@ use native.Mathlib.Omega.{arith}
 use borrow.Author.Tests.{ltb-true, ltb-false, lt-ltb}
 use lib.Dec.{eqb}
 use Rattle.laws.specs.Each.{same-test, not-both}
+use Rattle.laws.specs.Some.{someOf, some-at, at-some}
 use Rattle.lattice.specs.declared.points.Point.{Point}
 use Rattle.lattice.specs.declared.records.Record.{Record}
 use Rattle.table.specs.Order.{InOrder}
@@ -18,8 +19,7 @@ use Rattle.table.specs.Entries.{lookUp, recordsOf}
 use Rattle.table.specs.MapLaws.{Apart, records-looked, looked-records, records-apart, lookup-valid}
 use Rattle.text.specs.Line.{lines}
 use Rattle.writers.specs.SortLaws.{mem-sort, sort-mem, Rising, Decides, sort-rising, rising-one}
-use Rattle.writers.specs.Files.{before, sorted, fullFile, sixNames, someOf, redundant, leaveOut, reducedFile}
-use Rattle.writers.specs.RedundantLaws.{some-at, at-some}
+use Rattle.writers.specs.Files.{before, sorted, fullFile, sixNames, redundant, leaveOut, reducedFile}
 use Rattle.writers.specs.LineOrder.{orderOf, Close, order-earlier, order-one}
 use Rattle.writers.specs.KeptLaws.{close}
 

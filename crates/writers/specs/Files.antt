@@ -2,13 +2,14 @@
 -- `before` the order of lines, `sorted` records in it · `fullFile` · `redundant` the records that the reduced file leaves out, `reducedFile` · `Outcome`, `writeOf` a file
 -- written, or refused.
 -- Assumes nothing.
-use mathlib.Core.Bool.{Bool, false, cond, _&&_, _||_}
+use mathlib.Core.Bool.{Bool, cond, _&&_, _||_}
 use mathlib.Core.List.{List, [], _∷_, _++_}
 use Prim.Native.Nat.{ℕ}
 use lib.Dec.{eqb, ltb}
 use lib.ListN.{length, drop}
 use lib.Signed.{ltZ}
 use Rattle.laws.specs.Rules.{eqZ, among}
+use Rattle.laws.specs.Some.{someOf}
 use Rattle.writers.specs.Sorting.{sortBy}
 use Rattle.lattice.specs.Stars.{adjacentAt}
 use Rattle.lattice.specs.declared.points.Point.{Point}
@@ -36,11 +37,6 @@ fullFile t = lines (sorted (recordsOf t))
 -- "adjacency read from the degree 6 star": p is one of the six adjacent points of q, and q has degree 6
 abbrev pub sixNames : Point → Record → Bool
 sixNames p q = eqb (q .d) 6 && among 6 (λ j. samePoint (adjacentAt q j) p)
-
--- the test passes at some record of a list
-abbrev pub someOf : (Record → Bool) → List Record → Bool
-someOf f [] = false
-someOf f (r ∷ rs) = f r || someOf f rs
 
 -- "each degree 3 record that is adjacent to a degree 6 record of the table"
 unfoldable pub redundant : List ℕ → Record → Bool

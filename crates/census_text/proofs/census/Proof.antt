@@ -50,8 +50,8 @@ returns c =
       refused-most (t r) (u r) (f r) (number r) (line r) (t′ r) (u′ r) (r .read-input .ensures) (i .if1 .taken) (p .put-refused .ensures .1),
     )
 
-census-of-requires : tie.Need-census-of-requires
-census-of-requires c κs =
+counts-of-requires : tie.Need-counts-of-requires
+counts-of-requires c κs =
     let n = c .before .before in
     let i = n .before .before in
     let r = i .before .before .before .before .before in
@@ -63,7 +63,7 @@ returns-2 c =
     let k = p .before in
     let i = k .before .before .before .before .before in
     let r = i .before .before .before .before .before in
-    let e = k .census-of .ensures in (
+    let e = k .counts-of .ensures in (
       census-counted (t r) (u r) (f r) (number r) (line r) (t′ r) (u′ r) (r .read-input .ensures) (i .if1 .left) (s r .args .out .now) _
           (p .put-counts .ensures .0 ∙ ap (λ (x : Counts). putText 0 (countsText x) (s r .args .out .now)) e),
       counted-most (t r) (u r) (f r) (number r) (line r) (t′ r) (u′ r) (r .read-input .ensures) (i .if1 .left) (subst (λ (x : Counts). length (countsText x) ≤ 128) e (p .put-counts .ensures .1)),
@@ -80,7 +80,7 @@ census-spec =
     (λ c. search needs)
     returns
     (λ c κs. search needs)
-    census-of-requires
+    counts-of-requires
     (λ c κs. search needs)
     (λ c. search needs)
     (λ c. search needs)

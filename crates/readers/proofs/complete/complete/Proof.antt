@@ -5,9 +5,10 @@ use mathlib.Core.Bool.{Bool, true, false, cond}
 use mathlib.Core.List.{List}
 use Prim.Native.Nat.{ℕ}
 use borrow.Author.Tests.{not-true, not-false}
+use Rattle.laws.specs.Some.{someOf}
 use Rattle.lattice.specs.declared.records.Record.{Record}
 use Rattle.table.specs.Slots.{Table}
-use Rattle.writers.specs.Files.{someOf, redundant}
+use Rattle.writers.specs.Files.{redundant}
 use Rattle.readers.specs.Readers.{With, restoreAll, refused, accepted, endRestored}
 use Rattle.readers.specs.RestoreSteps.{by-none, by-stopped, fileRecords}
 use Rattle.readers.specs.CallLaws.{restored-order, restored-slots, restored-kept, end-stopped, end-judged}

@@ -1,8 +1,8 @@
--- `counts::census_of` meets its promise: the numbers, each by its own function. Assumes nothing.
+-- `counts::counts_of` meets its promise: the numbers, each by its own function. Assumes nothing.
 use borrow.Author.Needs.{needs}
 use Rattle.counts.specs.Counts.{numbers, countsOf}
-use Rattle.counts.proofs.census_of.Statement.{statement}
-use Rattle.counts.proofs.census_of.Tie as tie
+use Rattle.counts.proofs.counts_of.Statement.{statement}
+use Rattle.counts.proofs.counts_of.Tie as tie
 
 returns : tie.Need-returns
 unfolding countsOf
@@ -17,8 +17,8 @@ returns c =
     λ i.
     numbers (v .count-vertices .ensures i) (e .count-edges .ensures i) (f .count-faces .ensures i) (d0 .count-degree .ensures i) (d3 .count-degree2 .ensures i) (d4 .count-degree3 .ensures i) (d5 .count-degree4 .ensures i) (c .count-degree5 .ensures i)
 
-pub census-of-spec : {M : Type 1} → statement M
-census-of-spec =
+pub counts-of-spec : {M : Type 1} → statement M
+counts-of-spec =
     tie.close
     (tie.spec
     (λ c κs. search needs)
