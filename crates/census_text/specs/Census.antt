@@ -7,6 +7,7 @@ use mathlib.Core.List.{List, [], _∷_, _++_, map}
 use Prim.Native.Nat.{ℕ}
 use lib.Dec.{eqb, ltb}
 use lib.ListN.{length, drop}
+use Rattle.laws.specs.Choices.{unless}
 use Rattle.text.specs.Decimal.{tab, feed, digits, ended}
 use Rattle.readers.specs.Readers.{Outcome, outcome, refused, lengthsFit, readFullOf}
 use Rattle.counts.specs.Counts.{countsOf}
@@ -64,7 +65,7 @@ mostInput = 65536
 
 -- "It reads a full file"; "Longer input gives `refused`, 8, 0."
 unfoldable pub readInputOf : List ℕ → List ℕ → List ℕ → Outcome
-readInputOf t s input = cond (lengthsFit t s) (cond (ltb mostInput (length input)) (refused 8 0 t s) (readFullOf t s input)) (outcome 1 0 t s)
+readInputOf t s input = unless (lengthsFit t s) (outcome 1 0 t s) (cond (ltb mostInput (length input)) (refused 8 0 t s) (readFullOf t s input))
 
 -- ---- the call
 

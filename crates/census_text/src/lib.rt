@@ -14,6 +14,9 @@ mod texts;
 use crate::texts::put_counts;
 use crate::texts::put_refused;
 use counts::counts_of;
+use lattice::DONE;
+use lattice::NO_ROOM;
+use lattice::NOT_IN_ORDER;
 use readers::ReadBack;
 use readers::prepare;
 use readers::read_full;
@@ -23,17 +26,12 @@ pub use texts::Census;
 // The longest input that is read.
 const MOST_INPUT: usize = 65536;
 
-// Document 01's numbers for lengths that don't fit, and for an input that is too long.
-const UNFIT: u8 = 1;
-
-const TOO_LONG: u8 = 8;
-
 // Refuses an input that is too long.
 fn refuse_long(table: &mut [u8], scratch: &mut [u8]) -> ReadBack
     ensures { λ r. ⌜ outcome (r .number) (r .line) (now (table .exit)) (now (scratch .exit)) ≡ longOf (now (table .entry)) (now (scratch .entry)) ⌝ }
 {
     let n = prepare(table, scratch);
-    let number = if n == 0 { UNFIT } else { TOO_LONG };
+    let number = if n == 0 { NOT_IN_ORDER } else { NO_ROOM };
     ReadBack { number, line: 0 }
 }
 
@@ -55,7 +53,7 @@ pub fn census(input: &[u8], table: &mut [u8], scratch: &mut [u8], out: &mut [u8]
 {
     let read = read_input(input, table, scratch);
     let number = read.number;
-    if number != 0 {
+    if number != DONE {
         return put_refused(out, number, read.line);
     }
     let n = slots_of(table);

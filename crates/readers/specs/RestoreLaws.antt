@@ -86,7 +86,7 @@ restore-to P v (suc j) h t w o e = go (restoreTo v j (With t)) refl e (λ u k. r
         record { adds = adds-then P t u w (a .adds) b; has = λ i l. at b i l (ℕ-discrete i j) }
       where
         at : Adds P u w → (i : ℕ) → i < suc j → Dec (i ≡ j) → (q : Record) × (lookUp w (adjacentAt v i) ≡ Held q)
-        at b i l (yes k) = let (q, y) = entered-there u (a .adds .order) (bornOf v j) w x in (q, ap (λ (n : ℕ). lookUp w (adjacentAt v n)) k ∙ ap (lookUp w) (sym (restored-at v j)) ∙ y)
+        at b i l (yes k) = let (q, y) = entered-there u (a .adds .order) (bornOf v j) w x in (q, ap (λ (n : ℕ). lookUp w (adjacentAt v n)) k ∙ y)
         at b i l (no k) = let (q, y) = a .has i (omega arith) in (q, b .keeps (adjacentAt v i) q y)
 
     go : (x : Restored) → restoreTo v j (With t) ≡ x → restore x (bornOf v j) ≡ With w → ((u : List ℕ) → restoreTo v j (With t) ≡ With u → Around P v j t u) → Around P v (suc j) t w

@@ -15,6 +15,8 @@ use crate::begin::begin;
 use crate::begin::refuse;
 use crate::complete::complete;
 pub use begin::prepare;
+use lattice::DONE;
+use lattice::NOT_GROWN;
 pub use lines::ReadBack;
 use local::all_pass;
 use table::slots_of;
@@ -26,14 +28,14 @@ pub fn read_full(table: &mut [u8], scratch: &mut [u8], file: &[u8]) -> ReadBack
 {
     let read = begin(table, scratch, file);
     let fault = read.number;
-    if fault != 0 {
+    if fault != DONE {
         return read;
     }
     let n = slots_of(table);
     if all_pass(table, n) {
         return read;
     }
-    refuse(table, 11, 0)
+    refuse(table, NOT_GROWN, 0)
 }
 
 // Reads a reduced file in the same way: what it leaves out is restored, and a redundant record that it kept is refused with 12.
@@ -42,12 +44,12 @@ pub fn read_reduced(table: &mut [u8], scratch: &mut [u8], file: &[u8]) -> ReadBa
 {
     let read = begin(table, scratch, file);
     let fault = read.number;
-    if fault != 0 {
+    if fault != DONE {
         return read;
     }
     let n = slots_of(table);
     let number = complete(table, n, file);
-    if number != 0 {
+    if number != DONE {
         return refuse(table, number, 0);
     }
     read

@@ -6,8 +6,12 @@ ghost use Rattle.reader.specs.Met.{metAt};
 ghost use Rattle.writers.specs.Files.{earlier};
 ghost use Rattle.readers.specs.Readers.{above, readLines};
 ghost use Rattle.readers.specs.LineSteps.{lineBefore, enteredStep, stepAt, tableAfter, EndsAs};
+use lattice::DONE;
 use lattice::Depth;
 use lattice::Level;
+use lattice::NO_ROOM;
+use lattice::NOT_ABOVE;
+use lattice::NOT_VALID;
 use lattice::Point;
 use lattice::Record;
 use reader::Met;
@@ -61,7 +65,7 @@ fn enter_line(table: &mut [u8], n: usize, line: u64, r: Record, next: usize, aft
     match f {
         Found::At(_) => Step::Entered(r, next, after),
         Found::Free(_) => Step::Entered(r, next, after),
-        Found::Full => Step::Faulty(8, line),
+        Found::Full => Step::Faulty(NO_ROOM, line),
     }
 }
 
@@ -73,10 +77,10 @@ fn read_line(table: &mut [u8], n: usize, file: &[u8], at: usize, line: u64, last
 {
     match line_at(file, at, line) {
         Met::Over => Step::Over,
-        Met::Fault(i) => Step::Faulty(9, i),
+        Met::Fault(i) => Step::Faulty(NOT_VALID, i),
         Met::Entry(r, next, after) => {
             if !rises(line, last, r) {
-                return Step::Faulty(10, line);
+                return Step::Faulty(NOT_ABOVE, line);
             }
             enter_line(table, n, line, r, next, after)
         }
@@ -108,7 +112,7 @@ pub fn read_lines(table: &mut [u8], n: usize, file: &[u8]) -> ReadBack
     loop {
         let s = read_line(table, n, file, at, line, last);
         match s {
-            Step::Over => return answer(0, 0),
+            Step::Over => return answer(DONE, 0),
             Step::Faulty(number, i) => return answer(number, i),
             Step::Entered(r, next, after) => {
                 last = r;

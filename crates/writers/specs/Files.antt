@@ -8,6 +8,7 @@ use Prim.Native.Nat.{ℕ}
 use lib.Dec.{eqb, ltb}
 use lib.ListN.{length, drop}
 use lib.Signed.{ltZ}
+use Rattle.laws.specs.Choices.{unless}
 use Rattle.laws.specs.Rules.{eqZ, among}
 use Rattle.laws.specs.Some.{someOf}
 use Rattle.writers.specs.Sorting.{sortBy}
@@ -69,7 +70,7 @@ putOf file out = cond (ltb (length out) (length file)) (outcome 13 0 out) (outco
 -- "Writers 1, 13", "0 if refused", "Refused .. writers change no lent byte."
 unfoldable pub writeOf : List ℕ → List ℕ → List ℕ → Outcome
 unfolding putOf
-writeOf file t out = cond (inOrderOf t) (putOf file out) (outcome 1 0 out)
+writeOf file t out = unless (inOrderOf t) (outcome 1 0 out) (putOf file out)
 
 abbrev pub writeFullOf : List ℕ → List ℕ → Outcome
 writeFullOf t out = writeOf (fullFile t) t out
