@@ -1,4 +1,4 @@
--- The program's text: `program-text` is what the call leaves where it is lent the program's tables and an output in which every text has room ·
+-- The program's text: `text-put` a text written where there is room · `program-text` is what the call leaves where it is lent the program's tables and an output in which every text has room ·
 -- `program-length` the output keeps its length.
 -- Assumes nothing.
 use mathlib.Core.Path.{_≡_, sym, ap, _∙_}
@@ -12,9 +12,9 @@ use Rattle.readers.specs.Readers.{Outcome}
 use Rattle.census_text.specs.Census.{Put, put, putText, Result, result, resultFrom, readInputOf, textOf, censusOf, freeTable, programText}
 
 -- a text written where there is room for it
-written : (number : ℕ) (text out : List ℕ) → length text ≤ length out → putText number text out ≡ put number (length text) (text ++ drop (length text) out)
+pub text-put : (number : ℕ) (text out : List ℕ) → length text ≤ length out → putText number text out ≡ put number (length text) (text ++ drop (length text) out)
 unfolding putText
-written number text out h =
+text-put number text out h =
     ap (λ (b : Bool). cond b (put 13 0 out) (put number (length text) (text ++ drop (length text) out))) (le-ltb (length out) (length text) h)
 
 -- the text written leaves the output's length
@@ -32,6 +32,6 @@ module _ (input out : List ℕ) (number w : ℕ) (out′ t′ s′ : List ℕ) (
   program-text h =
       let r : Outcome = readInputOf freeTable freeTable input in
       let p : put number w out′ ≡ put (r .number) (length (textOf r)) (textOf r ++ drop (length (textOf r)) out) =
-          ap (λ (x : Result). x .put) e ∙ written (r .number) (textOf r) out h in
+          ap (λ (x : Result). x .put) e ∙ text-put (r .number) (textOf r) out h in
       let l : w ≡ length (textOf r) = ap (λ (x : Put). x .written) p in
       (l, omega arith, ap (λ (x : Put). x .out) p ∙ ap (λ (n : ℕ). textOf r ++ drop n out) (sym l))
