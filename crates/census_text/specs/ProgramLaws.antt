@@ -1,5 +1,5 @@
--- The program's text: `text-put` a text written where there is room · `program-text` is what the call leaves where it is lent the program's tables and an output in which every text has room ·
--- `program-length` the output keeps its length.
+-- The program's text: `text-put` a text written where there is room · `program-text` it is what the call leaves, lent the program's tables and an
+-- output in which every text has room · `program-length` the output keeps its length.
 -- Assumes nothing.
 use mathlib.Core.Path.{_≡_, sym, ap, _∙_}
 use mathlib.Core.Bool.{Bool, cond}
@@ -32,6 +32,6 @@ module _ (input out : List ℕ) (number w : ℕ) (out′ t′ s′ : List ℕ) (
   program-text h =
       let r : Outcome = readInputOf freeTable freeTable input in
       let p : put number w out′ ≡ put (r .number) (length (textOf r)) (textOf r ++ drop (length (textOf r)) out) =
-          ap (λ (x : Result). x .put) e ∙ text-put (r .number) (textOf r) out h in
+      ap (λ (x : Result). x .put) e ∙ text-put (r .number) (textOf r) out h in
       let l : w ≡ length (textOf r) = ap (λ (x : Put). x .written) p in
       (l, omega arith, ap (λ (x : Put). x .out) p ∙ ap (λ (n : ℕ). textOf r ++ drop n out) (sym l))

@@ -29,7 +29,8 @@ use Rattle.text.specs.declared.line.Line.{Line}
 use Rattle.text.specs.declared.line.Line.the-variants.{Good, Bad, End}
 use Rattle.grown.specs.Grown.{isGrown}
 use Rattle.writers.specs.Files.{someOf, redundant}
-use Rattle.readers.specs.Readers.{Lines, Read, Fault, after, noSlot, lineRead, linesFrom, readLines, Restored, With, Stopped, restoredOf, restoreAt, restore, restoreTo, restoreAll}
+use Rattle.readers.specs.Readers.{Lines, Read, Fault, after, noSlot, lineRead, linesFrom, readLines}
+use Rattle.readers.specs.Readers.{Restored, With, Stopped, restoredOf, restoreAt, restore, restoreTo, restoreAll}
 use Rattle.readers.specs.Readers.{lengthsFit, endFull, endReduced, endRestored, readFullOf, readReducedOf}
 use Rattle.readers.specs.Readers as read
 use Rattle.demands.specs.Numbers.{Rule, _⇒_, firstOf}
@@ -257,7 +258,8 @@ each-append : (xs ys : List Record) (x : Restored) → restoreEach (xs ++ ys) x 
 each-append [] ys x = refl
 each-append (r ∷ xs) ys x = each-append xs ys (restore x r)
 
-stops : (t : List ℕ) (r : Record) (n : ℕ) → n ≢ 0 → (o : Found) → isAbsent o ≡ true → firstOf (not (validOf r) ⇒ 11 ∷ noSlot o ⇒ 8 ∷ []) ≡ n → restoreAt t r o ≡ Stopped n
+stops : (t : List ℕ) (r : Record) (n : ℕ) → n ≢ 0 → (o : Found) → isAbsent o ≡ true
+    → firstOf (not (validOf r) ⇒ 11 ∷ noSlot o ⇒ 8 ∷ []) ≡ n → restoreAt t r o ≡ Stopped n
 stops t r n z (found.At i) a e = absurd (not-both a refl)
 stops t r n z (found.Free i) a e = go (validOf r) e
   where

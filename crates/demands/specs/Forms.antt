@@ -66,8 +66,8 @@ triple-spelling t ps ps′ i h =
     (subdivideOf t (aAt ps′ i) (bAt ps′ i) (natAbs (mAt ps′ i)))
     (divided.outcome 3 t) (h .byte)
     (λ e.
-        let one = one-form (aAt ps i) (bAt ps i) (natAbs (mAt ps i)) (aAt ps′ i) (bAt ps′ i) (natAbs (mAt ps′ i)) (h .point e) in
-        subdivide-spelling (aAt ps i) (bAt ps i) (natAbs (mAt ps i)) (aAt ps′ i) (bAt ps′ i) (natAbs (mAt ps′ i)) t one)
+    let one = one-form (aAt ps i) (bAt ps i) (natAbs (mAt ps i)) (aAt ps′ i) (bAt ps′ i) (natAbs (mAt ps′ i)) (h .point e) in
+    subdivide-spelling (aAt ps i) (bAt ps i) (natAbs (mAt ps i)) (aAt ps′ i) (bAt ps′ i) (natAbs (mAt ps′ i)) t one)
 
 -- one turn: the answer of triple i, and what follows it
 abbrev turn : List ℕ → ℕ → (List ℕ → Many) → divided.Outcome → Many
@@ -107,7 +107,7 @@ valid-normal : (r : Record) → validOf r ≡ true → T (isNormal (r .at))
 valid-normal r v =
     let m = r .at .m .0 in
     let e : isNormal (r .at) ≡ true =
-        both-left (isNormal (r .at)) (leb m 6 && (within (r .at .a) m && (within (r .at .b) m && suitsOf (r .d) (r .k) (r .n .0)))) v in
+    both-left (isNormal (r .at)) (leb m 6 && (within (r .at .a) m && (within (r .at .b) m && suitsOf (r .d) (r .k) (r .n .0)))) v in
     subst T (sym e) tt
 
 pub one-point : (r q : Record) → validOf r ≡ true → validOf q ≡ true → OneSpot r q → r .at ≡ q .at

@@ -1,5 +1,6 @@
 -- Demand 2: "One point has one written form", however a request spells it.
--- `one-form`, `form-one` two spellings normalise alike exactly where they are one point · `form-normal` the form is normalised · `subdivide-spelling`, `neighbours-spelling`, `faces-spelling` so no call tells them apart.
+-- `one-form`, `form-one` two spellings normalise alike exactly where they are one point · `form-normal` the form is normalised ·
+-- `subdivide-spelling`, `neighbours-spelling`, `faces-spelling` so no call tells them apart. Requests in a row, tables, files: Forms.
 -- Assumes nothing.
 use mathlib.Core.Path.{_≡_, ap}
 use mathlib.Core.Bool.{cond}

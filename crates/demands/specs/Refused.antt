@@ -1,4 +1,5 @@
--- Demand 1, the bytes: "A refused request leaves the mesh untouched; a refused base or read leaves an empty table, or an untouched one where its length was the fault."
+-- Demand 1, the bytes: "A refused request leaves the mesh untouched; a refused base or read leaves an empty table, or an untouched one where its
+-- length was the fault."
 -- `subdivide-untouched`, `all-untouched`, `write-untouched` · `base-untouched`, `base-cleared` · `Ending`, `full-ending`, `reduced-ending` how a reader
 -- ends, `read-untouched`, `read-cleared`, `scratch-cleared` · `census-put`, `census-read`, `census-long`, `program-is` the census.
 -- Queries and the star call are lent nothing to write: `star-refused`, `neighbours-refused`, `faces-refused` "Refused, count 0 and all zeros."
@@ -34,7 +35,8 @@ use Rattle.mesh.specs.CaseLaws as cases
 use Rattle.writers.specs.Files.{writeOf, putOf, redundant}
 use Rattle.writers.specs.Files as written
 use Rattle.grown.specs.Grown.{isGrown}
-use Rattle.readers.specs.Readers.{Lines, Read, Fault, readLines, Restored, With, Stopped, restoreAll, lengthsFit, endFull, endReduced, endRestored, readFullOf, readReducedOf}
+use Rattle.readers.specs.Readers.{Lines, Read, Fault, readLines, Restored, With, Stopped, restoreAll}
+use Rattle.readers.specs.Readers.{lengthsFit, endFull, endReduced, endRestored, readFullOf, readReducedOf}
 use Rattle.readers.specs.FaultLaws.{fault-number, stop-number}
 use Rattle.readers.specs.Readers as read
 use Rattle.census_text.specs.Census.{putText, textOf, readInputOf, mostInput, freeTable, programText}
@@ -62,7 +64,8 @@ pub star-refused : (r : Record) → starOf r .number ≢ 0 → starOf r ≡ zero
 unfolding starOf
 star-refused r = go (validOf r) (eqb (r .d) 0)
   where
-    go : (v z : Bool) → cond v (cond z (zeros 14) (given r)) (zeros 9) .number ≢ 0 → cond v (cond z (zeros 14) (given r)) (zeros 9) ≡ zeros (cond v (cond z (zeros 14) (given r)) (zeros 9) .number)
+    go : (v z : Bool) → cond v (cond z (zeros 14) (given r)) (zeros 9) .number ≢ 0
+        → cond v (cond z (zeros 14) (given r)) (zeros 9) ≡ zeros (cond v (cond z (zeros 14) (given r)) (zeros 9) .number)
     go true true n = refl
     go true false n = absurd (n refl)
     go false z n = refl
@@ -90,7 +93,8 @@ neighbours-refused t a b m = query-refused t (lookUp t (normalOf a b m)) (adjace
 
 pub faces-refused : (t : List ℕ) (a b : ℤ) (m : ℕ) → facesOf t a b m .number ≢ 0 → facesOf t a b m ≡ zeros (facesOf t a b m .number)
 unfolding facesOf
-faces-refused t a b m = query-refused t (lookUp t (normalOf a b m)) (λ v. adjacentsThere t v && cornersThere t v) (facesGiven t) (λ v. refl) (facesOf t a b m) refl
+faces-refused t a b m =
+    query-refused t (lookUp t (normalOf a b m)) (λ v. adjacentsThere t v && cornersThere t v) (facesGiven t) (λ v. refl) (facesOf t a b m) refl
 
 -- ---- writers
 module _ (file t out : List ℕ) where
@@ -220,7 +224,8 @@ module _ (t s f : List ℕ) (o : read.Outcome) where
 -- ---- the census
 module _ (number : ℕ) (text out : List ℕ) where
   -- 13 where the output is shorter than the text, which is then as found; else the number of the text
-  pub census-put : putText number text out ≡ cond (ltb (length out) (length text)) (counted.put 13 0 out) (counted.put number (length text) (text ++ drop (length text) out))
+  pub census-put : putText number text out
+      ≡ cond (ltb (length out) (length text)) (counted.put 13 0 out) (counted.put number (length text) (text ++ drop (length text) out))
   unfolding putText
   census-put = refl
 

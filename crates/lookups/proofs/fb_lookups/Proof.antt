@@ -41,7 +41,8 @@ module _ (c : tie.After-one-if-there Inv-loop μ-loop) where
   one-there : c .one-if-there .result ≤ 1
   one-there =
       let e = c .one-if-there .ensures in
-      let b = one-most (holds (l .before .before .before .before .args .table .now) (c .before .point-at .result)) in omega (arith, e, b)
+      let b = one-most (holds (l .before .before .before .before .args .table .now) (c .before .point-at .result)) in
+      omega (arith, e, b)
 
 add-found : tie.Need-add-found Inv-loop μ-loop
 add-found c = record { fits = omega (arith, one-there c, c .before .before .loop-test .taken, l c .loop .inv .1) }
