@@ -1,6 +1,6 @@
 -- Demand 3: "For grown meshes: equal reduced files mean equal meshes in all six fields; the reduced reader gives back exactly the mesh; it
 -- accepts no file that is not the reduced file of a grown mesh." Said of the calls, end to end: the file is the bytes that `write_reduced` leaves.
--- `left-one` equal bytes left, equal meshes · `left-returns` what is left and read again · `read-left` what is read is what is left of a grown mesh.
+-- `written-one` equal bytes left, equal meshes · `written-returns` what is left and read again · `read-written` what is read is what is left of a grown mesh.
 -- Of the files: `reduced-one`, `reduced-returns`, `reduced-accepted`; `twelve-kept`, `kept-twelve` number 12, exactly; of full files `full-one`,
 -- `full-returns`, `full-accepted`. "Count the vertices in, count the vertices out": `full-count` a table read has as many records as the file has
 -- lines, `reduced-count` as many as the lines and those that were left out. A mesh is what `lookUp` answers at every point: the whole record, six fields.
@@ -27,19 +27,19 @@ pub use Rattle.archive.specs.Reduced.{reduced-one, reduced-returns, reduced-acc
 pub use Rattle.archive.specs.Full.{full-one, full-returns, full-accepted, full-count}
 
 -- what a writer leaves: as many bytes of its output as it tells
-abbrev pub leftBy : Outcome → List ℕ
-leftBy o = take (o .bytes) (o .out)
+abbrev pub writtenBy : Outcome → List ℕ
+writtenBy o = take (o .bytes) (o .out)
 
 -- it is the file, where the output was long enough
 module _ (file t out : List ℕ) where
   abbrev ended : Bool → Bool → Outcome
   ended o s = cond o (cond s (outcome 13 0 out) (outcome 0 (length file) (file ++ drop (length file) out))) (outcome 1 0 out)
 
-  left-file : writeOf file t out .number ≡ 0 → leftBy (writeOf file t out) ≡ file
+  written-file : writeOf file t out .number ≡ 0 → writtenBy (writeOf file t out) ≡ file
   unfolding writeOf putOf
-  left-file = go (inOrderOf t) (ltb (length out) (length file))
+  written-file = go (inOrderOf t) (ltb (length out) (length file))
     where
-      go : (o s : Bool) → ended o s .number ≡ 0 → leftBy (ended o s) ≡ file
+      go : (o s : Bool) → ended o s .number ≡ 0 → writtenBy (ended o s) ≡ file
       go false s z = absurd (omega arith)
       go true true z = absurd (omega arith)
       go true false z = take-append-seam file (drop (length file) out)
@@ -49,31 +49,31 @@ module _ (file t out : List ℕ) where
   long-enough o l = λ i. ended (order-test t o i) (le-ltb (length out) (length file) l i) .number
 
 -- "equal reduced files mean equal meshes in all six fields"
-pub left-one : (t u out out′ : List ℕ) → Grown t → Grown u → writeReducedOf t out .number ≡ 0 → writeReducedOf u out′ .number ≡ 0
-    → leftBy (writeReducedOf t out) ≡ leftBy (writeReducedOf u out′) → (p : Point) → lookUp t p ≡ lookUp u p
-left-one t u out out′ g h a b e = reduced-one t u g h (sym (left-file (reducedFile t) t out a) ∙ e ∙ left-file (reducedFile u) u out′ b)
+pub written-one : (t u out out′ : List ℕ) → Grown t → Grown u → writeReducedOf t out .number ≡ 0 → writeReducedOf u out′ .number ≡ 0
+    → writtenBy (writeReducedOf t out) ≡ writtenBy (writeReducedOf u out′) → (p : Point) → lookUp t p ≡ lookUp u p
+written-one t u out out′ g h a b e = reduced-one t u g h (sym (written-file (reducedFile t) t out a) ∙ e ∙ written-file (reducedFile u) u out′ b)
 
 -- no refusal but for the output's length
-pub left-enough : (t out : List ℕ) → Grown t → length (reducedFile t) ≤ length out → writeReducedOf t out .number ≡ 0
-left-enough t out g l = long-enough (reducedFile t) t out (g .order) l
+pub written-enough : (t out : List ℕ) → Grown t → length (reducedFile t) ≤ length out → writeReducedOf t out .number ≡ 0
+written-enough t out g l = long-enough (reducedFile t) t out (g .order) l
 
 -- "the reduced reader gives back exactly the mesh"
-pub left-returns : (t out table scratch : List ℕ) → Grown t → writeReducedOf t out .number ≡ 0 → lengthsFit table scratch ≡ true
-    → length (recordsOf t) ≤ slotsOf table → Returns t (readReducedOf table scratch (leftBy (writeReducedOf t out)))
-left-returns t out table scratch g a fit room =
-    subst (λ (f : List ℕ). Returns t (readReducedOf table scratch f)) (sym (left-file (reducedFile t) t out a)) (reduced-returns t table scratch g fit room)
+pub written-returns : (t out table scratch : List ℕ) → Grown t → writeReducedOf t out .number ≡ 0 → lengthsFit table scratch ≡ true
+    → length (recordsOf t) ≤ slotsOf table → Returns t (readReducedOf table scratch (writtenBy (writeReducedOf t out)))
+written-returns t out table scratch g a fit room =
+    subst (λ (f : List ℕ). Returns t (readReducedOf table scratch f)) (sym (written-file (reducedFile t) t out a)) (reduced-returns t table scratch g fit room)
 
 -- "it accepts no file that is not the reduced file of a grown mesh": the mesh that was read is one, and of it the writer leaves that file
-pub record LeftOf (f out mesh : List ℕ) : Type 0 where
+pub record WrittenAs (f out mesh : List ℕ) : Type 0 where
   pub grown : Grown mesh
   pub number : writeReducedOf mesh out .number ≡ 0
-  pub left : leftBy (writeReducedOf mesh out) ≡ f
+  pub left : writtenBy (writeReducedOf mesh out) ≡ f
 
-pub read-left : (table scratch f out : List ℕ) → readReducedOf table scratch f .number ≡ 0 → length f ≤ length out
-    → LeftOf f out (readReducedOf table scratch f .table)
-read-left table scratch f out z l =
+pub read-written : (table scratch f out : List ℕ) → readReducedOf table scratch f .number ≡ 0 → length f ≤ length out
+    → WrittenAs f out (readReducedOf table scratch f .table)
+read-written table scratch f out z l =
     let (g, e) = reduced-accepted table scratch f z in
     let u = readReducedOf table scratch f .table in
     let k : length f ≡ length (reducedFile u) = ap length e in
-    let n = left-enough u out g (omega arith) in
-    record { grown = g; number = n; left = left-file (reducedFile u) u out n ∙ sym e }
+    let n = written-enough u out g (omega arith) in
+    record { grown = g; number = n; left = written-file (reducedFile u) u out n ∙ sym e }
