@@ -1,5 +1,7 @@
--- A file that leaves out redundant records of a grown mesh, some or all: `Leaves`. What it leaves out is restored: `read-back` reading it ends with 0, or with 12 where it keeps a redundant one, and with the mesh.
--- Why: each record that it leaves out is the adjacent of a degree 6 record, which is no redundant one and so in the file; and in a grown mesh a degree 3 adjacent of a degree 6 vertex is the very record that
+-- A file that leaves out redundant records of a grown mesh, some or all: `Leaves`. What it leaves out is restored: `read-back` reading it ends
+-- with 0, or with 12 where it keeps a redundant one, and with the mesh.
+-- Why: each record that it leaves out is the adjacent of a degree 6 record, which is no redundant one and so in the file; and in a grown mesh a
+-- degree 3 adjacent of a degree 6 vertex is the very record that
 -- restoring enters there (M4, docs/MODEL.md). And back: `read-leaves` what is read with 0 or 12 leaves out redundant records of a grown mesh.
 -- Assumes nothing.
 use mathlib.Core.Path.{_≡_, refl, sym, ap, _∙_, fun-ext}
@@ -82,7 +84,8 @@ module _ (t : List ℕ) (g : Grown t) (rs : List Record) (x : Leaves t rs) where
         let h : lookUp t (adjacentAt v j) ≡ Held a = sheet-held (lookUp t (adjacentAt v j)) a y in
         (a, h, λ none. at a h three none (listed (adjacentAt v j) a h))
       where
-        at : (a : Record) → lookUp t (adjacentAt v j) ≡ Held a → (a .d ≡ 3 → a ≡ vertex (adjacentAt v j) 3 ((6 + 2 * j + v .k) % 4) (v .n .0)) → lookUp u (adjacentAt v j) ≡ Absent → List·Memᴰ a rs ⊎ Redundant t a
+        at : (a : Record) → lookUp t (adjacentAt v j) ≡ Held a → (a .d ≡ 3 → a ≡ vertex (adjacentAt v j) 3 ((6 + 2 * j + v .k) % 4) (v .n .0))
+            → lookUp u (adjacentAt v j) ≡ Absent → List·Memᴰ a rs ⊎ Redundant t a
             → a ≡ bornOf v j
         at a h three none (inl k) = held-absent (ap (lookUp u) (sym (lookup-point t o (adjacentAt v j) a h)) ∙ l .held a k) none
         at a h three none (inr k) = three (k .three) ∙ entered v j
@@ -97,7 +100,8 @@ module _ (t : List ℕ) (g : Grown t) (rs : List Record) (x : Leaves t rs) where
         let inside = in-within t o u (l .order) within slots w a in
         (w, e, a .order, both-within w t inside (λ p r h. back w e a inside p r h (listed p r h)))
       where
-        back : (w : List ℕ) → restoreAll rs (With u) ≡ With w → Adds (In t) u w → Within w t → (p : Point) (r : Record) → lookUp t p ≡ Held r → List·Memᴰ r rs ⊎ Redundant t r → lookUp w p ≡ Held r
+        back : (w : List ℕ) → restoreAll rs (With u) ≡ With w → Adds (In t) u w → Within w t → (p : Point) (r : Record) → lookUp t p ≡ Held r
+            → List·Memᴰ r rs ⊎ Redundant t r → lookUp w p ≡ Held r
         back w e a inside p r h (inl m) = a .keeps p r (ap (lookUp u) (sym (lookup-point t o p r h)) ∙ l .held r m)
         back w e a inside p r h (inr k) =
             let v = k .centre in
@@ -115,7 +119,8 @@ pub record Back (t : List ℕ) (rs : List Record) (table scratch : List ℕ) : T
   pub same : (p : Point) → lookUp result p ≡ lookUp t p
   pub is : readReducedOf table scratch (lines rs) ≡ cond (someOf (redundant t) rs) (refused 12 0 table scratch) (accepted result scratch)
 
-pub read-back : (t : List ℕ) → Grown t → (rs : List Record) → Leaves t rs → (table scratch : List ℕ) → lengthsFit table scratch ≡ true → length (recordsOf t) ≤ slotsOf table → Back t rs table scratch
+pub read-back : (t : List ℕ) → Grown t → (rs : List Record) → Leaves t rs → (table scratch : List ℕ) → lengthsFit table scratch ≡ true
+    → length (recordsOf t) ≤ slotsOf table → Back t rs table scratch
 read-back t g rs x table scratch fit room =
     let n = slotsOf table in
     let fits = lengths-table table scratch fit in
@@ -128,7 +133,8 @@ read-back t g rs x table scratch fit room =
       result = w;
       order = v;
       same = same;
-      is = reduced-ends table scratch (lines rs) rs u w fit e k ∙ (λ i. cond (grown i) (cond (someOf (alike i) rs) (refused 12 0 table scratch) (accepted w scratch)) (refused 11 0 table scratch));
+      is = reduced-ends table scratch (lines rs) rs u w fit e k
+          ∙ (λ i. cond (grown i) (cond (someOf (alike i) rs) (refused 12 0 table scratch) (accepted w scratch)) (refused 11 0 table scratch));
     }
 
 -- ---- what was read with 0 or 12
@@ -152,7 +158,8 @@ module _ (table scratch f : List ℕ) (kept : Bool) (x : ReducedRead table scrat
       stands r m = restores .adds .keeps (r .at) r (lined .held r m)
 
       -- a record restored is redundant
-      left : (r : Record) → lookUp (x .table) (r .at) ≡ Held r → redundant (x .table) r ≡ false → (lookUp (x .lined) (r .at) ≡ Held r) ⊎ RestoredOf (x .records) r → List·Memᴰ r (x .records)
+      left : (r : Record) → lookUp (x .table) (r .at) ≡ Held r → redundant (x .table) r ≡ false → (lookUp (x .lined) (r .at) ≡ Held r)
+          ⊎ RestoredOf (x .records) r → List·Memᴰ r (x .records)
       left r h e (inl k) = lined .only (r .at) r k
       left r h e (inr (v, m, d, j, i, k)) =
           absurd (not-both (is-redundant (x .table) r (record {

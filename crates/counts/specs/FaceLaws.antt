@@ -1,6 +1,7 @@
 -- Each face is counted at the first of the vertices that name it: `faces-counted`.
 --
--- The face f of a corner of v, in slot k, is the same as an earlier one exactly where one of its three other vertices stands before slot k and names it, f read from that vertex
+-- The face f of a corner of v, in slot k, is the same as an earlier one exactly where one of its three other vertices stands before slot k and
+-- names it, f read from that vertex
 -- on: an earlier vertex is not v itself, no point standing twice; and two corners of one star have different faces, v being none of the points of its own star.
 -- Assumes nothing.
 use mathlib.Core.Path.{_≡_, refl, sym, ap, _∙_}
@@ -30,7 +31,8 @@ use Rattle.table.specs.declared.slots.Slot.the-variants.{Holds}
 use Rattle.queries.specs.Queries.{chosenAt}
 use Rattle.counts.specs.Counts.{differentAfter, gather, each, nextPlace, face, faceWith, facesAt, turned, fits, sameFace, facesIn}
 use Rattle.counts.specs.Earlier.{sumBelow, spotIs, cornerIs, namesFace, faceSeen, faceBefore, faceOn, faceCount, cornerCount, starFaces, slotFaces}
-use Rattle.counts.specs.DifferentLaws.{slotTest, some-one, some-none, some-gather, some-each, different-nothing, different-place, different-star, different-slots}
+use Rattle.counts.specs.DifferentLaws.{slotTest, some-one, some-none, some-gather, some-each, different-nothing, different-place}
+use Rattle.counts.specs.DifferentLaws.{different-star, different-slots}
 use Rattle.counts.specs.EarlierLaws.{Passes, other-point, star-inner, earlier-yes, yes-earlier, slots-pass, pass-slots}
 use Rattle.counts.specs.StarLaws.{adjacent-away, chosen-away}
 use Rattle.counts.specs.declared.faces.Face.{Face}
@@ -48,8 +50,10 @@ four-true true true true false h = absurd (not-both h refl)
 fits-eq : (f g : Face) → fits f g ≡ true → f ≡ g
 unfolding fits
 fits-eq f g h =
-    let x = four-true (samePoint (f .at) (g .at)) (samePoint (f .adjacent) (g .adjacent)) (samePoint (f .opposite) (g .opposite)) (samePoint (f .next) (g .next)) h in
-    λ i. face (same-true (f .at) (g .at) (x .0) i) (same-true (f .adjacent) (g .adjacent) (x .1) i) (same-true (f .opposite) (g .opposite) (x .2) i) (same-true (f .next) (g .next) (x .3) i)
+    let x = four-true (samePoint (f .at) (g .at)) (samePoint (f .adjacent) (g .adjacent)) (samePoint (f .opposite) (g .opposite))
+    (samePoint (f .next) (g .next)) h in
+    λ i. face (same-true (f .at) (g .at) (x .0) i) (same-true (f .adjacent) (g .adjacent) (x .1) i) (same-true (f .opposite) (g .opposite) (x .2) i)
+    (same-true (f .next) (g .next) (x .3) i)
 
 fits-refl : (f : Face) → fits f f ≡ true
 unfolding fits
@@ -66,7 +70,8 @@ same-round : (f g : Face) → sameFace f g ≡ true → SameRound f g
 unfolding sameFace
 same-round f g h = go (fits f g) (fits (turned f) g) (fits (turned (turned f)) g) refl refl refl h
   where
-    go : (a b c : Bool) → fits f g ≡ a → fits (turned f) g ≡ b → fits (turned (turned f)) g ≡ c → a || (b || (c || fits (turned (turned (turned f))) g)) ≡ true → SameRound f g
+    go : (a b c : Bool) → fits f g ≡ a → fits (turned f) g ≡ b → fits (turned (turned f)) g ≡ c → a
+        || (b || (c || fits (turned (turned (turned f))) g)) ≡ true → SameRound f g
     go true b c x y z k = straight (fits-eq f g x)
     go false true c x y z k = once (fits-eq (turned f) g y)
     go false false true x y z k = twice (fits-eq (turned (turned f)) g z)
@@ -131,13 +136,15 @@ module _ (t : List ℕ) where
   names-makes u g e h =
       let x = among-at (cornerIs t u g) (u .d) h in
       let i = x .0 in
-      let y = three-true (samePoint (adjacentAt u i) (g .adjacent)) (samePoint (adjacentAt u (nextPlace (u .d) i)) (g .next)) (spotIs (chosenAt t u i) (g .opposite)) (x .2) in
+      let y = three-true (samePoint (adjacentAt u i) (g .adjacent)) (samePoint (adjacentAt u (nextPlace (u .d) i)) (g .next))
+      (spotIs (chosenAt t u i) (g .opposite)) (x .2) in
       record {
         corner = i;
         below = x .1;
         opposite = g .opposite;
         chosen = spot-is (chosenAt t u i) (g .opposite) (y .2);
-        is = λ z. face (e z) (same-true (adjacentAt u i) (g .adjacent) (y .0) z) (g .opposite) (same-true (adjacentAt u (nextPlace (u .d) i)) (g .next) (y .1) z);
+        is = λ z. face (e z) (same-true (adjacentAt u i) (g .adjacent) (y .0) z) (g .opposite)
+            (same-true (adjacentAt u (nextPlace (u .d) i)) (g .next) (y .1) z);
       }
 
   -- f is one of u's faces, read from one of its vertices on
@@ -161,7 +168,12 @@ module _ (t : List ℕ) where
     where
       go : (i : ℕ) → i < u .d → (s : Spot) → chosenAt t u i ≡ s → someOf (sameFace f) (faceWith u i s) ≡ true → (g : Face) × Makes u g × SameRound f g
       go i l Nothing e k = absurd (not-both k (some-none (sameFace f)))
-      go i l (At p) e k = (faceOn u i p, record { corner = i; below = l; opposite = p; chosen = e; is = refl }, same-round f (faceOn u i p) (sym (some-one (sameFace f) (faceOn u i p)) ∙ k))
+      go i l (At p) e k = (
+        faceOn u i p,
+        record { corner = i; below = l; opposite = p; chosen = e; is = refl },
+        same-round f (faceOn u i p)
+            (sym (some-one (sameFace f) (faceOn u i p)) ∙ k),
+      )
 
 next-below : (d j : ℕ) → j < d → nextPlace d j < d
 next-below d j h = go (ℕ-discrete (j + 1) d)
@@ -181,7 +193,9 @@ module _ (t : List ℕ) (o : InOrder t) where
     seen : (g : Face) {h : Record → Bool} (x : Passes t k h) → Makes t (x .rec) g → faceSeen t k g ≡ true
     unfolding faceSeen
     seen g x m =
-        earlier-yes t o k top (namesFace t g) (g .at) (record { rec = x .rec; slot = x .slot; below = x .below; holds = x .holds; passes = makes-names t (x .rec) g m }) (ap (λ (f : Face). f .at) (m .is))
+        earlier-yes t o k top (namesFace t g) (g .at)
+        (record { rec = x .rec; slot = x .slot; below = x .below; holds = x .holds; passes = makes-names t (x .rec) g m })
+        (ap (λ (f : Face). f .at) (m .is))
 
     seen-gives : (f g : Face) → SameRound f g → faceSeen t k g ≡ true → among k (λ i. slotTest (gives t f) (slotAt t i)) ≡ true
     unfolding faceSeen
@@ -189,7 +203,14 @@ module _ (t : List ℕ) (o : InOrder t) where
         let y = yes-earlier t o k top (namesFace t g) (g .at) h in
         let x = y .0 in
         pass-slots t k (gives t f)
-        (record { rec = x .rec; slot = x .slot; below = x .below; holds = x .holds; passes = makes-gives t f (x .rec) g (names-makes t (x .rec) g (y .1) (x .passes)) r })
+        (record {
+          rec = x .rec;
+          slot = x .slot;
+          below = x .below;
+          holds = x .holds;
+          passes =
+              makes-gives t f (x .rec) g (names-makes t (x .rec) g (y .1) (x .passes)) r;
+        })
 
     face-before : (f : Face) → f .at ≡ v .at → someOf (sameFace f) (each (facesAt t) (recordsBelow t k)) ≡ faceBefore t k f
     unfolding faceBefore
@@ -216,7 +237,8 @@ module _ (t : List ℕ) (o : InOrder t) where
         back : faceBefore t k f ≡ true → among k (λ i. slotTest (gives t f) (slotAt t i)) ≡ true
         back h = go (faceSeen t k (turned f)) (faceSeen t k (turned (turned f))) refl refl h
           where
-            go : (a b : Bool) → faceSeen t k (turned f) ≡ a → faceSeen t k (turned (turned f)) ≡ b → a || (b || x₃) ≡ true → among k (λ i. slotTest (gives t f) (slotAt t i)) ≡ true
+            go : (a b : Bool) → faceSeen t k (turned f) ≡ a → faceSeen t k (turned (turned f)) ≡ b → a || (b || x₃) ≡ true
+                → among k (λ i. slotTest (gives t f) (slotAt t i)) ≡ true
             go true b p q r = seen-gives f (turned f) (once refl) p
             go false true p q r = seen-gives f (turned (turned f)) (twice refl) q
             go false false p q r = seen-gives f (turned (turned (turned f))) (thrice refl) r
@@ -249,10 +271,12 @@ module _ (t : List ℕ) (o : InOrder t) where
         before : List Face
         before = each (facesAt t) (recordsBelow t k)
 
-        go : (j : ℕ) → j < v .d → (s : Spot) → chosenAt t v j ≡ s → differentAfter sameFace (before ++ gather j (place t v)) (faceWith v j s) ≡ faceCount t k v j s
+        go : (j : ℕ) → j < v .d → (s : Spot) → chosenAt t v j ≡ s → differentAfter sameFace (before ++ gather j (place t v)) (faceWith v j s)
+            ≡ faceCount t k v j s
         go j m Nothing e = different-nothing sameFace (before ++ gather j (place t v))
         go j m (At p) e =
-            different-place sameFace before (place t v) j (faceOn v j p) (faceBefore t k (faceOn v j p)) (face-before (faceOn v j p) refl) (λ i h. corner-apart i j h m p e)
+            different-place sameFace before (place t v) j (faceOn v j p) (faceBefore t k (faceOn v j p)) (face-before (faceOn v j p) refl)
+            (λ i h. corner-apart i j h m p e)
 
   -- "F the different faces"
   pub faces-counted : sumBelow (slotFaces t) (slotsOf t) ≡ facesIn t

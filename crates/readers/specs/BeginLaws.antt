@@ -1,5 +1,7 @@
--- How both readers begin, by cases: `lengths-table`, `table-lengths` lengths that fit · `Prepared` the length test, and both tables cleared: `none-unfit`, `other-unfit`, `both-fit` and back, `prepared-unfit`, `prepared-fit` · `Begun` that,
--- and the lines: `begun-unfit`, `begun-fault`, `begun-read` and back, `begun-filled` · `full-unfit` lengths refused · `fault-full`, `fault-reduced` a fault is what both answer.
+-- How both readers begin, by cases: `lengths-table`, `table-lengths` lengths that fit · `Prepared` the length test, and both tables cleared:
+-- `none-unfit`, `other-unfit`, `both-fit` and back, `prepared-unfit`, `prepared-fit` · `Begun` that,
+-- and the lines: `begun-unfit`, `begun-fault`, `begun-read` and back, `begun-filled` · `full-unfit` lengths refused · `fault-full`,
+-- `fault-reduced` a fault is what both answer.
 -- Assumes nothing.
 use mathlib.Core.Path.{_≡_, refl, sym, ap, _∙_}
 use mathlib.Core.Bool.{Bool, true, false, cond, _&&_}
@@ -48,7 +50,8 @@ module _ (t s : List ℕ) where
   prepared-unfit (unfit e a b c) h = (a, b, c)
   prepared-unfit (fit e a b c w) h = absurd (e h)
 
-  pub prepared-fit : {t′ s′ : List ℕ} {n : ℕ} → Prepared t s t′ s′ n → (n ≡ 0 → ⊥) → (lengthsFit t s ≡ true) × (t′ ≡ clearedOf t) × (s′ ≡ clearedOf s) × Table t n
+  pub prepared-fit : {t′ s′ : List ℕ} {n : ℕ} → Prepared t s t′ s′ n → (n ≡ 0 → ⊥) → (lengthsFit t s ≡ true) × (t′ ≡ clearedOf t)
+      × (s′ ≡ clearedOf s) × Table t n
   prepared-fit (unfit e a b c) h = absurd (h e)
   prepared-fit (fit e a b c w) h = (a, b, c, w)
 
@@ -57,8 +60,10 @@ module _ (t s : List ℕ) where
 -- number and line are the answer
 pub data Begun (t s f : List ℕ) (number line : ℕ) (t′ s′ : List ℕ) : Type 0 where
   short : number ≡ 1 → line ≡ 0 → lengthsFit t s ≡ false → t′ ≡ t → s′ ≡ s → Begun t s f number line t′ s′
-  fault : (number ≡ 0 → ⊥) → lengthsFit t s ≡ true → readLines f (clearedOf t) ≡ Fault number line → t′ ≡ clearedOf t → s′ ≡ clearedOf s → Begun t s f number line t′ s′
-  filled : number ≡ 0 → line ≡ 0 → lengthsFit t s ≡ true → s′ ≡ clearedOf s → (rs : List Record) → readLines f (clearedOf t) ≡ Read rs t′ → Lined f (slotsOf t) rs t′ → Begun t s f number line t′ s′
+  fault : (number ≡ 0 → ⊥) → lengthsFit t s ≡ true → readLines f (clearedOf t) ≡ Fault number line → t′ ≡ clearedOf t → s′ ≡ clearedOf s
+      → Begun t s f number line t′ s′
+  filled : number ≡ 0 → line ≡ 0 → lengthsFit t s ≡ true → s′ ≡ clearedOf s → (rs : List Record) → readLines f (clearedOf t) ≡ Read rs t′
+      → Lined f (slotsOf t) rs t′ → Begun t s f number line t′ s′
 
 module _ (t s f : List ℕ) where
   module _ {t′ s′ : List ℕ} {n : ℕ} (p : Prepared t s t′ s′ n) where

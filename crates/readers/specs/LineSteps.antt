@@ -1,5 +1,6 @@
 -- The lines of a file, step by step as the code reads them.
--- `lineBefore` the record of the line before · `stepAt` what becomes of a line, `tableAfter` and of the table · `EndsAs` what reading ends with · `Underway` so far: `underway-start`,
+-- `lineBefore` the record of the line before · `stepAt` what becomes of a line, `tableAfter` and of the table · `EndsAs` what reading ends with ·
+-- `Underway` so far: `underway-start`,
 -- `underway-over`, `underway-fault`, `underway-more`.
 -- Assumes nothing.
 use mathlib.Core.Path.{_≡_, refl, sym, ap, _∙_, subst}
@@ -87,13 +88,15 @@ follow t rest (Entered r next j) = after r (rest r next)
 follow t rest Over = Read [] t
 follow t rest (Faulty number j) = Fault number j
 
-step-follow : (i : ℕ) (q : Option Record) (t : List ℕ) (rest : Record → ℕ → Lines) (l : Line) → lineRead i q t rest l ≡ follow t rest (stepAt q t i (numbered i l))
+step-follow : (i : ℕ) (q : Option Record) (t : List ℕ) (rest : Record → ℕ → Lines) (l : Line) → lineRead i q t rest l
+    ≡ follow t rest (stepAt q t i (numbered i l))
 unfolding enteredStep
 step-follow i q t rest End = refl
 step-follow i q t rest Bad = refl
 step-follow i q t rest (Good r next) = go (above q r) (noSlot (findOf t (r .at)))
   where
-    go : (a b : Bool) → cond a (cond b (Fault 8 i) (after r (rest r next))) (Fault 10 i) ≡ follow t rest (cond a (cond b (Faulty 8 i) (Entered r next (i + 1))) (Faulty 10 i))
+    go : (a b : Bool) → cond a (cond b (Fault 8 i) (after r (rest r next))) (Fault 10 i)
+        ≡ follow t rest (cond a (cond b (Faulty 8 i) (Entered r next (i + 1))) (Faulty 10 i))
     go true true = refl
     go true false = refl
     go false b = refl
@@ -124,7 +127,8 @@ module _ (f : List ℕ) (p i : ℕ) (q : Option Record) (t : List ℕ) where
       over : {A : Type 0} → Entered r next j ≡ Over → A
       over e = absurd (let z : _≡_ {A = ℕ} 0 1 = cc in omega arith)
 
-      good : (s : Record) (m : ℕ) (a b : Bool) → Entered r next j ≡ cond a (cond b (Faulty 8 i) (Entered s m (i + 1))) (Faulty 10 i) → (Good s m ≡ Good r next) × (j ≡ i + 1)
+      good : (s : Record) (m : ℕ) (a b : Bool) → Entered r next j ≡ cond a (cond b (Faulty 8 i) (Entered s m (i + 1))) (Faulty 10 i)
+          → (Good s m ≡ Good r next) × (j ≡ i + 1)
       good s m true true e = never e
       good s m true false e = same s m e
       good s m false b e = never e
@@ -142,7 +146,8 @@ pub data EndsAs (x : Lines) (number line : ℕ) (t : List ℕ) : Type 0 where
   at-fault : x ≡ Fault number line → (number ≡ 0 → ⊥) → EndsAs x number line t
 
 pub ends-as : (x : Lines) {a a′ b b′ : ℕ} {t t′ : List ℕ} → a ≡ a′ → b ≡ b′ → t ≡ t′ → EndsAs x a′ b′ t′ → EndsAs x a b t
-ends-as x {a} {a′} {b} {b′} {t} {t′} e f g d = subst (λ (k : ℕ). EndsAs x k b t) (sym e) (subst (λ (k : ℕ). EndsAs x a′ k t) (sym f) (subst (EndsAs x a′ b′) (sym g) d))
+ends-as x {a} {a′} {b} {b′} {t} {t′} e f g d =
+    subst (λ (k : ℕ). EndsAs x k b t) (sym e) (subst (λ (k : ℕ). EndsAs x a′ k t) (sym f) (subst (EndsAs x a′ b′) (sym g) d))
 
 -- the two cases, by the number
 pub ends-read : (x : Lines) {number line : ℕ} {t : List ℕ} → EndsAs x number line t → number ≡ 0 → (rs : List Record) × (x ≡ Read rs t) × (line ≡ 0)
@@ -207,7 +212,9 @@ module _ (f t₀ : List ℕ) (p i : ℕ) (q : Option Record) (t : List ℕ) (w :
         (record {
           left = w .left - 1;
           enough = omega (arith, n .0);
-          whole = λ number line u d. w .whole number line u (subst (λ (x : Lines). EndsAs x number line u) (sym (step (Entered r next j) e)) (ends-after r (onward f p i q t (w .left - 1) r next) d));
+          whole = λ number line u d.
+              w .whole number line u
+              (subst (λ (x : Lines). EndsAs x number line u) (sym (step (Entered r next j) e)) (ends-after r (onward f p i q t (w .left - 1) r next) d));
           within = n .1;
           first = omega (arith, w .first);
           count = omega (arith, n .0);

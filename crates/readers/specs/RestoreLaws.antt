@@ -1,4 +1,5 @@
--- What restoring obeys. Afterwards every adjacent point of the degree 6 records is there, and what was entered is what document 01 says of them (`restore-all`: `Restores`).
+-- What restoring obeys. Afterwards every adjacent point of the degree 6 records is there, and what was entered is what document 01 says of them
+-- (`restore-all`: `Restores`).
 -- `restores-into` where the points absent lack nothing but such records of a table g in order, and room for them is there, restoring ends well and within g.
 -- Assumes nothing.
 use mathlib.Core.Path.{_≡_, refl, sym, ap, _∙_, subst}
@@ -21,7 +22,8 @@ use Rattle.table.specs.Slots.{slotsOf, freeSlots}
 use Rattle.table.specs.Order.{InOrder}
 use Rattle.table.specs.Entries.{lookUp, enterOf, recordsOf}
 use Rattle.table.specs.RecordLaws.{apart-fewer}
-use Rattle.table.specs.MapLaws.{Searched, there, room, full, searched, find-held, find-free, enter-finds, lookup-point, lookup-valid, records-count, records-looked, looked-records, records-apart}
+use Rattle.table.specs.MapLaws.{Searched, there, room, full, searched, find-held, find-free, enter-finds, lookup-point, lookup-valid, records-count}
+use Rattle.table.specs.MapLaws.{records-looked, looked-records, records-apart}
 use Rattle.table.specs.declared.entries.Looked.{Looked}
 use Rattle.table.specs.declared.entries.Looked.the-variants.{Absent, Held}
 use Rattle.readers.specs.Readers.{Restored, With, Stopped, restoreAt, restore, restoreTo, restoreStar, restoreAll}
@@ -75,7 +77,8 @@ record Around (P : Record → Type 0) (v : Record) (j : ℕ) (t w : List ℕ) : 
   adds : Adds P t w
   has : (i : ℕ) → i < j → (q : Record) × (lookUp w (adjacentAt v i) ≡ Held q)
 
-restore-to : (P : Record → Type 0) (v : Record) (j : ℕ) → ((i : ℕ) → i < j → P (bornOf v i)) → (t w : List ℕ) → InOrder t → restoreTo v j (With t) ≡ With w → Around P v j t w
+restore-to : (P : Record → Type 0) (v : Record) (j : ℕ) → ((i : ℕ) → i < j → P (bornOf v i)) → (t w : List ℕ) → InOrder t → restoreTo v j (With t)
+    ≡ With w → Around P v j t w
 unfolding restoreTo
 restore-to P v zero h t w o e = record { adds = subst (Adds P t) (with-is e) (adds-none P t o); has = λ i l. absurd (omega arith) }
 restore-to P v (suc j) h t w o e = go (restoreTo v j (With t)) refl e (λ u k. restore-to P v j (λ i l. h i (omega arith)) t u o k)
@@ -89,7 +92,8 @@ restore-to P v (suc j) h t w o e = go (restoreTo v j (With t)) refl e (λ u k. r
         at b i l (yes k) = let (q, y) = entered-there u (a .adds .order) (bornOf v j) w x in (q, ap (λ (n : ℕ). lookUp w (adjacentAt v n)) k ∙ y)
         at b i l (no k) = let (q, y) = a .has i (omega arith) in (q, b .keeps (adjacentAt v i) q y)
 
-    go : (x : Restored) → restoreTo v j (With t) ≡ x → restore x (bornOf v j) ≡ With w → ((u : List ℕ) → restoreTo v j (With t) ≡ With u → Around P v j t u) → Around P v (suc j) t w
+    go : (x : Restored) → restoreTo v j (With t) ≡ x → restore x (bornOf v j) ≡ With w
+        → ((u : List ℕ) → restoreTo v j (With t) ≡ With u → Around P v j t u) → Around P v (suc j) t w
     go (Stopped number) k m ih = stopped m
     go (With u) k m ih = let a = ih u k in more u a (restore-one u (a .adds .order) (bornOf v j) w m)
 
@@ -119,23 +123,27 @@ module _ (P : Record → Type 0) where
       → Adds P t w × (v .d ≡ 6 → (j : ℕ) → j < 6 → (q : Record) × (lookUp w (adjacentAt v j) ≡ Held q))
   restore-star v h t w o = go (eqb (v .d) 6) refl
     where
-      go : (b : Bool) → eqb (v .d) 6 ≡ b → cond b (restoreTo v 6 (With t)) (With t) ≡ With w → Adds P t w × (v .d ≡ 6 → (j : ℕ) → j < 6 → (q : Record) × (lookUp w (adjacentAt v j) ≡ Held q))
+      go : (b : Bool) → eqb (v .d) 6 ≡ b → cond b (restoreTo v 6 (With t)) (With t) ≡ With w → Adds P t w
+          × (v .d ≡ 6 → (j : ℕ) → j < 6 → (q : Record) × (lookUp w (adjacentAt v j) ≡ Held q))
       go true e k = let a = restore-to P v 6 (h (eqb-true (v .d) 6 e)) t w o k in (a .adds, λ d. a .has)
       go false e k = (subst (Adds P t) (with-is k) (adds-none P t o), λ d. absurd (not-both (eq-eqb (v .d) 6 d) e))
 
-  restore-each : (rs : List Record) → ((v : Record) → List·Memᴰ v rs → v .d ≡ 6 → (j : ℕ) → j < 6 → P (bornOf v j)) → (t w : List ℕ) → InOrder t → restoreAll rs (With t) ≡ With w → Restores P rs t w
+  restore-each : (rs : List Record) → ((v : Record) → List·Memᴰ v rs → v .d ≡ 6 → (j : ℕ) → j < 6 → P (bornOf v j)) → (t w : List ℕ) → InOrder t
+      → restoreAll rs (With t) ≡ With w → Restores P rs t w
   unfolding restoreAll
   restore-each [] h t w o e = record { adds = subst (Adds P t) (with-is e) (adds-none P t o); has = λ v m. absurd (List·Memᴰ·not-nil m) }
   restore-each (v ∷ rs) h t w o e = go (restoreStar v (With t)) refl e (λ u. restore-each rs (λ x m. h x (List·Memᴰ·tail m)) u w)
     where
-      go : (x : Restored) → restoreStar v (With t) ≡ x → restoreAll rs x ≡ With w → ((u : List ℕ) → InOrder u → restoreAll rs (With u) ≡ With w → Restores P rs u w) → Restores P (v ∷ rs) t w
+      go : (x : Restored) → restoreStar v (With t) ≡ x → restoreAll rs x ≡ With w
+          → ((u : List ℕ) → InOrder u → restoreAll rs (With u) ≡ With w → Restores P rs u w) → Restores P (v ∷ rs) t w
       go (Stopped number) k m ih = stopped (sym (stopped-stays rs number) ∙ m)
       go (With u) k m ih =
           let (a, here) = restore-star v (h v (List·Memᴰ·head refl)) t u o k in
           let b = ih u (a .order) m in
           record { adds = adds-then P t u w a (b .adds); has = λ x l d j i. at b here x d j i (List·Memᴰ·cases-cons l) }
         where
-          at : Restores P rs u w → (v .d ≡ 6 → (j : ℕ) → j < 6 → (q : Record) × (lookUp u (adjacentAt v j) ≡ Held q)) → (x : Record) → x .d ≡ 6 → (j : ℕ) → j < 6 → (x ≡ v) ⊎ List·Memᴰ x rs
+          at : Restores P rs u w → (v .d ≡ 6 → (j : ℕ) → j < 6 → (q : Record) × (lookUp u (adjacentAt v j) ≡ Held q)) → (x : Record) → x .d ≡ 6
+              → (j : ℕ) → j < 6 → (x ≡ v) ⊎ List·Memᴰ x rs
               → (q : Record) × (lookUp w (adjacentAt x j) ≡ Held q)
           at b here x d j i (inl y) =
               let (q, z) = here (ap (λ (r : Record). r .d) (sym y) ∙ d) j i in
@@ -156,7 +164,8 @@ abbrev pub Within : List ℕ → List ℕ → Type 0
 Within t u = (p : Point) (r : Record) → lookUp t p ≡ Held r → lookUp u p ≡ Held r
 
 -- and less of it, where one point is absent
-pub within-fewer : (t u : List ℕ) → InOrder t → InOrder u → Within t u → (p : Point) (r : Record) → lookUp u p ≡ Held r → lookUp t p ≡ Absent → length (recordsOf t) < length (recordsOf u)
+pub within-fewer : (t u : List ℕ) → InOrder t → InOrder u → Within t u → (p : Point) (r : Record) → lookUp u p ≡ Held r → lookUp t p ≡ Absent
+    → length (recordsOf t) < length (recordsOf u)
 within-fewer t u o v h p r k a =
     let l = apart-fewer (r ∷ recordsOf t) (recordsOf u) (other, records-apart t o) (λ x m. in-u x (List·Memᴰ·cases-cons m)) in
     omega arith
@@ -208,10 +217,15 @@ module _ (g : List ℕ) (whole : InOrder g) (t : List ℕ) (o : InOrder t) (with
           let as-many = adds-slots (In g) t u a in
           let free : 0 < freeSlots u = omega arith in
           let away : lookUp u (bornOf v j .at) ≡ Absent = ap (lookUp u) at ∙ e in
-          let is : In g (bornOf v j) = ap (lookUp g) at ∙ h ∙ ap Held same in
-          (enterOf u (bornOf v j), restore-new u (a .order) (bornOf v j) away ok free, adds-then (In g) t u (enterOf u (bornOf v j)) a (adds-one (In g) u (bornOf v j) (a .order) ok away free is))
+          let is : In g (bornOf v j) = ap (lookUp g) at ∙ h ∙ ap Held same in (
+            enterOf u (bornOf v j),
+            restore-new u (a .order) (bornOf v j) away ok free,
+            adds-then (In g) t u (enterOf u (bornOf v j)) a
+                (adds-one (In g) u (bornOf v j) (a .order) ok away free is),
+          )
 
-  into-to : (v : Record) (j : ℕ) → ((i : ℕ) → i < j → Lacks g t v i) → (u : List ℕ) → Adds (In g) t u → (w : List ℕ) × (restoreTo v j (With u) ≡ With w) × Adds (In g) t w
+  into-to : (v : Record) (j : ℕ) → ((i : ℕ) → i < j → Lacks g t v i) → (u : List ℕ) → Adds (In g) t u → (w : List ℕ)
+      × (restoreTo v j (With u) ≡ With w) × Adds (In g) t w
   unfolding restoreTo
   into-to v zero h u a = (u, refl, a)
   into-to v (suc j) h u a =
@@ -219,7 +233,8 @@ module _ (g : List ℕ) (whole : InOrder g) (t : List ℕ) (o : InOrder t) (with
       let (w, k, c) = into-one v j (h j (omega arith)) x b in
       (w, ap (λ (y : Restored). restore y (bornOf v j)) e ∙ k, c)
 
-  pub restores-into : (rs : List Record) → ((v : Record) → List·Memᴰ v rs → v .d ≡ 6 → (j : ℕ) → j < 6 → Lacks g t v j) → (u : List ℕ) → Adds (In g) t u → (w : List ℕ) × (restoreAll rs (With u) ≡ With w) × Adds (In g) t w
+  pub restores-into : (rs : List Record) → ((v : Record) → List·Memᴰ v rs → v .d ≡ 6 → (j : ℕ) → j < 6 → Lacks g t v j) → (u : List ℕ)
+      → Adds (In g) t u → (w : List ℕ) × (restoreAll rs (With u) ≡ With w) × Adds (In g) t w
   unfolding restoreAll
   restores-into [] h u a = (u, refl, a)
   restores-into (v ∷ rs) h u a =

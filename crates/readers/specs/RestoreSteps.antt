@@ -1,6 +1,8 @@
 -- What a reduced file leaves out, step by step as the code enters it.
--- `restoredBy` a number and a table as what restoring has come to · `restore-there`, `restore-entered`, `restore-invalid`, `restore-full`, `restore-neither` one record · `to-none`,
--- `to-more`, `to-stopped` one star · `star-six`, `star-other` · `fileRecords` the records of a file, read again: `read-records` · `Restoring` so far: `restoring-start`, `restoring-end`,
+-- `restoredBy` a number and a table as what restoring has come to · `restore-there`, `restore-entered`, `restore-invalid`, `restore-full`,
+-- `restore-neither` one record · `to-none`,
+-- `to-more`, `to-stopped` one star · `star-six`, `star-other` · `fileRecords` the records of a file, read again: `read-records` · `Restoring` so
+-- far: `restoring-start`, `restoring-end`,
 -- `restoring-more`, `restoring-stopped`.
 -- Assumes nothing.
 use mathlib.Core.Path.{_≡_, refl, sym, ap, _∙_, subst}
@@ -28,7 +30,8 @@ use Rattle.text.specs.Line.{lineAt}
 use Rattle.text.specs.LineLaws.{line-end, line-next}
 use Rattle.text.specs.declared.line.Line.{Line}
 use Rattle.text.specs.declared.line.Line.the-variants.{Good, Bad, End}
-use Rattle.readers.specs.Readers.{Lines, Read, Fault, after, above, noSlot, lineRead, linesFrom, readLines, Restored, With, Stopped, restoreAt, restore, restoreTo, restoreStar, restoreAll}
+use Rattle.readers.specs.Readers.{Lines, Read, Fault, after, above, noSlot, lineRead, linesFrom, readLines, Restored, With, Stopped, restoreAt}
+use Rattle.readers.specs.Readers.{restore, restoreTo, restoreStar, restoreAll}
 use Rattle.readers.specs.RestoreLaws.{stopped-stays}
 
 -- a number and a table, as what restoring has come to
@@ -132,13 +135,15 @@ same-lines f (suc left) p i q t = go (lineAt f p) (λ r next. same-lines f left 
         → Same (lineRecord (λ r next. recordsAt f left next) l) (lineRead i q t (λ r next. linesFrom f left next (i + 1) (some r) (enterOf t r)) l)
     go End ih = refl
     go Bad ih = tt
-    go (Good r next) ih = judge r (recordsAt f left next) (linesFrom f left next (i + 1) (some r) (enterOf t r)) (ih r next) (above q r) (noSlot (findOf t (r .at)))
+    go (Good r next) ih =
+        judge r (recordsAt f left next) (linesFrom f left next (i + 1) (some r) (enterOf t r)) (ih r next) (above q r) (noSlot (findOf t (r .at)))
 
 pub read-records : (f t : List ℕ) (rs : List Record) (u : List ℕ) → readLines f t ≡ Read rs u → fileRecords f ≡ rs
 read-records f t rs u e = subst (Same (fileRecords f)) e (same-lines f (length f) 0 1 none t)
 
 -- one line, where enough are left
-records-step : (f : List ℕ) (left p : ℕ) → length f ≤ p + left → (l : Line) → lineAt f p ≡ l → recordsAt f left p ≡ lineRecord (λ r next. recordsAt f (left - 1) next) l
+records-step : (f : List ℕ) (left p : ℕ) → length f ≤ p + left → (l : Line) → lineAt f p ≡ l → recordsAt f left p
+    ≡ lineRecord (λ r next. recordsAt f (left - 1) next) l
 unfolding recordsAt
 records-step f zero p h l e = ap (lineRecord (λ r next. [])) (sym (line-end f p (omega arith)) ∙ e)
 records-step f (suc left) p h l e =

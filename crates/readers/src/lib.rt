@@ -21,10 +21,12 @@ pub use lines::ReadBack;
 use local::all_pass;
 use table::slots_of;
 
-// Reads a full file into a table, with a scratch table of the same length. Refused with 1 both are untouched; else scratch ends all 255, and so does the table where it is refused.
+// Reads a full file into a table, with a scratch table of the same length. Refused with 1 both are untouched; else scratch ends all 255, and so
+// does the table where it is refused.
 // Linear in the table's slots and in the file, as long as the searches are short.
 pub fn read_full(table: &mut [u8], scratch: &mut [u8], file: &[u8]) -> ReadBack
-    ensures { λ r. ⌜ outcome (r .number) (r .line) (now (table .exit)) (now (scratch .exit)) ≡ readFullOf (now (table .entry)) (now (scratch .entry)) (now (file .entry)) ⌝ }
+    ensures { λ r. ⌜ outcome (r .number) (r .line) (now (table .exit)) (now (scratch .exit))
+        ≡ readFullOf (now (table .entry)) (now (scratch .entry)) (now (file .entry)) ⌝ }
 {
     let read = begin(table, scratch, file);
     let fault = read.number;
@@ -40,7 +42,8 @@ pub fn read_full(table: &mut [u8], scratch: &mut [u8], file: &[u8]) -> ReadBack
 
 // Reads a reduced file in the same way: what it leaves out is restored, and a redundant record that it kept is refused with 12.
 pub fn read_reduced(table: &mut [u8], scratch: &mut [u8], file: &[u8]) -> ReadBack
-    ensures { λ r. ⌜ outcome (r .number) (r .line) (now (table .exit)) (now (scratch .exit)) ≡ readReducedOf (now (table .entry)) (now (scratch .entry)) (now (file .entry)) ⌝ }
+    ensures { λ r. ⌜ outcome (r .number) (r .line) (now (table .exit)) (now (scratch .exit))
+        ≡ readReducedOf (now (table .entry)) (now (scratch .entry)) (now (file .entry)) ⌝ }
 {
     let read = begin(table, scratch, file);
     let fault = read.number;

@@ -31,7 +31,8 @@ pub fn answer(number: u8, line: u64) -> ReadBack
     ReadBack { number, line }
 }
 
-// What became of a line: its record is entered, and the next line stands at a position and has a number; there is none; or it is refused with a number, and this line is at fault.
+// What became of a line: its record is entered, and the next line stands at a position and has a number; there is none; or it is refused with a
+// number, and this line is at fault.
 pub enum Step {
     Entered(Record, usize, u64),
     Over,

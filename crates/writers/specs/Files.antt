@@ -1,5 +1,6 @@
 -- Document 01, "Files": the full and the reduced file of a table, and what the writers do. What the promises cite: `writeFullOf`, `writeReducedOf`.
--- `before` the order of lines, `sorted` records in it · `fullFile` · `redundant` the records that the reduced file leaves out, `reducedFile` · `Outcome`, `writeOf` a file
+-- `before` the order of lines, `sorted` records in it · `fullFile` · `redundant` the records that the reduced file leaves out, `reducedFile` ·
+-- `Outcome`, `writeOf` a file
 -- written, or refused.
 -- Assumes nothing.
 use mathlib.Core.Bool.{Bool, cond, _&&_, _||_}

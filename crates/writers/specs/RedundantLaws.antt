@@ -50,7 +50,8 @@ unfolding redundant
 is-redundant t r x =
     let v = x .centre in
     let near : ℕ → Bool = λ j. samePoint (adjacentAt v j) (r .at) in
-    let s : samePoint (adjacentAt v (x .place)) (r .at) ≡ true = ap (samePoint (adjacentAt v (x .place))) (sym (x .adjacent)) ∙ same-refl (adjacentAt v (x .place)) in
+    let s : samePoint (adjacentAt v (x .place)) (r .at) ≡ true = ap (samePoint (adjacentAt v (x .place))) (sym (x .adjacent))
+    ∙ same-refl (adjacentAt v (x .place)) in
     let names : sixNames (r .at) v ≡ true = ap (λ (b : Bool). b && among 6 near) (eq-eqb (v .d) 6 (x .six)) ∙ at-among near 6 (x .place) (x .below) s in
     ap (λ (b : Bool). b && someOf (sixNames (r .at)) (recordsOf t)) (eq-eqb (r .d) 3 (x .three)) ∙ at-some (sixNames (r .at)) (recordsOf t) v (x .listed) names
 

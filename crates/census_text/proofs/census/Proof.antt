@@ -46,7 +46,8 @@ returns c =
     let p = c .before .before in
     let i = p .before .before in
     let r = i .before .before .before .before .before in (
-      census-refused (t r) (u r) (f r) (number r) (line r) (t′ r) (u′ r) (r .read-input .ensures) (i .if1 .taken) (s r .args .out .now) _ (p .put-refused .ensures .0),
+      census-refused (t r) (u r) (f r) (number r) (line r) (t′ r) (u′ r) (r .read-input .ensures) (i .if1 .taken) (s r .args .out .now) _
+          (p .put-refused .ensures .0),
       refused-most (t r) (u r) (f r) (number r) (line r) (t′ r) (u′ r) (r .read-input .ensures) (i .if1 .taken) (p .put-refused .ensures .1),
     )
 
@@ -66,7 +67,8 @@ returns-2 c =
     let e = k .counts-of .ensures in (
       census-counted (t r) (u r) (f r) (number r) (line r) (t′ r) (u′ r) (r .read-input .ensures) (i .if1 .left) (s r .args .out .now) _
           (p .put-counts .ensures .0 ∙ ap (λ (x : Counts). putText 0 (countsText x) (s r .args .out .now)) e),
-      counted-most (t r) (u r) (f r) (number r) (line r) (t′ r) (u′ r) (r .read-input .ensures) (i .if1 .left) (subst (λ (x : Counts). length (countsText x) ≤ 128) e (p .put-counts .ensures .1)),
+      counted-most (t r) (u r) (f r) (number r) (line r) (t′ r) (u′ r) (r .read-input .ensures) (i .if1 .left)
+          (subst (λ (x : Counts). length (countsText x) ≤ 128) e (p .put-counts .ensures .1)),
     )
 
 pub census-spec : {M : Type 1} → statement M

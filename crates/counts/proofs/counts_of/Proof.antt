@@ -15,7 +15,8 @@ returns c =
     let e = f .before in
     let v = e .before in
     λ i.
-    numbers (v .count-vertices .ensures i) (e .count-edges .ensures i) (f .count-faces .ensures i) (d0 .count-degree .ensures i) (d3 .count-degree2 .ensures i) (d4 .count-degree3 .ensures i) (d5 .count-degree4 .ensures i) (c .count-degree5 .ensures i)
+    numbers (v .count-vertices .ensures i) (e .count-edges .ensures i) (f .count-faces .ensures i) (d0 .count-degree .ensures i)
+    (d3 .count-degree2 .ensures i) (d4 .count-degree3 .ensures i) (d5 .count-degree4 .ensures i) (c .count-degree5 .ensures i)
 
 pub counts-of-spec : {M : Type 1} → statement M
 counts-of-spec =

@@ -10,7 +10,8 @@ use Rattle.lattice.specs.declared.records.Record.{Record}
 use Rattle.table.specs.MapLaws.{table-same}
 use Rattle.reader.specs.Met.{metAt}
 use Rattle.readers.specs.Readers.{readLines}
-use Rattle.readers.specs.LineSteps.{lineBefore, stepAt, tableAfter, ends-as, Underway, underway-start, underway-over, underway-fault, underway-next, underway-more}
+use Rattle.readers.specs.LineSteps.{lineBefore, stepAt, tableAfter, ends-as, Underway, underway-start, underway-over, underway-fault}
+use Rattle.readers.specs.LineSteps.{underway-next, underway-more}
 use Rattle.readers.specs.declared.lines.Step.{Step}
 use Rattle.readers.specs.declared.lines.Step.the-variants.{Entered}
 use Rattle.readers.proofs.lines.read_lines.Statement.{statement}
@@ -66,7 +67,8 @@ returns-2 c =
     let k = c .before .before in
     let r = k .before .before .before .before in
     ends-as (readLines (f r) (s r .args .table .now)) (c .answer2 .ensures .0) (c .answer2 .ensures .1) (table r _ (k .s .given .1))
-    (underway-fault (f r) (s r .args .table .now) (l r .loop .at) (l r .loop .line) (q r) (l r .loop .table) (l r .loop .inv) _ _ (l r .loop .table) (was r _ (k .s .given .1)))
+    (underway-fault (f r) (s r .args .table .now) (l r .loop .at) (l r .loop .line) (q r) (l r .loop .table) (l r .loop .inv) _ _ (l r .loop .table)
+    (was r _ (k .s .given .1)))
 
 -- past a record entered
 module _ (c : tie.After-s2 Inv-loop μ-loop) where
@@ -95,7 +97,8 @@ loop-again : tie.Need-loop-again Inv-loop μ-loop
 loop-again c =
     let k = c .before in
     subst (Underway (f (r k)) (s (r k) .args .table .now) (next k) (after k) (lineBefore (after k) (v k))) (sym (table (r k) _ (k .s2 .given .1)))
-    (underway-more (f (r k)) (s (r k) .args .table .now) (l (r k) .loop .at) (l (r k) .loop .line) (q (r k)) (l (r k) .loop .table) (l (r k) .loop .inv) (v k) (next k) (after k) (entered k))
+    (underway-more (f (r k)) (s (r k) .args .table .now) (l (r k) .loop .at) (l (r k) .loop .line) (q (r k)) (l (r k) .loop .table)
+    (l (r k) .loop .inv) (v k) (next k) (after k) (entered k))
 
 pub read-lines-spec : {M : Type 1} → statement M
 read-lines-spec =

@@ -57,7 +57,8 @@ returns : tie.Need-returns Inv-loop μ-loop
 returns c =
     let r = c .before .before .before in
     let e = by-stopped (r .restore-record .result) (u r) (c .if1 .taken) in
-    e ∙ sym (to-stopped (s r .args .v) (With (s r .args .table .now)) 6 (l r .loop .j + 1) (r .restore-record .result) (omega (arith, r .before .before .before .loop-test .taken)) (sym (more r) ∙ e))
+    e ∙ sym (to-stopped (s r .args .v) (With (s r .args .table .now)) 6 (l r .loop .j + 1) (r .restore-record .result)
+    (omega (arith, r .before .before .before .loop-test .taken)) (sym (more r) ∙ e))
 
 loop-again : tie.Need-loop-again Inv-loop μ-loop
 loop-again c =

@@ -85,7 +85,8 @@ returns-3 c =
     let d = c .before .before in
     let l = d .before .before .before .before in
     let s = l .before .before in
-    scan-over (s .args .t .now) (s .args .at) (s .args .most) (l .loop .i) (l .loop .v) (l .loop .inv) (s .args .stop) (d .before .before .before .loop-test .taken) (met d) (omega (arith, c .before .worth .ensures .0))
+    scan-over (s .args .t .now) (s .args .at) (s .args .most) (l .loop .i) (l .loop .v) (l .loop .inv) (s .args .stop)
+    (d .before .before .before .loop-test .taken) (met d) (omega (arith, c .before .worth .ensures .0))
 
 add-i : tie.Need-add-i Inv-loop μ-loop
 add-i c = search needs
@@ -103,10 +104,12 @@ loop-again c =
     let v = l .loop .v in
     let e = c .before .worth .ensures .0 in
     let small : v * 10 + (getD t i 0 - 48) ≤ s .args .most = omega arith in
-    subst (λ (x : ℕ). Scanned t (s .args .at) (s .args .most) (i + 1) (v * 10 + x)) (sym e) (scan-goes t (s .args .at) (s .args .most) i v (l .loop .inv) (d .before .before .before .loop-test .taken) (met d) small)
+    subst (λ (x : ℕ). Scanned t (s .args .at) (s .args .most) (i + 1) (v * 10 + x)) (sym e)
+    (scan-goes t (s .args .at) (s .args .most) i v (l .loop .inv) (d .before .before .before .loop-test .taken) (met d) small)
 
 returns-4 : tie.Need-returns-4 Inv-loop μ-loop
-returns-4 c = let l = c .before in let s = l .before .before in scan-lacks (s .args .t .now) (s .args .at) (s .args .most) (l .loop .i) (l .loop .v) (l .loop .inv) (s .args .stop) (c .loop-test .left)
+returns-4 c = let l = c .before in let s = l .before .before in
+    scan-lacks (s .args .t .now) (s .args .at) (s .args .most) (l .loop .i) (l .loop .v) (l .loop .inv) (s .args .stop) (c .loop-test .left)
 
 pub read-number-spec : {M : Type 1} → statement M
 read-number-spec =
