@@ -16,7 +16,9 @@ use native.Mathlib.Decide.{decLt}
 use lib.Dec.{eqb}
 use lib.ListN.{length}
 use Rattle.laws.specs.Each.{not-both}
+use Rattle.laws.specs.Some.{someOf}
 use Rattle.lattice.specs.Records.{validOf}
+use Rattle.lattice.specs.Subdivision.{bornOf}
 use Rattle.lattice.specs.declared.records.Record.{Record}
 use Rattle.table.specs.Slots.{clearedOf}
 use Rattle.table.specs.Search.{findOf}
@@ -28,9 +30,9 @@ use Rattle.text.specs.LineLaws.{line-next, line-end}
 use Rattle.text.specs.declared.line.Line.{Line}
 use Rattle.text.specs.declared.line.Line.the-variants.{Good, Bad, End}
 use Rattle.grown.specs.Grown.{isGrown}
-use Rattle.writers.specs.Files.{someOf, redundant}
+use Rattle.writers.specs.Files.{redundant}
 use Rattle.readers.specs.Readers.{Lines, Read, Fault, after, noSlot, lineRead, linesFrom, readLines}
-use Rattle.readers.specs.Readers.{Restored, With, Stopped, restoredOf, restoreAt, restore, restoreTo, restoreAll}
+use Rattle.readers.specs.Readers.{Restored, With, Stopped, restoreAt, restore, restoreTo, restoreAll}
 use Rattle.readers.specs.Readers.{lengthsFit, endFull, endReduced, endRestored, readFullOf, readReducedOf}
 use Rattle.readers.specs.Readers as read
 use Rattle.demands.specs.Numbers.{Rule, _⇒_, firstOf}
@@ -178,7 +180,7 @@ module _ (t s f : List ℕ) where
 
 -- ---- restoring: "takes the degree 6 records in file order and enters each absent adjacent point, j rising"
 abbrev pub metAt : Record → List Record
-metAt v = restoredOf v 0 ∷ restoredOf v 1 ∷ restoredOf v 2 ∷ restoredOf v 3 ∷ restoredOf v 4 ∷ restoredOf v 5 ∷ []
+metAt v = bornOf v 0 ∷ bornOf v 1 ∷ bornOf v 2 ∷ bornOf v 3 ∷ bornOf v 4 ∷ bornOf v 5 ∷ []
 
 abbrev pub metIn : List Record → List Record
 metIn [] = []
