@@ -8,6 +8,7 @@ pub mod Refused
 -- demand 2: one form of a point, the opposites of a corner, the meshes, the files
 pub mod Points
 pub mod Opposites
+pub mod SeenFaces
 pub mod Forms
 pub mod Meshes
 pub mod Order
