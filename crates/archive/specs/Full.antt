@@ -1,4 +1,5 @@
--- The full file of a grown mesh: `full-returns` it comes back · `full-accepted` nothing but grown meshes and their files is accepted · `full-one` two tables of one file hold the same · `full-count` as many
+-- The full file of a grown mesh: `full-returns` it comes back · `full-accepted` nothing but grown meshes and their files is accepted · `full-one`
+-- two tables of one file hold the same · `full-count` as many
 -- records as lines.
 -- Assumes nothing.
 use mathlib.Core.Path.{_≡_, sym, ap, _∙_, subst}
@@ -20,12 +21,13 @@ use Rattle.writers.specs.Files.{before, sorted, fullFile}
 use Rattle.writers.specs.FileLaws.{sorted-rises, sorted-holds, holds-sorted, sorted-one}
 use Rattle.mesh.specs.Grown.{Grown}
 use Rattle.grown.specs.Grown.{is-grown, grown-is, grown-same}
+use Rattle.readers.specs.BeginLaws.{lengths-table}
 use Rattle.readers.specs.Readers.{Outcome, lengthsFit, accepted, refused, readFullOf}
 use Rattle.readers.specs.ReadLaws.{Valid, Lined, read-lines, lines-read, lines-one}
 use Rattle.readers.specs.RestoreLaws.{Within}
-use Rattle.archive.specs.Outcomes.{lengths-table, FullRead, full-ends, full-zero}
+use Rattle.archive.specs.Outcomes.{FullRead, full-ends, full-zero}
 use Rattle.archive.specs.Returns.{Returns, accepted-returns, both-within}
-use Rattle.archive.specs.LineCount.{linesIn, lines-in}
+use Rattle.text.specs.LineCount.{linesIn, lines-in}
 
 -- ---- what is written is read
 
@@ -51,7 +53,8 @@ module _ (t : List ℕ) (o : InOrder t) where
       (λ p r h. ap (lookUp u) (sym (lookup-point t o p r h)) ∙ x .held r (looked-written p r h))
 
 -- the full file of a grown mesh, read into a table with slots for its records, gives back the mesh
-pub full-returns : (t table scratch : List ℕ) → Grown t → lengthsFit table scratch ≡ true → length (recordsOf t) ≤ slotsOf table → Returns t (readFullOf table scratch (fullFile t))
+pub full-returns : (t table scratch : List ℕ) → Grown t → lengthsFit table scratch ≡ true → length (recordsOf t) ≤ slotsOf table
+    → Returns t (readFullOf table scratch (fullFile t))
 full-returns t table scratch g fit room =
     let o = g .order in
     let n = slotsOf table in
@@ -62,7 +65,8 @@ full-returns t table scratch g fit room =
     let same = lined-same t o (fullFile t) n u x in
     let is = full-ends table scratch (fullFile t) rs u fit e in
     let grown = grown-is u (grown-same t u (x .order) same g) in
-    subst (Returns t) (sym (is ∙ ap (λ (b : Bool). cond b (accepted u scratch) (refused 11 0 table scratch)) grown)) (accepted-returns t u scratch o (x .order) same)
+    subst (Returns t) (sym (is ∙ ap (λ (b : Bool). cond b (accepted u scratch) (refused 11 0 table scratch)) grown))
+    (accepted-returns t u scratch o (x .order) same)
 
 -- ---- what is read was written
 
@@ -81,7 +85,8 @@ module _ (table scratch f : List ℕ) (z : readFullOf table scratch f .number �
 
   -- "11: not a grown mesh": what is accepted is grown, and the file is its full file, byte for byte
   pub full-accepted : Grown (readFullOf table scratch f .table) × (f ≡ fullFile (readFullOf table scratch f .table))
-  full-accepted = subst (λ (o : Outcome). Grown (o .table) × (f ≡ fullFile (o .table))) (sym (way .is)) (is-grown (way .table) (way .grown), lined .text ∙ ap lines records)
+  full-accepted = subst (λ (o : Outcome). Grown (o .table) × (f ≡ fullFile (o .table))) (sym (way .is))
+      (is-grown (way .table) (way .grown), lined .text ∙ ap lines records)
 
   -- as many records as lines
   pub full-count : length (recordsOf (readFullOf table scratch f .table)) ≡ linesIn f

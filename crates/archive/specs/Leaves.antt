@@ -1,5 +1,7 @@
--- A file that leaves out redundant records of a grown mesh, some or all: `Leaves`. What it leaves out is restored: `read-back` reading it ends with 0, or with 12 where it keeps a redundant one, and with the mesh.
--- Why: each record that it leaves out is the adjacent of a degree 6 record, which is no redundant one and so in the file; and in a grown mesh a degree 3 adjacent of a degree 6 vertex is the very record that
+-- A file that leaves out redundant records of a grown mesh, some or all: `Leaves`. What it leaves out is restored: `read-back` reading it ends
+-- with 0, or with 12 where it keeps a redundant one, and with the mesh.
+-- Why: each record that it leaves out is the adjacent of a degree 6 record, which is no redundant one and so in the file; and in a grown mesh a
+-- degree 3 adjacent of a degree 6 vertex is the very record that
 -- restoring enters there (M4, docs/MODEL.md). And back: `read-leaves` what is read with 0 or 12 leaves out redundant records of a grown mesh.
 -- Assumes nothing.
 use mathlib.Core.Path.{_≡_, refl, sym, ap, _∙_, fun-ext}
@@ -10,6 +12,7 @@ use Prim.Native.Nat.{ℕ, _*_, _+_, _%_, _≤_, _<_}
 use native.Mathlib.Omega.{arith}
 use lib.ListN.{length}
 use Rattle.laws.specs.Each.{not-both}
+use Rattle.laws.specs.Some.{someOf}
 use Rattle.lattice.specs.Stars.{adjacentAt}
 use Rattle.lattice.specs.declared.points.Point.{Point}
 use Rattle.lattice.specs.declared.records.Record.{Record}
@@ -23,7 +26,7 @@ use Rattle.table.specs.MapLaws.{lookup-point, lookup-valid, records-looked, loo
 use Rattle.table.specs.declared.entries.Looked.the-variants.{Absent, Held}
 use Rattle.text.specs.Line.{lines}
 use Rattle.writers.specs.SortLaws.{Rising}
-use Rattle.writers.specs.Files.{someOf, redundant}
+use Rattle.writers.specs.Files.{redundant}
 use Rattle.writers.specs.FileLaws.{Before, redundant-same}
 use Rattle.writers.specs.RedundantLaws.{Redundant, redundant-is, is-redundant, six-kept}
 use Rattle.mesh.specs.Grown.{Grown}
@@ -31,11 +34,13 @@ use Rattle.local.specs.Sheet.{asOption, sheetOf}
 use Rattle.grown.specs.Steps.{sheet-held}
 use Rattle.grown.specs.Tables.{grown-sheet}
 use Rattle.grown.specs.Grown.{grown-is, grown-same}
-use Rattle.readers.specs.Readers.{With, restoredOf, restoreAll, lengthsFit, accepted, refused, readReducedOf}
+use Rattle.lattice.specs.Subdivision.{bornOf}
+use Rattle.readers.specs.BeginLaws.{lengths-table}
+use Rattle.readers.specs.Readers.{With, restoreAll, lengthsFit, accepted, refused, readReducedOf}
 use Rattle.readers.specs.Additions.{Adds, adds-none, adds-slots, held-absent, held-same}
 use Rattle.readers.specs.ReadLaws.{Valid, Lined, read-lines, lines-read}
-use Rattle.readers.specs.RestoreLaws.{restored-at, restored-degree, Restores, RestoredOf, restore-all, Within, In, Lacks, in-within, restores-into}
-use Rattle.archive.specs.Outcomes.{lengths-table, ReducedRead, reduced-ends}
+use Rattle.readers.specs.RestoreLaws.{Restores, RestoredOf, restore-all, Within, In, Lacks, in-within, restores-into}
+use Rattle.archive.specs.Outcomes.{ReducedRead, reduced-ends}
 use Rattle.archive.specs.Returns.{both-within, rising-apart}
 
 -- ---- records of table t that rise, all of them but redundant ones: of such a file the mesh comes back
@@ -45,8 +50,7 @@ pub record Leaves (t : List ℕ) (rs : List Record) : Type 0 where
   pub rest : (r : Record) → lookUp t (r .at) ≡ Held r → redundant t r ≡ false → List·Memᴰ r rs
 
 -- M4's record is the one that restoring enters
-entered : (v : Record) (j : ℕ) → vertex (adjacentAt v j) 3 ((6 + 2 * j + v .k) % 4) (v .n .0) ≡ restoredOf v j
-unfolding restoredOf
+entered : (v : Record) (j : ℕ) → vertex (adjacentAt v j) 3 ((6 + 2 * j + v .k) % 4) (v .n .0) ≡ bornOf v j
 entered v j = refl
 
 module _ (t : List ℕ) (g : Grown t) (rs : List Record) (x : Leaves t rs) where
@@ -80,8 +84,9 @@ module _ (t : List ℕ) (g : Grown t) (rs : List Record) (x : Leaves t rs) where
         let h : lookUp t (adjacentAt v j) ≡ Held a = sheet-held (lookUp t (adjacentAt v j)) a y in
         (a, h, λ none. at a h three none (listed (adjacentAt v j) a h))
       where
-        at : (a : Record) → lookUp t (adjacentAt v j) ≡ Held a → (a .d ≡ 3 → a ≡ vertex (adjacentAt v j) 3 ((6 + 2 * j + v .k) % 4) (v .n .0)) → lookUp u (adjacentAt v j) ≡ Absent → List·Memᴰ a rs ⊎ Redundant t a
-            → a ≡ restoredOf v j
+        at : (a : Record) → lookUp t (adjacentAt v j) ≡ Held a → (a .d ≡ 3 → a ≡ vertex (adjacentAt v j) 3 ((6 + 2 * j + v .k) % 4) (v .n .0))
+            → lookUp u (adjacentAt v j) ≡ Absent → List·Memᴰ a rs ⊎ Redundant t a
+            → a ≡ bornOf v j
         at a h three none (inl k) = held-absent (ap (lookUp u) (sym (lookup-point t o (adjacentAt v j) a h)) ∙ l .held a k) none
         at a h three none (inr k) = three (k .three) ∙ entered v j
 
@@ -95,7 +100,8 @@ module _ (t : List ℕ) (g : Grown t) (rs : List Record) (x : Leaves t rs) where
         let inside = in-within t o u (l .order) within slots w a in
         (w, e, a .order, both-within w t inside (λ p r h. back w e a inside p r h (listed p r h)))
       where
-        back : (w : List ℕ) → restoreAll rs (With u) ≡ With w → Adds (In t) u w → Within w t → (p : Point) (r : Record) → lookUp t p ≡ Held r → List·Memᴰ r rs ⊎ Redundant t r → lookUp w p ≡ Held r
+        back : (w : List ℕ) → restoreAll rs (With u) ≡ With w → Adds (In t) u w → Within w t → (p : Point) (r : Record) → lookUp t p ≡ Held r
+            → List·Memᴰ r rs ⊎ Redundant t r → lookUp w p ≡ Held r
         back w e a inside p r h (inl m) = a .keeps p r (ap (lookUp u) (sym (lookup-point t o p r h)) ∙ l .held r m)
         back w e a inside p r h (inr k) =
             let v = k .centre in
@@ -113,7 +119,8 @@ pub record Back (t : List ℕ) (rs : List Record) (table scratch : List ℕ) : T
   pub same : (p : Point) → lookUp result p ≡ lookUp t p
   pub is : readReducedOf table scratch (lines rs) ≡ cond (someOf (redundant t) rs) (refused 12 0 table scratch) (accepted result scratch)
 
-pub read-back : (t : List ℕ) → Grown t → (rs : List Record) → Leaves t rs → (table scratch : List ℕ) → lengthsFit table scratch ≡ true → length (recordsOf t) ≤ slotsOf table → Back t rs table scratch
+pub read-back : (t : List ℕ) → Grown t → (rs : List Record) → Leaves t rs → (table scratch : List ℕ) → lengthsFit table scratch ≡ true
+    → length (recordsOf t) ≤ slotsOf table → Back t rs table scratch
 read-back t g rs x table scratch fit room =
     let n = slotsOf table in
     let fits = lengths-table table scratch fit in
@@ -126,7 +133,8 @@ read-back t g rs x table scratch fit room =
       result = w;
       order = v;
       same = same;
-      is = reduced-ends table scratch (lines rs) rs u w fit e k ∙ (λ i. cond (grown i) (cond (someOf (alike i) rs) (refused 12 0 table scratch) (accepted w scratch)) (refused 11 0 table scratch));
+      is = reduced-ends table scratch (lines rs) rs u w fit e k
+          ∙ (λ i. cond (grown i) (cond (someOf (alike i) rs) (refused 12 0 table scratch) (accepted w scratch)) (refused 11 0 table scratch));
     }
 
 -- ---- what was read with 0 or 12
@@ -150,15 +158,16 @@ module _ (table scratch f : List ℕ) (kept : Bool) (x : ReducedRead table scrat
       stands r m = restores .adds .keeps (r .at) r (lined .held r m)
 
       -- a record restored is redundant
-      left : (r : Record) → lookUp (x .table) (r .at) ≡ Held r → redundant (x .table) r ≡ false → (lookUp (x .lined) (r .at) ≡ Held r) ⊎ RestoredOf (x .records) r → List·Memᴰ r (x .records)
+      left : (r : Record) → lookUp (x .table) (r .at) ≡ Held r → redundant (x .table) r ≡ false → (lookUp (x .lined) (r .at) ≡ Held r)
+          ⊎ RestoredOf (x .records) r → List·Memᴰ r (x .records)
       left r h e (inl k) = lined .only (r .at) r k
       left r h e (inr (v, m, d, j, i, k)) =
           absurd (not-both (is-redundant (x .table) r (record {
-            three = ap (λ (y : Record). y .d) k ∙ restored-degree v j;
+            three = ap (λ (y : Record). y .d) k;
             centre = v;
             listed = looked-records (x .table) read-order (v .at) v (stands v m);
             six = d;
             place = j;
             below = i;
-            adjacent = sym (ap (λ (y : Record). y .at) k ∙ restored-at v j);
+            adjacent = sym (ap (λ (y : Record). y .at) k);
           })) e)

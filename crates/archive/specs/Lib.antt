@@ -1,5 +1,4 @@
 -- Demand 3: files and grown meshes. What is written comes back; nothing else is accepted; two meshes of one file are one; and how many records there are.
-pub mod LineCount
 pub mod Returns
 -- how the readers end
 pub mod Outcomes

@@ -1,5 +1,5 @@
 -- How a reader comes to 0, and to 12: what was read, restored and judged on the way. Each way there and back.
--- `lengths-table`, `table-lengths` lengths that fit · `full-ends`, `full-zero` · `reduced-ends`, `reduced-zero`, `reduced-twelve`.
+-- `full-ends`, `full-zero` · `reduced-ends`, `reduced-zero`, `reduced-twelve`.
 -- Assumes nothing.
 use mathlib.Core.Path.{_≡_, refl, ap, _∙_}
 use mathlib.Core.Bool.{Bool, true, false, cond, _&&_}
@@ -11,24 +11,20 @@ use borrow.Author.Tests.{eq-eqb}
 use lib.Dec.{eqb}
 use lib.ListN.{length}
 use Rattle.laws.specs.Each.{both-left}
+use Rattle.laws.specs.Some.{someOf}
 use Rattle.lattice.specs.declared.records.Record.{Record}
 use Rattle.table.specs.Slots.{Table, fitsLength, slotsOf, clearedOf}
 use Rattle.table.specs.SlotLaws.{table-test, test-table}
-use Rattle.writers.specs.Files.{someOf, redundant}
+use Rattle.writers.specs.Files.{redundant}
 use Rattle.grown.specs.Grown.{isGrown}
-use Rattle.readers.specs.Readers.{Lines, Read, Fault, readLines, Restored, With, Stopped, restoreAll, Outcome, outcome, refused, accepted, lengthsFit, endFull, endRestored, endReduced, readFullOf, readReducedOf}
+use Rattle.readers.specs.Readers.{Lines, Read, Fault, readLines, Restored, With, Stopped, restoreAll, Outcome, outcome, refused, accepted, lengthsFit}
+use Rattle.readers.specs.Readers.{endFull, endRestored, endReduced, readFullOf, readReducedOf}
 use Rattle.readers.specs.FaultLaws.{fault-number, stop-number}
-
-module _ (t s : List ℕ) where
-  pub lengths-table : lengthsFit t s ≡ true → Table t (slotsOf t)
-  lengths-table h = test-table t (both-left (fitsLength (length t)) (eqb (length s) (length t)) h)
-
-  pub table-lengths : Table t (slotsOf t) → length s ≡ length t → lengthsFit t s ≡ true
-  table-lengths w e = ap (λ (b : Bool). b && eqb (length s) (length t)) (table-test t (slotsOf t) w) ∙ eq-eqb (length s) (length t) e
 
 module _ (t s f : List ℕ) where
   -- ---- the full reader
-  pub full-ends : (rs : List Record) (u : List ℕ) → lengthsFit t s ≡ true → readLines f (clearedOf t) ≡ Read rs u → readFullOf t s f ≡ cond (isGrown u) (accepted u s) (refused 11 0 t s)
+  pub full-ends : (rs : List Record) (u : List ℕ) → lengthsFit t s ≡ true → readLines f (clearedOf t) ≡ Read rs u → readFullOf t s f
+      ≡ cond (isGrown u) (accepted u s) (refused 11 0 t s)
   unfolding readFullOf
   full-ends rs u fit e = λ i. cond (fit i) (endFull t s (e i)) (outcome 1 0 t s)
 
@@ -44,8 +40,18 @@ module _ (t s f : List ℕ) where
   unfolding readFullOf
   full-zero = go (lengthsFit t s) refl (readLines f (clearedOf t)) refl
     where
-      judged : lengthsFit t s ≡ true → (rs : List Record) (u : List ℕ) → readLines f (clearedOf t) ≡ Read rs u → (b : Bool) → isGrown u ≡ b → cond b (accepted u s) (refused 11 0 t s) .number ≡ 0 → FullRead
-      judged fit rs u e true g z = record { fit = fit; records = rs; table = u; lines = e; grown = g; is = full-ends rs u fit e ∙ ap (λ (b : Bool). cond b (accepted u s) (refused 11 0 t s)) g }
+      judged : lengthsFit t s ≡ true → (rs : List Record) (u : List ℕ) → readLines f (clearedOf t) ≡ Read rs u → (b : Bool) → isGrown u ≡ b
+          → cond b (accepted u s) (refused 11 0 t s) .number ≡ 0 → FullRead
+      judged fit rs u e true g z =
+          record {
+            fit = fit;
+            records = rs;
+            table = u;
+            lines = e;
+            grown = g;
+            is = full-ends rs u fit e
+                ∙ ap (λ (b : Bool). cond b (accepted u s) (refused 11 0 t s)) g;
+          }
       judged fit rs u e false g z = absurd (omega arith)
 
       go : (b : Bool) → lengthsFit t s ≡ b → (x : Lines) → readLines f (clearedOf t) ≡ x → cond b (endFull t s x) (outcome 1 0 t s) .number ≡ 0 → FullRead
@@ -57,7 +63,8 @@ module _ (t s f : List ℕ) where
   abbrev pub ended : List Record → List ℕ → Outcome
   ended rs w = cond (isGrown w) (cond (someOf (redundant w) rs) (refused 12 0 t s) (accepted w s)) (refused 11 0 t s)
 
-  pub reduced-ends : (rs : List Record) (u w : List ℕ) → lengthsFit t s ≡ true → readLines f (clearedOf t) ≡ Read rs u → restoreAll rs (With u) ≡ With w → readReducedOf t s f ≡ ended rs w
+  pub reduced-ends : (rs : List Record) (u w : List ℕ) → lengthsFit t s ≡ true → readLines f (clearedOf t) ≡ Read rs u → restoreAll rs (With u)
+      ≡ With w → readReducedOf t s f ≡ ended rs w
   unfolding readReducedOf
   reduced-ends rs u w fit e k = (λ i. cond (fit i) (endReduced t s (e i)) (outcome 1 0 t s)) ∙ ap (endRestored t s rs) k
 
@@ -90,7 +97,8 @@ module _ (t s f : List ℕ) where
       same true false w z = absurd (omega arith)
       same false true w z = absurd (omega arith)
 
-      judged : lengthsFit t s ≡ true → (rs : List Record) (u w : List ℕ) → readLines f (clearedOf t) ≡ Read rs u → restoreAll rs (With u) ≡ With w → (b : Bool) → isGrown w ≡ b
+      judged : lengthsFit t s ≡ true → (rs : List Record) (u w : List ℕ) → readLines f (clearedOf t) ≡ Read rs u → restoreAll rs (With u) ≡ With w
+          → (b : Bool) → isGrown w ≡ b
           → cond b (cond (someOf (redundant w) rs) (refused 12 0 t s) (accepted w s)) (refused 11 0 t s) .number ≡ cond kept 12 0 → ReducedRead kept
       judged fit rs u w e k true g z =
           let r : someOf (redundant w) rs ≡ kept = same (someOf (redundant w) rs) kept w z in
@@ -107,13 +115,16 @@ module _ (t s f : List ℕ) where
           }
       judged fit rs u w e k false g z = other 11 (omega arith) (omega arith) z
 
-      back : lengthsFit t s ≡ true → (rs : List Record) (u : List ℕ) → readLines f (clearedOf t) ≡ Read rs u → (x : Restored) → restoreAll rs (With u) ≡ x → endRestored t s rs x .number ≡ cond kept 12 0 → ReducedRead kept
+      back : lengthsFit t s ≡ true → (rs : List Record) (u : List ℕ) → readLines f (clearedOf t) ≡ Read rs u → (x : Restored)
+          → restoreAll rs (With u) ≡ x → endRestored t s rs x .number ≡ cond kept 12 0 → ReducedRead kept
       back fit rs u e (Stopped number) k z = let (l, h) = stop-number rs u number k in other number (omega arith) h z
       back fit rs u e (With w) k z = judged fit rs u w e k (isGrown w) refl z
 
-      go : (b : Bool) → lengthsFit t s ≡ b → (x : Lines) → readLines f (clearedOf t) ≡ x → cond b (endReduced t s x) (outcome 1 0 t s) .number ≡ cond kept 12 0 → ReducedRead kept
+      go : (b : Bool) → lengthsFit t s ≡ b → (x : Lines) → readLines f (clearedOf t) ≡ x → cond b (endReduced t s x) (outcome 1 0 t s) .number
+          ≡ cond kept 12 0 → ReducedRead kept
       go false fit x e z = other 1 (omega arith) (omega arith) z
-      go true fit (Fault number line) e z = let (l, h) = fault-number f (length f) 0 1 none (clearedOf t) number line e in other number (omega arith) (omega arith) z
+      go true fit (Fault number line) e z = let (l, h) = fault-number f (length f) 0 1 none (clearedOf t) number line e in
+          other number (omega arith) (omega arith) z
       go true fit (Read rs u) e z = back fit rs u e (restoreAll rs (With u)) refl z
 
   pub reduced-zero : readReducedOf t s f .number ≡ 0 → ReducedRead false

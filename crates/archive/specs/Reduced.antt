@@ -1,4 +1,5 @@
--- The reduced file of a grown mesh: `reduced-returns` it comes back · `reduced-accepted` nothing but grown meshes and their files is accepted · `reduced-one` two grown meshes of one file hold the same ·
+-- The reduced file of a grown mesh: `reduced-returns` it comes back · `reduced-accepted` nothing but grown meshes and their files is accepted ·
+-- `reduced-one` two grown meshes of one file hold the same ·
 -- `reduced-count` as many records as lines and redundant ones · `kept-twelve`, `twelve-kept` "12: grown, but a redundant record was kept in a reduced file".
 -- Assumes nothing.
 use mathlib.Core.Path.{_≡_, refl, sym, ap, _∙_, subst}
@@ -8,6 +9,7 @@ use Prim.Native.Nat.{ℕ, _+_, _≤_, _<_}
 use native.Mathlib.Omega.{arith}
 use native.Mathlib.Decide.{decLt}
 use lib.ListN.{length}
+use Rattle.laws.specs.Some.{someOf, some-at, at-some, none-at, at-none}
 use Rattle.lattice.specs.declared.points.Point.{Point}
 use Rattle.lattice.specs.declared.records.Record.{Record}
 use Rattle.table.specs.Slots.{slotsOf}
@@ -16,15 +18,15 @@ use Rattle.table.specs.Entries.{lookUp, recordsOf}
 use Rattle.table.specs.MapLaws.{records-looked, looked-records, records-count}
 use Rattle.text.specs.Line.{lines}
 use Rattle.writers.specs.SortLaws.{sort-length}
-use Rattle.writers.specs.Files.{before, sorted, someOf, redundant, leaveOut, reducedFile}
+use Rattle.writers.specs.Files.{before, sorted, redundant, leaveOut, reducedFile}
 use Rattle.writers.specs.FileLaws.{left-rises, left-holds, holds-left, left-one}
-use Rattle.writers.specs.RedundantLaws.{some-at, at-some, none-at, at-none}
 use Rattle.mesh.specs.Grown.{Grown}
 use Rattle.grown.specs.Grown.{is-grown}
+use Rattle.readers.specs.BeginLaws.{table-lengths}
 use Rattle.readers.specs.Readers.{Outcome, lengthsFit, accepted, refused, readReducedOf}
-use Rattle.archive.specs.Outcomes.{table-lengths, ReducedRead, reduced-zero, reduced-twelve}
+use Rattle.archive.specs.Outcomes.{ReducedRead, reduced-zero, reduced-twelve}
 use Rattle.archive.specs.Returns.{Returns, accepted-returns}
-use Rattle.archive.specs.LineCount.{linesIn, lines-in}
+use Rattle.text.specs.LineCount.{linesIn, lines-in}
 use Rattle.archive.specs.Leaves.{Leaves, read-back, lined, read-order, read-slots, read-leaves}
 
 -- the records of the reduced file
@@ -40,12 +42,14 @@ reduced-leaves t o =
     }
 
 -- the reduced file of a grown mesh, read into a table with slots for its records, gives back the mesh
-pub reduced-returns : (t table scratch : List ℕ) → Grown t → lengthsFit table scratch ≡ true → length (recordsOf t) ≤ slotsOf table → Returns t (readReducedOf table scratch (reducedFile t))
+pub reduced-returns : (t table scratch : List ℕ) → Grown t → lengthsFit table scratch ≡ true → length (recordsOf t) ≤ slotsOf table
+    → Returns t (readReducedOf table scratch (reducedFile t))
 reduced-returns t table scratch g fit room =
     let o = g .order in
     let b = read-back t g (reduced t) (reduced-leaves t o) table scratch fit room in
     let none : someOf (redundant t) (reduced t) ≡ false = at-none (redundant t) (reduced t) (λ r m. left-holds t o (redundant t) r m .1) in
-    subst (Returns t) (sym (b .is ∙ ap (λ (k : Bool). cond k (refused 12 0 table scratch) (accepted (b .result) scratch)) none)) (accepted-returns t (b .result) scratch o (b .order) (b .same))
+    subst (Returns t) (sym (b .is ∙ ap (λ (k : Bool). cond k (refused 12 0 table scratch) (accepted (b .result) scratch)) none))
+    (accepted-returns t (b .result) scratch o (b .order) (b .same))
 
 -- ---- what is read was written
 
@@ -60,7 +64,8 @@ left-out f [] = refl
 left-out f (r ∷ rs) = go (f r) (left-out f rs)
   where
     go : (b : Bool) → length rs ≡ length (leaveOut f rs) + length (leaveOut (λ r. not (f r)) rs)
-        → length (r ∷ rs) ≡ length (cond b (leaveOut f rs) (r ∷ leaveOut f rs)) + length (cond (not b) (leaveOut (λ r. not (f r)) rs) (r ∷ leaveOut (λ r. not (f r)) rs))
+        → length (r ∷ rs) ≡ length (cond b (leaveOut f rs) (r ∷ leaveOut f rs)) + length
+        (cond (not b) (leaveOut (λ r. not (f r)) rs) (r ∷ leaveOut (λ r. not (f r)) rs))
     go true ih = omega arith
     go false ih = omega arith
 
@@ -85,12 +90,20 @@ module _ (table scratch f : List ℕ) (z : readReducedOf table scratch f .number
 
   -- what is accepted is grown, and the file is its reduced file, byte for byte
   pub reduced-accepted : Grown (readReducedOf table scratch f .table) × (f ≡ reducedFile (readReducedOf table scratch f .table))
-  reduced-accepted = subst (λ (o : Outcome). Grown (o .table) × (f ≡ reducedFile (o .table))) (sym (way .is)) (is-grown (way .table) (way .grown), text ∙ ap lines records)
+  reduced-accepted = subst (λ (o : Outcome). Grown (o .table) × (f ≡ reducedFile (o .table))) (sym (way .is))
+      (is-grown (way .table) (way .grown), text ∙ ap lines records)
 
   -- as many records as lines and redundant ones
   pub reduced-count : length (recordsOf (readReducedOf table scratch f .table)) ≡ linesIn f + length (redundants (readReducedOf table scratch f .table))
   reduced-count = subst (λ (o : Outcome). length (recordsOf (o .table)) ≡ linesIn f + length (redundants (o .table))) (sym (way .is))
-      (omega (arith, left-out (redundant (way .table)) (recordsOf (way .table)), ap linesIn text, lines-in (way .records), ap length records, sort-length before (leaveOut (redundant (way .table)) (recordsOf (way .table)))))
+      (omega (
+        arith,
+        left-out (redundant (way .table)) (recordsOf (way .table)),
+        ap linesIn text,
+        lines-in (way .records),
+        ap length records,
+        sort-length before (leaveOut (redundant (way .table)) (recordsOf (way .table))),
+      ))
 
 -- ---- two grown meshes with one reduced file have the same record at every point: the file is read into the larger table
 pub reduced-one : (t u : List ℕ) → Grown t → Grown u → reducedFile t ≡ reducedFile u → (p : Point) → lookUp t p ≡ lookUp u p
@@ -110,11 +123,13 @@ reduced-one t u g h e p = go (decLt (slotsOf t) (slotsOf u))
 -- ---- "12: grown, but a redundant record was kept in a reduced file"
 
 -- the file of such records is refused with 12
-pub kept-twelve : (t table scratch : List ℕ) → Grown t → (rs : List Record) → Leaves t rs → (r : Record) → List·Memᴰ r rs → redundant t r ≡ true → lengthsFit table scratch ≡ true → length (recordsOf t) ≤ slotsOf table
+pub kept-twelve : (t table scratch : List ℕ) → Grown t → (rs : List Record) → Leaves t rs → (r : Record) → List·Memᴰ r rs → redundant t r ≡ true
+    → lengthsFit table scratch ≡ true → length (recordsOf t) ≤ slotsOf table
     → readReducedOf table scratch (lines rs) .number ≡ 12
 kept-twelve t table scratch g rs x r m e fit room =
     let b = read-back t g rs x table scratch fit room in
-    ap (λ (o : Outcome). o .number) (b .is ∙ ap (λ (k : Bool). cond k (refused 12 0 table scratch) (accepted (b .result) scratch)) (at-some (redundant t) rs r m e))
+    ap (λ (o : Outcome). o .number)
+    (b .is ∙ ap (λ (k : Bool). cond k (refused 12 0 table scratch) (accepted (b .result) scratch)) (at-some (redundant t) rs r m e))
 
 -- and no other file
 pub record Kept (table f : List ℕ) : Type 0 where

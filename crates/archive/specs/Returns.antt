@@ -1,4 +1,5 @@
--- What it is that a mesh comes back: `Returns`, `accepted-returns` · `both-within` two tables, each with what the other holds, hold the same · `rising-apart` records that rise have each a point of their own.
+-- What it is that a mesh comes back: `Returns`, `accepted-returns` · `both-within` two tables, each with what the other holds, hold the same ·
+-- `rising-apart` records that rise have each a point of their own.
 -- Assumes nothing.
 use mathlib.Core.Path.{_≡_, refl, sym, ap, _∙_}
 use mathlib.Core.List.{List, [], _∷_, List·Memᴰ·head, List·Memᴰ·tail}
@@ -44,6 +45,7 @@ both-within t u f g p = go (lookUp t p) (lookUp u p) refl refl
 pub rising-apart : (rs : List Record) → Rising Before rs → Valid rs → Apart rs
 rising-apart [] h v = tt
 rising-apart (r ∷ rs) h v = (
-  λ q m e. (let l = before-order r q (v r (List·Memᴰ·head refl)) (v q (List·Memᴰ·tail m)) (h .0 q m) in let k : orderOf (q .at) ≡ orderOf (r .at) = ap orderOf e in omega arith),
+  λ q m e. (let l = before-order r q (v r (List·Memᴰ·head refl)) (v q (List·Memᴰ·tail m)) (h .0 q m) in let k : orderOf (q .at) ≡ orderOf (r .at) =
+      ap orderOf e in omega arith),
   rising-apart rs (h .1) (λ q m. v q (List·Memᴰ·tail m)),
 )

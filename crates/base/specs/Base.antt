@@ -1,6 +1,6 @@
 -- Document 01, "Base": a list of centres judged, and the records it lays into a table. What the promise cites: `baseOf`.
--- `centreAt`, `isCentre` the centres of the list · `goodCentre`, `badAt`, `firstBad` the list judged · `cornerOf`, `internal`, `hexagonOf` the seven records of a hexagon ·
--- `Laid`, `laidOf` all of them entered · `Base`, `baseOf` what the call answers.
+-- `centreAt`, `isListed` the centres of the list · `goodCentre`, `badAt`, `firstBad` the list judged · `cornerOf`, `internal`, `hexagonOf` the seven
+-- records of a hexagon · `Laid`, `laidOf` all of them entered · `Answered`, `baseOf` what the call answers.
 -- Assumes nothing.
 use mathlib.Core.Bool.{Bool, cond, _&&_, not, _||_}
 use mathlib.Core.List.{List}
@@ -9,6 +9,7 @@ use lib.Dec.{eqb, ltb, leb}
 use lib.IntN.{ℤ, pos, natAbs}
 use lib.ListN.{length, getD}
 use Rattle.laws.specs.Rules.{upto, among}
+use Rattle.laws.specs.Choices.{unless}
 use Rattle.lattice.specs.Points.{classOf}
 use Rattle.lattice.specs.Points.{pt, turns, sumOf}
 use Rattle.table.specs.Search.{samePoint, findOf}
@@ -35,8 +36,8 @@ unfoldable pub listedIn : List ℤ → ℕ → Point → Bool
 listedIn cs n p = among n (λ i. samePoint (centreAt cs i) p)
 
 -- the hexagons of a list, by their centres
-abbrev pub isCentre : List ℤ → Point → Bool
-isCentre cs p = listedIn cs (centresIn cs) p
+abbrev pub isListed : List ℤ → Point → Bool
+isListed cs p = listedIn cs (centresIn cs) p
 
 -- "a centre out of range, of the wrong remainder, or repeated"; "of two equal ones the later is bad"
 abbrev pub badAt : List ℤ → ℕ → Bool
@@ -103,7 +104,7 @@ layHexagon listed p (suc k) l = lay (layHexagon listed p k l) (hexagonOf listed 
 -- "Records enter in list order": the first n hexagons
 unfoldable pub layAll : List ℤ → ℕ → Laid → Laid
 layAll cs zero l = l
-layAll cs (suc n) l = layHexagon (isCentre cs) (centreAt cs n) 7 (layAll cs n l)
+layAll cs (suc n) l = layHexagon (isListed cs) (centreAt cs n) 7 (layAll cs n l)
 
 -- "The lent table is first cleared to 255"
 unfoldable pub laidOf : List ℕ → List ℤ → Laid
@@ -111,28 +112,27 @@ laidOf t cs = layAll cs (centresIn cs) (Room (clearedOf t))
 
 -- ---- the call
 -- the number, the place of the first bad centre, and the table after
-pub record Base : Type 0 where
+pub record Answered : Type 0 where
   pub number : ℕ
   pub place : ℕ
   pub bytes : List ℕ
 
-abbrev pub outcome : ℕ → ℕ → List ℕ → Base
-outcome n p t = record { number = n; place = p; bytes = t }
+abbrev pub answered : ℕ → ℕ → List ℕ → Answered
+answered n p t = record { number = n; place = p; bytes = t }
 
 -- "8: too few free slots"
-abbrev pub fromLaid : List ℕ → Laid → Base
-fromLaid t (Room u) = outcome 0 0 u
-fromLaid t NoRoom = outcome 8 0 (clearedOf t)
+abbrev pub fromLaid : List ℕ → Laid → Answered
+fromLaid t (Room u) = answered 0 0 u
+fromLaid t NoRoom = answered 8 0 (clearedOf t)
 
 -- "base list empty, of odd length"
 abbrev pub unpaired : List ℤ → Bool
 unpaired cs = eqb (length cs) 0 || not (eqb (length cs % 2) 0)
 
 -- "Base 1, 2, 8. .. Base gives the 0-based place, counted in centres, of the first bad centre, else 0; an empty or odd list gives place 0, its centres unread."
-unfoldable pub baseOf : List ℕ → List ℤ → Base
+unfoldable pub baseOf : List ℕ → List ℤ → Answered
 baseOf t cs =
-    cond (fitsLength (length t))
-    (cond (unpaired cs) (outcome 2 0 (clearedOf t))
-    (cond (ltb (badPlace cs) (centresIn cs)) (outcome 2 (badPlace cs) (clearedOf t))
+    unless (fitsLength (length t)) (answered 1 0 t)
+    (cond (unpaired cs) (answered 2 0 (clearedOf t))
+    (cond (ltb (badPlace cs) (centresIn cs)) (answered 2 (badPlace cs) (clearedOf t))
     (fromLaid t (laidOf t cs))))
-    (outcome 1 0 t)

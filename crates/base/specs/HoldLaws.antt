@@ -1,8 +1,8 @@
 -- What a table holds while a base is laid into it.
--- `corner-class` a corner's remainder · `corner-back` the centre is a corner's corner · `Holding` a table holds the vertices of some points · `all-holds`, `all-short` after the first n hexagons it
--- holds theirs, or there are more points than slots.
--- Each record that is entered is valid and is `vertexOf` its point, so that it is no matter which of the hexagons round a point enters it: after any number of records the table is in order and
--- holds the vertices of the points so far.
+-- `corner-class` a corner's remainder · `corner-back` the centre is a corner's corner · `Holding` a table holds the vertices of some points ·
+-- `all-holds`, `all-short` after the first n hexagons it holds theirs, or there are more points than slots.
+-- Each record that is entered is valid and is `baseRecord` its point, so that it is no matter which of the hexagons round a point enters it: after
+-- any number of records the table is in order and holds the vertices of the points so far.
 -- Assumes nothing.
 use mathlib.Core.Path.{_≡_, refl, sym, _∙_, ap, subst}
 use mathlib.Core.Bool.{Bool, true, false, cond, _&&_, _||_}
@@ -14,14 +14,15 @@ use borrow.Author.Tests.{eq-eqb, ne-eqb, le-leb}
 use lib.IntN.{ℤ, pos, _+ℤ_, natAbs, +ℤ-assoc, +ℤ-idr, _-ℤ_}
 use lib.ListN.{length}
 use native.Mathlib.Nat.{mod-lt}
-use Rattle.table.specs.MapLaws.{there, room, full, Searched, searched, enter-length, enter-order, enter-finds, enter-keeps, clear-length, clear-order, clear-absent, clear-free, records-count, enter-records}
+use Rattle.table.specs.MapLaws.{there, room, full, Searched, searched, enter-length, enter-order, enter-finds, enter-keeps, clear-length, clear-order}
+use Rattle.table.specs.MapLaws.{clear-absent, clear-free, records-count, enter-records}
 use Rattle.laws.specs.Each.{not-both}
 use Rattle.laws.specs.Rules.{_≡?_, _≡ᶻ?_, _&_, rule}
 use Rattle.laws.specs.Residue.{modZ, left3-plus}
 use Rattle.laws.specs.Linear.{‵, _⊕_, _⊝_, same}
 use Rattle.lattice.specs.Points.{classOf}
 use Rattle.lattice.specs.Records.{suitsOf, validAt, validOf}
-use Rattle.lattice.specs.Points.{pt}
+use Rattle.lattice.specs.Points.{pt, turns}
 use Rattle.table.specs.Search.{samePoint}
 use Rattle.table.specs.Entries.{lookUp, enterOf, recordsOf}
 use Rattle.table.specs.Order.{InOrder}
@@ -31,15 +32,17 @@ use Rattle.lattice.specs.declared.points.Point.{Point}
 use Rattle.lattice.specs.declared.records.Record.{Record}
 use Rattle.table.specs.declared.entries.Looked.the-variants.{Absent, Held}
 use Rattle.base.specs.Marks.{Within}
-use Rattle.base.specs.Base.{centreAt, centresIn, goodCentre, isCentre, cornerOf, internal, at0, centreRecord, cornerRecord, hexagonOf, Laid, Room, NoRoom, layAt, lay, layHexagon, layAll}
-use Rattle.base.specs.LayLaws.{stepA, stepB, corner-is, corner-within, hexagon-no-room}
-use Rattle.base.specs.Vertices.{hexagonPoint, inHexagon, inFirst, vertexOf, newPoints, pointsIn}
+use Rattle.base.specs.Base.{centreAt, centresIn, goodCentre, isListed, cornerOf, internal, at0, centreRecord, cornerRecord, hexagonOf, Laid}
+use Rattle.base.specs.Base.{Room, NoRoom, layAt, lay, layHexagon, layAll}
+use Rattle.base.specs.LayLaws.{stepA, stepB, corner-is, corner-within, corner-at, hexagon-no-room}
+use Rattle.base.specs.Vertices.{hexagonPoint, inHexagon, inFirst, baseRecord, newPoints, pointsIn}
 use Rattle.base.specs.MarkLaws.{Good, good-is}
 
 -- ---- corners
 
 -- a corner's remainder is 1 in the even directions, 2 in the odd ones
 pub corner-class : (p : Point) (j : ℕ) → p .m .0 ≡ 0 → classOf p ≡ 0 → j < 6 → classOf (cornerOf p j) ≡ 1 + j % 2
+unfolding turns
 corner-class p j d e h =
     let a = ‵ (p .a) in
     let b = ‵ (p .b) in
@@ -51,6 +54,7 @@ corner-class p j d e h =
 
 -- the corner three directions on from a corner is the centre
 pub corner-back : (p : Point) (j : ℕ) → p .m .0 ≡ 0 → j < 6 → cornerOf (cornerOf p j) ((j + 3) % 6) ≡ p
+unfolding turns
 corner-back p j d h =
     let k = (j + 3) % 6 in
     let l : k < 6 = mod-lt (j + 3) (lit< tt) in
@@ -69,16 +73,11 @@ module _ (listed : Point → Bool) (c : Point) (g : Good c) (d : c .m .0 ≡ 0) 
   near = record { wide = g .wide; high = g .high; depth = d }
 
   hexagon-point : (k : ℕ) → hexagonOf listed c k .at ≡ hexagonPoint c k
-  unfolding hexagonOf cornerRecord
+  unfolding hexagonOf
   hexagon-point zero = refl
-  hexagon-point (suc j) = go (internal listed (cornerOf c j)) (eqb (classOf (cornerOf c j)) 1)
-    where
-      go : (a b : Bool) → cond a (cond b (at0 (cornerOf c j) 6 0) (at0 (cornerOf c j) 3 2)) (at0 (cornerOf c j) 0 0) .at ≡ cornerOf c j
-      go true true = refl
-      go true false = refl
-      go false b = refl
+  hexagon-point (suc j) = corner-at listed (cornerOf c j)
 
-  hexagon-vertex : (k : ℕ) → k < 7 → hexagonOf listed c k ≡ vertexOf listed (hexagonPoint c k)
+  hexagon-vertex : (k : ℕ) → k < 7 → hexagonOf listed c k ≡ baseRecord listed (hexagonPoint c k)
   unfolding hexagonOf
   hexagon-vertex zero h = sym (ap (λ (b : Bool). cond b (centreRecord c) (cornerRecord listed c)) (eq-eqb (classOf c) 0 (g .class)))
   hexagon-vertex (suc j) h =
@@ -87,7 +86,8 @@ module _ (listed : Point → Bool) (c : Point) (g : Good c) (d : c .m .0 ≡ 0) 
 
   flat-valid : (p : Point) (dg k : ℕ) → Within 251 p → suitsOf dg k 0 ≡ true → validOf (at0 p dg k) ≡ true
   flat-valid p dg k w s =
-      ap (λ (m : ℕ). validAt (p .a) (p .b) m dg k 0) (w .depth) ∙ (λ i. le-leb (natAbs (p .a)) 251 (w .wide) i && (le-leb (natAbs (p .b)) 251 (w .high) i && s i))
+      ap (λ (m : ℕ). validAt (p .a) (p .b) m dg k 0) (w .depth)
+      ∙ (λ i. le-leb (natAbs (p .a)) 251 (w .wide) i && (le-leb (natAbs (p .b)) 251 (w .high) i && s i))
 
   hexagon-valid : (k : ℕ) → k < 7 → validOf (hexagonOf listed c k) ≡ true
   unfolding hexagonOf cornerRecord
@@ -110,7 +110,7 @@ module _ (listed : Point → Bool) (c : Point) (g : Good c) (d : c .m .0 ≡ 0) 
 -- the points p of which `laid p` is so, n in number, and no other
 pub record Holding (listed : Point → Bool) (slots : ℕ) (u : List ℕ) (laid : Point → Bool) (n : ℕ) : Type 0 where
   pub order : InOrder u
-  pub holds : (p : Point) → lookUp u p ≡ cond (laid p) (Held (vertexOf listed p)) Absent
+  pub holds : (p : Point) → lookUp u p ≡ cond (laid p) (Held (baseRecord listed p)) Absent
   pub count : length (recordsOf u) ≡ n
   pub wide : slotsOf u ≡ slots
 
@@ -128,7 +128,7 @@ module _ (listed : Point → Bool) (slots : ℕ) (u : List ℕ) (laid : Point �
       go : (b : Bool) → laid (r .at) ≡ b → laid (r .at) ≡ true
       go true e = e
       go false e =
-          let a : Held q ≡ Absent = sym k ∙ h .holds (r .at) ∙ ap (λ (b : Bool). cond b (Held (vertexOf listed (r .at))) Absent) e in
+          let a : Held q ≡ Absent = sym k ∙ h .holds (r .at) ∙ ap (λ (b : Bool). cond b (Held (baseRecord listed (r .at))) Absent) e in
           absurd (let z : _≡_ {A = ℕ} 0 1 = cc in omega arith)
 
   absent-laid : lookUp u (r .at) ≡ Absent → laid (r .at) ≡ false
@@ -137,7 +137,8 @@ module _ (listed : Point → Bool) (slots : ℕ) (u : List ℕ) (laid : Point �
       go : (b : Bool) → laid (r .at) ≡ b → laid (r .at) ≡ false
       go false e = e
       go true e =
-          let a : Absent ≡ Held (vertexOf listed (r .at)) = sym k ∙ h .holds (r .at) ∙ ap (λ (b : Bool). cond b (Held (vertexOf listed (r .at))) Absent) e in
+          let a : Absent ≡ Held (baseRecord listed (r .at)) = sym k ∙ h .holds (r .at)
+          ∙ ap (λ (b : Bool). cond b (Held (baseRecord listed (r .at))) Absent) e in
           absurd (let z : _≡_ {A = ℕ} 0 1 = cc in omega arith)
 
   -- no slot is left: its point is new, and every slot is taken
@@ -149,7 +150,7 @@ module _ (listed : Point → Bool) (slots : ℕ) (u : List ℕ) (laid : Point �
       go (room i f l s a k) = room-none (enterOf u r) (sym (ap (layAt u r) f) ∙ e)
       go (full f a k) = (absent-laid a, omega (arith, h .count, h .wide, records-count u, k))
 
-  module _ (ok : validOf r ≡ true) (is : r ≡ vertexOf listed (r .at)) where
+  module _ (ok : validOf r ≡ true) (is : r ≡ baseRecord listed (r .at)) where
     -- one record more
     lay-holds : (v : List ℕ) → lay (Room u) r ≡ Room v → Holding listed slots v (λ p. samePoint (r .at) p || laid p) (n + cond (laid (r .at)) 0 1)
     lay-holds v e = go (searched u (h .order .fits) (r .at))
@@ -161,7 +162,7 @@ module _ (listed : Point → Bool) (slots : ℕ) (u : List ℕ) (laid : Point �
             subst (λ (x : List ℕ). Holding listed slots x (λ p. samePoint (r .at) p || laid p) (n + cond (laid (r .at)) 0 1)) same
             (record {
               order = h .order;
-              holds = λ p. h .holds p ∙ ap (λ (b : Bool). cond b (Held (vertexOf listed p)) Absent) (old p t (samePoint (r .at) p) refl);
+              holds = λ p. h .holds p ∙ ap (λ (b : Bool). cond b (Held (baseRecord listed p)) Absent) (old p t (samePoint (r .at) p) refl);
               count = h .count ∙ (let z : n ≡ n + 0 = omega arith in z) ∙ sym (ap (λ (b : Bool). n + cond b 0 1) t);
               wide = h .wide;
             })
@@ -179,10 +180,10 @@ module _ (listed : Point → Bool) (slots : ℕ) (u : List ℕ) (laid : Point �
               wide = ap slotsIn (enter-length u r) ∙ h .wide;
             })
           where
-            new : (p : Point) (b : Bool) → samePoint (r .at) p ≡ b → lookUp (enterOf u r) p ≡ cond (b || laid p) (Held (vertexOf listed p)) Absent
+            new : (p : Point) (b : Bool) → samePoint (r .at) p ≡ b → lookUp (enterOf u r) p ≡ cond (b || laid p) (Held (baseRecord listed p)) Absent
             new p true x =
                 let q = same-true (r .at) p x in
-                ap (lookUp (enterOf u r)) (sym q) ∙ enter-finds u (h .order) r ok a k ∙ ap Held (is ∙ ap (vertexOf listed) q)
+                ap (lookUp (enterOf u r)) (sym q) ∙ enter-finds u (h .order) r ok a k ∙ ap Held (is ∙ ap (baseRecord listed) q)
             new p false x = enter-keeps u (h .order) r ok p (λ q. not-both (ap (samePoint (r .at)) q ∙ same-refl (r .at)) x) ∙ h .holds p
         go (full f a k) = room-none v (sym e ∙ ap (layAt u r) f)
 
@@ -192,20 +193,24 @@ or-assoc : (a b c : Bool) → a || (b || c) ≡ (a || b) || c
 or-assoc true b c = refl
 or-assoc false b c = refl
 
-module _ (listed : Point → Bool) (slots : ℕ) (c : Point) (g : Good c) (d : c .m .0 ≡ 0) (u : List ℕ) (laid : Point → Bool) (n : ℕ) (h : Holding listed slots u laid n) where
+module _ (listed : Point → Bool) (slots : ℕ) (c : Point) (g : Good c) (d : c .m .0 ≡ 0)
+    (u : List ℕ) (laid : Point → Bool) (n : ℕ) (h : Holding listed slots u laid n) where
   -- as the code goes, one record after the other
-  more : (k : ℕ) → k < 7 → (w v : List ℕ) → Holding listed slots w (λ p. inHexagon c k p || laid p) (n + newPoints laid c k) → lay (Room w) (hexagonOf listed c k) ≡ Room v
+  more : (k : ℕ) → k < 7 → (w v : List ℕ) → Holding listed slots w (λ p. inHexagon c k p || laid p) (n + newPoints laid c k)
+      → lay (Room w) (hexagonOf listed c k) ≡ Room v
       → Holding listed slots v (λ p. inHexagon c (suc k) p || laid p) (n + newPoints laid c (suc k))
   unfolding inHexagon newPoints
   more k l w v ih e =
       let r = hexagonOf listed c k in
       let q = hexagon-point listed c g d k in
-      let x = lay-holds listed slots w (λ p. inHexagon c k p || laid p) (n + newPoints laid c k) ih r (hexagon-valid listed c g d k l) (hexagon-vertex listed c g d k l ∙ ap (vertexOf listed) (sym q)) v e in
+      let x = lay-holds listed slots w (λ p. inHexagon c k p || laid p) (n + newPoints laid c k) ih r
+      (hexagon-valid listed c g d k l) (hexagon-vertex listed c g d k l ∙ ap (baseRecord listed) (sym q)) v e in
       let at : n + newPoints laid c k + cond (inHexagon c k (r .at) || laid (r .at)) 0 1 ≡ n + newPoints laid c (suc k) =
-      ap (λ (p : Point). n + newPoints laid c k + cond (inHexagon c k p || laid p) 0 1) q ∙ sum n (newPoints laid c k) (cond (inHexagon c k (hexagonPoint c k) || laid (hexagonPoint c k)) 0 1) in
+      ap (λ (p : Point). n + newPoints laid c k + cond (inHexagon c k p || laid p) 0 1) q
+      ∙ sum n (newPoints laid c k) (cond (inHexagon c k (hexagonPoint c k) || laid (hexagonPoint c k)) 0 1) in
       record {
         order = x .order;
-        holds = λ p. x .holds p ∙ ap (λ (b : Bool). cond b (Held (vertexOf listed p)) Absent)
+        holds = λ p. x .holds p ∙ ap (λ (b : Bool). cond b (Held (baseRecord listed p)) Absent)
             (ap (λ (y : Point). samePoint y p || (inHexagon c k p || laid p)) q ∙ or-assoc (samePoint (hexagonPoint c k) p) (inHexagon c k p) (laid p));
         count = x .count ∙ at;
         wide = x .wide;
@@ -214,7 +219,8 @@ module _ (listed : Point → Bool) (slots : ℕ) (c : Point) (g : Good c) (d : c
       sum : (a b c : ℕ) → a + b + c ≡ a + (b + c)
       sum a b c = omega arith
 
-  hexagon-holds : (k : ℕ) → k ≤ 7 → (v : List ℕ) → layHexagon listed c k (Room u) ≡ Room v → Holding listed slots v (λ p. inHexagon c k p || laid p) (n + newPoints laid c k)
+  hexagon-holds : (k : ℕ) → k ≤ 7 → (v : List ℕ) → layHexagon listed c k (Room u) ≡ Room v
+      → Holding listed slots v (λ p. inHexagon c k p || laid p) (n + newPoints laid c k)
   unfolding layHexagon inHexagon newPoints
   hexagon-holds zero l v e =
       subst (λ (x : List ℕ). Holding listed slots x laid (n + 0)) (room-eq u v e) (subst (Holding listed slots u laid) (let z : n ≡ n + 0 = omega arith in z) h)
@@ -232,17 +238,19 @@ module _ (listed : Point → Bool) (slots : ℕ) (c : Point) (g : Good c) (d : c
   hexagon-short zero l e = room-none u e
   hexagon-short (suc k) l e = go (layHexagon listed c k (Room u)) refl e (λ f. hexagon-short k (omega arith) f)
     where
-      go : (x : Laid) → layHexagon listed c k (Room u) ≡ x → lay x (hexagonOf listed c k) ≡ NoRoom → (layHexagon listed c k (Room u) ≡ NoRoom → slots < n + newPoints laid c k)
+      go : (x : Laid) → layHexagon listed c k (Room u) ≡ x → lay x (hexagonOf listed c k) ≡ NoRoom
+          → (layHexagon listed c k (Room u) ≡ NoRoom → slots < n + newPoints laid c k)
           → slots < n + newPoints laid c (suc k)
       go NoRoom f y ih = omega (arith, ih f)
       go (Room w) f y ih =
-          let s = lay-short listed slots w (λ p. inHexagon c k p || laid p) (n + newPoints laid c k) (hexagon-holds k (omega arith) w f) (hexagonOf listed c k) y in
+          let s = lay-short listed slots w (λ p. inHexagon c k p || laid p)
+          (n + newPoints laid c k) (hexagon-holds k (omega arith) w f) (hexagonOf listed c k) y in
           let o : _≡_ {A = ℕ} (cond (inHexagon c k (hexagonPoint c k) || laid (hexagonPoint c k)) 0 1) 1 =
           ap (λ (b : Bool). cond b 0 1) (ap (λ (p : Point). inHexagon c k p || laid p) (sym (hexagon-point listed c g d k)) ∙ s .0) in
           omega (arith, s .1)
 
 module _ (t : List ℕ) (w : Table t (slotsOf t)) (cs : List ℤ) (good : (i : ℕ) → i < centresIn cs → goodCentre (centreAt cs i) ≡ true) where
-  empty : Holding (isCentre cs) (slotsOf t) (clearedOf t) (λ p. false) 0
+  empty : Holding (isListed cs) (slotsOf t) (clearedOf t) (λ p. false) 0
   empty =
       let same : slotsOf (clearedOf t) ≡ slotsOf t = ap slotsIn (clear-length t) in
       record {
@@ -252,17 +260,18 @@ module _ (t : List ℕ) (w : Table t (slotsOf t)) (cs : List ℤ) (good : (i : �
         wide = same;
       }
 
-  pub all-holds : (n : ℕ) → n ≤ centresIn cs → (v : List ℕ) → layAll cs n (Room (clearedOf t)) ≡ Room v → Holding (isCentre cs) (slotsOf t) v (inFirst cs n) (pointsIn cs n)
+  pub all-holds : (n : ℕ) → n ≤ centresIn cs → (v : List ℕ) → layAll cs n (Room (clearedOf t)) ≡ Room v
+      → Holding (isListed cs) (slotsOf t) v (inFirst cs n) (pointsIn cs n)
   unfolding layAll inFirst pointsIn
-  all-holds zero l v e = subst (λ (x : List ℕ). Holding (isCentre cs) (slotsOf t) x (λ p. false) 0) (room-eq (clearedOf t) v e) empty
+  all-holds zero l v e = subst (λ (x : List ℕ). Holding (isListed cs) (slotsOf t) x (λ p. false) 0) (room-eq (clearedOf t) v e) empty
   all-holds (suc n) l v e = go (layAll cs n (Room (clearedOf t))) refl e (λ u f. all-holds n (omega arith) u f)
     where
-      go : (x : Laid) → layAll cs n (Room (clearedOf t)) ≡ x → layHexagon (isCentre cs) (centreAt cs n) 7 x ≡ Room v
-          → ((u : List ℕ) → layAll cs n (Room (clearedOf t)) ≡ Room u → Holding (isCentre cs) (slotsOf t) u (inFirst cs n) (pointsIn cs n))
-          → Holding (isCentre cs) (slotsOf t) v (inFirst cs (suc n)) (pointsIn cs (suc n))
-      go NoRoom f y ih = room-none v (sym y ∙ hexagon-no-room (isCentre cs) (centreAt cs n) 7)
+      go : (x : Laid) → layAll cs n (Room (clearedOf t)) ≡ x → layHexagon (isListed cs) (centreAt cs n) 7 x ≡ Room v
+          → ((u : List ℕ) → layAll cs n (Room (clearedOf t)) ≡ Room u → Holding (isListed cs) (slotsOf t) u (inFirst cs n) (pointsIn cs n))
+          → Holding (isListed cs) (slotsOf t) v (inFirst cs (suc n)) (pointsIn cs (suc n))
+      go NoRoom f y ih = room-none v (sym y ∙ hexagon-no-room (isListed cs) (centreAt cs n) 7)
       go (Room u) f y ih =
-          hexagon-holds (isCentre cs) (slotsOf t) (centreAt cs n) (good-is (centreAt cs n) (good n (omega arith))) refl u (inFirst cs n) (pointsIn cs n)
+          hexagon-holds (isListed cs) (slotsOf t) (centreAt cs n) (good-is (centreAt cs n) (good n (omega arith))) refl u (inFirst cs n) (pointsIn cs n)
           (ih u f) 7 (let z : 7 ≤ 7 = omega arith in z) v y
 
   pub all-short : (n : ℕ) → n ≤ centresIn cs → layAll cs n (Room (clearedOf t)) ≡ NoRoom → slotsOf t < pointsIn cs n
@@ -270,9 +279,10 @@ module _ (t : List ℕ) (w : Table t (slotsOf t)) (cs : List ℤ) (good : (i : �
   all-short zero l e = room-none (clearedOf t) e
   all-short (suc n) l e = go (layAll cs n (Room (clearedOf t))) refl e (λ f. all-short n (omega arith) f)
     where
-      go : (x : Laid) → layAll cs n (Room (clearedOf t)) ≡ x → layHexagon (isCentre cs) (centreAt cs n) 7 x ≡ NoRoom → (layAll cs n (Room (clearedOf t)) ≡ NoRoom → slotsOf t < pointsIn cs n)
+      go : (x : Laid) → layAll cs n (Room (clearedOf t)) ≡ x → layHexagon (isListed cs) (centreAt cs n) 7 x ≡ NoRoom
+          → (layAll cs n (Room (clearedOf t)) ≡ NoRoom → slotsOf t < pointsIn cs n)
           → slotsOf t < pointsIn cs (suc n)
       go NoRoom f y ih = omega (arith, ih f)
       go (Room u) f y ih =
-          hexagon-short (isCentre cs) (slotsOf t) (centreAt cs n) (good-is (centreAt cs n) (good n (omega arith))) refl u (inFirst cs n) (pointsIn cs n)
+          hexagon-short (isListed cs) (slotsOf t) (centreAt cs n) (good-is (centreAt cs n) (good n (omega arith))) refl u (inFirst cs n) (pointsIn cs n)
           (all-holds n (omega arith) u f) 7 (let z : 7 ≤ 7 = omega arith in z) y

@@ -1,7 +1,8 @@
 -- The marks, and the list of centres that they stand for.
--- `Good`, `good-is`, `reach-is` what a good centre has · `raised-is`, `number-below`, `number-one` its place, and that no two have one · `marks-none`, `marks-more` the marks are the
--- first centres of the list, one after the other · `marked-is`, `unmarked-is`, `listed-marked`, `marked-good`, `bad-range`, `bad-listed` what the code's tests say of a centre · `first-none`, `first-stop`,
--- `first-good` the search for the first bad one · `first-past`, `none-bad`, `not-bad`, `is-good` none is · `listed-at`, `listed-is` what is listed.
+-- `Good`, `good-is`, `reach-is` what a good centre has · `raised-is`, `number-below`, `number-one` its place, and that no two have one ·
+-- `marks-none`, `marks-more` the marks are the first centres of the list, one after the other · `marked-is`, `unmarked-is`, `listed-marked`,
+-- `marked-good`, `bad-range`, `bad-listed` what the code's tests say of a centre · `first-none`, `first-stop`, `first-good` the search for the first
+-- bad one · `first-past`, `none-bad`, `not-bad`, `is-good` none is · `listed-at`, `listed-is` what is listed.
 -- Assumes nothing.
 use mathlib.Core.Path.{_≡_, refl, sym, ap, _∙_, subst}
 use mathlib.Core.Bool.{Bool, true, false, cond, _&&_, _||_, not}
@@ -127,13 +128,15 @@ marks-none n cs = λ i p. none p i
 module _ (m : List ℕ) (p : Point) where
   pub marked-is : p .m .0 ≡ 0 → goodCentre p ≡ true → markedAt m (numberOf p) ≡ inMarks m p
   unfolding inMarks
-  marked-is d g = sym (ap (λ (b : Bool). b && (goodCentre p && markedAt m (numberOf p))) (eq-eqb (p .m .0) 0 d) ∙ ap (λ (b : Bool). b && markedAt m (numberOf p)) g)
+  marked-is d g =
+      sym (ap (λ (b : Bool). b && (goodCentre p && markedAt m (numberOf p))) (eq-eqb (p .m .0) 0 d) ∙ ap (λ (b : Bool). b && markedAt m (numberOf p)) g)
 
   pub unmarked-is : goodCentre p ≡ false → false ≡ inMarks m p
   unfolding inMarks
   unmarked-is g = sym (ap (λ (b : Bool). eqb (p .m .0) 0 && (b && markedAt m (numberOf p))) g ∙ and-false (eqb (p .m .0) 0))
 
-pub listed-marked : (m : List ℕ) (cs : List ℤ) (i : ℕ) (p : Point) → Marked m cs i → p .m .0 ≡ 0 → goodCentre p ≡ true → markedAt m (numberOf p) ≡ listedIn cs i p
+pub listed-marked : (m : List ℕ) (cs : List ℤ) (i : ℕ) (p : Point) → Marked m cs i → p .m .0 ≡ 0 → goodCentre p ≡ true
+    → markedAt m (numberOf p) ≡ listedIn cs i p
 listed-marked m cs i p e d g = marked-is m p d g ∙ (λ k. e k p)
 
 -- what is listed is good
@@ -145,7 +148,8 @@ marked-good m cs i p e h =
       both-left (goodCentre p) (markedAt m (numberOf p)) (both-right (eqb (p .m .0) 0) (goodCentre p && markedAt m (numberOf p)) k),
     )
 
-pub marks-more : (m u : List ℕ) (cs : List ℤ) (i : ℕ) → Marked m cs i → goodCentre (centreAt cs i) ≡ true → Marks m (eqb (numberOf (centreAt cs i))) u → Marked u cs (i + 1)
+pub marks-more : (m u : List ℕ) (cs : List ℤ) (i : ℕ) → Marked m cs i → goodCentre (centreAt cs i) ≡ true → Marks m (eqb (numberOf (centreAt cs i))) u
+    → Marked u cs (i + 1)
 unfolding inMarks listedIn
 marks-more m u cs i e g a = (λ k p. more p k) ∙ ap (listedIn cs) (let s : suc i ≡ i + 1 = omega arith in s)
   where
@@ -154,7 +158,8 @@ marks-more m u cs i e g a = (λ k p. more p k) ∙ ap (listedIn cs) (let s : suc
 
     at-centre : inMarks u c ≡ true
     at-centre =
-        ap (λ (b : Bool). b && markedAt u (numberOf c)) g ∙ a .reads (numberOf c) ∙ ap (λ (b : Bool). b || markedAt m (numberOf c)) (eq-eqb (numberOf c) (numberOf c) refl)
+        ap (λ (b : Bool). b && markedAt u (numberOf c)) g ∙ a .reads (numberOf c)
+        ∙ ap (λ (b : Bool). b || markedAt m (numberOf c)) (eq-eqb (numberOf c) (numberOf c) refl)
 
     more : (p : Point) → inMarks u p ≡ samePoint c p || listedIn cs i p
     more p = go (samePoint c p) refl
@@ -165,7 +170,8 @@ marks-more m u cs i e g a = (λ k p. more p k) ∙ ap (listedIn cs) (let s : suc
             let q : c ≡ p = λ k. pt (s .0 k) (s .1 k) (sym d k) in
             not-both (ap (samePoint c) (sym q) ∙ same-refl c) ne)
 
-        other : samePoint c p ≡ false → (d h : Bool) → eqb (p .m .0) 0 ≡ d → goodCentre p ≡ h → d && (h && markedAt u (numberOf p)) ≡ d && (h && markedAt m (numberOf p))
+        other : samePoint c p ≡ false → (d h : Bool) → eqb (p .m .0) 0 ≡ d → goodCentre p ≡ h
+            → d && (h && markedAt u (numberOf p)) ≡ d && (h && markedAt m (numberOf p))
         other ne true true ed eh = a .reads (numberOf p) ∙ ap (λ (b : Bool). b || markedAt m (numberOf p)) (other-number ne (eqb-true (p .m .0) 0 ed) eh)
         other ne true false ed eh = refl
         other ne false h ed eh = refl
@@ -205,7 +211,8 @@ unfolding firstBad
 first-past cs zero i h = let e : i ≡ i + 0 = omega arith in e
 first-past cs (suc n) i h =
     let e : i + 1 + n ≡ i + suc n = omega arith in
-    ap (λ (b : Bool). cond b i (firstBad cs (i + 1) n)) (h i (omega arith) (omega arith)) ∙ first-past cs n (i + 1) (λ k l m. h k (omega arith) (omega arith)) ∙ e
+    ap (λ (b : Bool). cond b i (firstBad cs (i + 1) n)) (h i (omega arith) (omega arith))
+    ∙ first-past cs n (i + 1) (λ k l m. h k (omega arith) (omega arith)) ∙ e
 
 -- where the first bad one lies past the last, none is bad
 pub none-bad : (cs : List ℤ) (left i : ℕ) → i + left ≤ firstBad cs i left → (k : ℕ) → i ≤ k → k < i + left → badAt cs k ≡ false
@@ -213,7 +220,8 @@ unfolding firstBad
 none-bad cs zero i h k l m = absurd (omega arith)
 none-bad cs (suc n) i h k l m = go (badAt cs i) refl h (λ z. none-bad cs n (i + 1) z)
   where
-    go : (b : Bool) → badAt cs i ≡ b → i + suc n ≤ cond b i (firstBad cs (i + 1) n) → (i + 1 + n ≤ firstBad cs (i + 1) n → (j : ℕ) → i + 1 ≤ j → j < i + 1 + n → badAt cs j ≡ false) → badAt cs k ≡ false
+    go : (b : Bool) → badAt cs i ≡ b → i + suc n ≤ cond b i (firstBad cs (i + 1) n)
+        → (i + 1 + n ≤ firstBad cs (i + 1) n → (j : ℕ) → i + 1 ≤ j → j < i + 1 + n → badAt cs j ≡ false) → badAt cs k ≡ false
     go true e h ih = absurd (omega arith)
     go false e h ih = at (ℕ-discrete i k)
       where
@@ -224,7 +232,8 @@ none-bad cs (suc n) i h k l m = go (badAt cs i) refl h (λ z. none-bad cs n (i +
 pub not-bad : (cs : List ℤ) (i : ℕ) → badAt cs i ≡ false → (goodCentre (centreAt cs i) ≡ true) × (listedIn cs i (centreAt cs i) ≡ false)
 not-bad cs i h = go (goodCentre (centreAt cs i)) refl h
   where
-    go : (g : Bool) → goodCentre (centreAt cs i) ≡ g → not g || listedIn cs i (centreAt cs i) ≡ false → (goodCentre (centreAt cs i) ≡ true) × (listedIn cs i (centreAt cs i) ≡ false)
+    go : (g : Bool) → goodCentre (centreAt cs i) ≡ g → not g || listedIn cs i (centreAt cs i) ≡ false
+        → (goodCentre (centreAt cs i) ≡ true) × (listedIn cs i (centreAt cs i) ≡ false)
     go true e k = (e, k)
     go false e k = absurd (not-both refl k)
 

@@ -1,5 +1,5 @@
 -- The points of a base and the record of each: what the laws for the floors above speak of.
--- `inBase` the points of a base, `pointsIn` how many they are · `vertexOf` the record of a point · `GoodList` a list with nothing to refuse.
+-- `inBase` the points of a base, `pointsIn` how many they are · `baseRecord` the record of a point · `GoodList` a list with nothing to refuse.
 -- Assumes nothing.
 use mathlib.Core.Path.{_≡_}
 use mathlib.Core.Bool.{Bool, true, false, cond, _||_}
@@ -31,8 +31,8 @@ abbrev pub inBase : List ℤ → Point → Bool
 inBase cs p = inFirst cs (centresIn cs) p
 
 -- the record that document 01 gives a point: a centre's where a - b leaves 0, else a corner's
-abbrev pub vertexOf : (Point → Bool) → Point → Record
-vertexOf listed p = cond (eqb (classOf p) 0) (centreRecord p) (cornerRecord listed p)
+abbrev pub baseRecord : (Point → Bool) → Point → Record
+baseRecord listed p = cond (eqb (classOf p) 0) (centreRecord p) (cornerRecord listed p)
 
 -- how many of the first k points of the hexagon at c are new, where `laid` tells the points before it
 unfoldable pub newPoints : (Point → Bool) → Point → ℕ → ℕ

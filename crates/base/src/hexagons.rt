@@ -1,9 +1,10 @@
 // The seven records of a hexagon, and all of them entered: document 01, "Base".
 ghost use mathlib.Core.Path.{_≡_};
 ghost use Prim.Native.Nat.{_<_};
+ghost use Rattle.lattice.specs.Points.{sumOf};
 ghost use Rattle.table.specs.Slots.{Table};
-ghost use Rattle.base.specs.Base.{centresIn, isCentre, cornerOf, hexagonListed, internal, at0, cornerRecord, hexagonOf, Room, lay, layHexagon, layAll};
-ghost use Rattle.base.specs.Marks.{inMarks, Within, laidBy};
+ghost use Rattle.base.specs.Base.{centresIn, isListed, hexagonListed, internal, at0, cornerRecord, Room, lay, layHexagon, layAll};
+ghost use Rattle.base.specs.Marks.{inMarks, Within, laidBy, layCorners};
 use crate::centres::MARK_BYTES;
 use crate::centres::centre_at;
 use crate::centres::is_marked;
@@ -12,26 +13,29 @@ use lattice::Level;
 use lattice::Point;
 use lattice::Record;
 use lattice::class;
+use lattice::turn60;
 use table::Found;
 use table::enter;
+use table::find;
+use table::write_slot;
 
-// A hexagon has six corners, and a record more: its centre's.
-const CORNERS: usize = 6;
+// A hexagon has six corners.
+const CORNERS: u8 = 6;
 
-const RECORDS: usize = 7;
+// The step from a centre to its first corner; turned by 60 degrees it goes to the next.
+const AHEAD: Point = Point {
+    a: 1,
+    b: 0,
+    m: Depth(0),
+};
 
-// The steps from a centre to its corners, 60 degrees each.
-const STEP_A: [i32; 6] = [1, 0, -1, -1, 0, 1];
-
-const STEP_B: [i32; 6] = [0, 1, 1, 0, -1, -1];
-
-// Corner j of the hexagon at p.
-fn corner(p: Point, j: usize) -> Point
-    requires { ⌜ Within 251 p × (j < 6) ⌝ }
-    ensures { λ r. ⌜ r ≡ cornerOf p j ⌝ }
+// The point one step from p.
+fn beside(p: Point, step: Point) -> Point
+    requires { ⌜ Within 251 p × Within 1 step ⌝ }
+    ensures { λ r. ⌜ r ≡ sumOf p step ⌝ }
 {
-    let a = p.a + STEP_A[j];
-    let b = p.b + STEP_B[j];
+    let a = p.a + step.a;
+    let b = p.b + step.b;
     Point { a, b, m: Depth(0) }
 }
 
@@ -51,13 +55,14 @@ fn is_internal(marks: &[u8; MARK_BYTES], q: Point) -> bool
     requires { ⌜ Within 251 q ⌝ }
     ensures { λ r. ⌜ r ≡ internal (inMarks (now (marks .entry))) q ⌝ }
 {
-    let mut j = 0;
+    let mut step = AHEAD;
+    let mut j: u8 = 0;
     while j < CORNERS {
-        if hexagon_marked(marks, corner(q, j)) {
-            j += 1;
-        } else {
+        if !hexagon_marked(marks, beside(q, step)) {
             return false;
         }
+        step = turn60(step);
+        j += 1;
     }
     true
 }
@@ -88,17 +93,6 @@ fn corner_record(marks: &[u8; MARK_BYTES], q: Point) -> Record
     vertex(q, 3, 2)
 }
 
-// Record k of the hexagon at p: its centre, then its corners.
-fn hexagon_record(marks: &[u8; MARK_BYTES], p: Point, k: usize) -> Record
-    requires { ⌜ Within 250 p × (k < 7) ⌝ }
-    ensures { λ r. ⌜ r ≡ hexagonOf (inMarks (now (marks .entry))) p k ⌝ }
-{
-    if k == 0 {
-        return vertex(p, 3, 0);
-    }
-    corner_record(marks, corner(p, k - 1))
-}
-
 // Enters a record, unless its point is there already: false where no slot is left.
 fn lay_record(table: &mut [u8], n: usize, r: Record) -> bool
     requires { ⌜ Table (now table) n ⌝ }
@@ -112,26 +106,54 @@ fn lay_record(table: &mut [u8], n: usize, r: Record) -> bool
     }
 }
 
-// Enters the records of the hexagon at p.
+// Enters a corner, unless it is there already: false where no slot is left. Its record is worked out only where it is entered.
+fn lay_corner(table: &mut [u8], n: usize, marks: &[u8; MARK_BYTES], q: Point) -> bool
+    requires { ⌜ Table (now table) n × Within 251 q ⌝ }
+    ensures { λ v. ⌜ laidBy v (now (table .exit)) ≡ lay (Room (now (table .entry))) (cornerRecord (inMarks (now (marks .entry))) q) ⌝ }
+{
+    let f = find(table, q, n);
+    match f {
+        Found::At(_) => true,
+        Found::Free(i) => {
+            write_slot(table, i, corner_record(marks, q));
+            true
+        }
+        Found::Full => false,
+    }
+}
+
+// Enters the corners of the hexagon at p.
+fn lay_corners(table: &mut [u8], n: usize, marks: &[u8; MARK_BYTES], p: Point) -> bool
+    requires { ⌜ Table (now table) n × Within 250 p ⌝ }
+    ensures { λ v. ⌜ laidBy v (now (table .exit)) ≡ layCorners (inMarks (now (marks .entry))) p 6 (Room (now (table .entry))) ⌝ }
+{
+    let mut step = AHEAD;
+    let mut j: u8 = 0;
+    while j < CORNERS {
+        if !lay_corner(table, n, marks, beside(p, step)) {
+            return false;
+        }
+        step = turn60(step);
+        j += 1;
+    }
+    true
+}
+
+// Enters the records of the hexagon at p: its centre, then its corners.
 fn lay_hexagon(table: &mut [u8], n: usize, marks: &[u8; MARK_BYTES], p: Point) -> bool
     requires { ⌜ Table (now table) n × Within 250 p ⌝ }
     ensures { λ v. ⌜ laidBy v (now (table .exit)) ≡ layHexagon (inMarks (now (marks .entry))) p 7 (Room (now (table .entry))) ⌝ }
 {
-    let mut k = 0;
-    while k < RECORDS {
-        if lay_record(table, n, hexagon_record(marks, p, k)) {
-            k += 1;
-        } else {
-            return false;
-        }
+    if !lay_record(table, n, vertex(p, 3, 0)) {
+        return false;
     }
-    true
+    lay_corners(table, n, marks, p)
 }
 
 // Enters the records of all hexagons, in the order of the list.
 pub fn lay_all(table: &mut [u8], n: usize, centres: &[i32], marks: &[u8; MARK_BYTES]) -> bool
     requires { ⌜ Table (now table) n ⌝ }
-    requires { ⌜ inMarks (now marks) ≡ isCentre (now centres) ⌝ }
+    requires { ⌜ inMarks (now marks) ≡ isListed (now centres) ⌝ }
     ensures { λ v. ⌜ laidBy v (now (table .exit)) ≡ layAll (now (centres .entry)) (centresIn (now (centres .entry))) (Room (now (table .entry))) ⌝ }
 {
     let count = centres.len() / 2;

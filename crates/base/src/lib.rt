@@ -6,10 +6,14 @@ mod centres;
 mod hexagons;
 
 ghost use mathlib.Core.Path.{_≡_};
-ghost use Rattle.base.specs.Base.{outcome, baseOf};
+ghost use Rattle.base.specs.Base.{answered, baseOf};
 use crate::centres::MARK_BYTES;
 use crate::centres::first_bad;
 use crate::hexagons::lay_all;
+use lattice::BAD_LIST;
+use lattice::DONE;
+use lattice::NO_ROOM;
+use lattice::NOT_IN_ORDER;
 use table::clear;
 use table::slots_of;
 
@@ -28,28 +32,28 @@ fn answer(number: u8, place: usize) -> Based
 // Clears the table and lays the hexagons at the centres a, b, a, b, .. into it. Refused with 1 the table is untouched, with 2 or 8 all 255.
 // Linear in the table's slots and in the list, as long as the searches are short.
 pub fn base(table: &mut [u8], centres: &[i32]) -> Based
-    ensures { λ r. ⌜ outcome (r .number) (r .place) (now (table .exit)) ≡ baseOf (now (table .entry)) (now (centres .entry)) ⌝ }
+    ensures { λ r. ⌜ answered (r .number) (r .place) (now (table .exit)) ≡ baseOf (now (table .entry)) (now (centres .entry)) ⌝ }
 {
     let n = slots_of(table);
     if n == 0 {
-        return answer(1, 0);
+        return answer(NOT_IN_ORDER, 0);
     }
     clear(table);
     let l = centres.len();
     if l == 0 {
-        return answer(2, 0);
+        return answer(BAD_LIST, 0);
     }
     if l % 2 != 0 {
-        return answer(2, 0);
+        return answer(BAD_LIST, 0);
     }
     let mut marks = [0; MARK_BYTES];
     let bad = first_bad(centres, l / 2, &mut marks);
     if bad < l / 2 {
-        return answer(2, bad);
+        return answer(BAD_LIST, bad);
     }
     if lay_all(table, n, centres, &marks) {
-        return answer(0, 0);
+        return answer(DONE, 0);
     }
     clear(table);
-    answer(8, 0)
+    answer(NO_ROOM, 0)
 }

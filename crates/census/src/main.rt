@@ -1,11 +1,20 @@
-// Document 01's census program: reads a full file from standard input, and writes the text of its census to standard output. What the text is, is `census_text::census`'s promise;
-// no promise can say what is read and written. Where a read fails nothing is written.
+// Document 01's census program: standard input read, the text of its census written to standard output. `answer` is all that it does with
+// its input: its promise has the 5,461 slots and every byte of the text. No promise can say what is read and written; where a read fails
+// nothing is written.
+ghost use mathlib.Core.Path.{_≡_};
+ghost use mathlib.Core.List.{_++_};
+ghost use Prim.Native.Nat.{_≤_};
+ghost use lib.ListN.{length, drop};
+ghost use Rattle.census_text.specs.Census.{programText};
 use libc::STDIN_FILENO;
 use libc::STDOUT_FILENO;
 
 const SLOTS: usize = 5461;
 
 const SLOT_WIDTH: usize = 12;
+
+// A free slot is twelve of them.
+const FREE: u8 = 255;
 
 // The longest input that is read, and a byte more, by which a longer one is told.
 const INPUT_ROOM: usize = 65537;
@@ -36,6 +45,17 @@ fn fill(space: &mut [u8]) -> Filled {
     Filled::To(done)
 }
 
+// The program's text for an input, at the beginning of `text`; gives back how many bytes it has.
+fn answer(input: &[u8], text: &mut [u8; TEXT_ROOM]) -> usize
+    ensures { λ r. ⌜ (r ≡ length (programText (now (input .entry)))) × (r ≤ 128) ⌝ }
+    ensures { λ r. ⌜ now (text .exit) ≡ programText (now (input .entry)) ++ drop r (now (text .entry)) ⌝ }
+{
+    let mut table = [FREE; SLOTS * SLOT_WIDTH];
+    let mut scratch = [FREE; SLOTS * SLOT_WIDTH];
+    let census = census_text::census(input, &mut table, &mut scratch, text);
+    census.written as usize
+}
+
 // Writes the first n bytes of a text.
 fn print(text: &[u8], n: usize) {
     if n <= text.len() {
@@ -43,14 +63,12 @@ fn print(text: &[u8], n: usize) {
     }
 }
 
-// Writes the census of the first n bytes of the space.
+// Writes the text for the first n bytes of the space.
 fn report(space: &[u8], n: usize) {
     if n <= space.len() {
-        let mut table = [0u8; SLOTS * SLOT_WIDTH];
-        let mut scratch = [0u8; SLOTS * SLOT_WIDTH];
         let mut text = [0u8; TEXT_ROOM];
-        let c = census_text::census(&space[..n], &mut table, &mut scratch, &mut text);
-        print(&text, c.written as usize);
+        let written = answer(&space[..n], &mut text);
+        print(&text, written);
     }
 }
 

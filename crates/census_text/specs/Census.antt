@@ -1,12 +1,14 @@
--- Document 01, "Census program": the text for an input, and what the call does. What the promise cites: `censusOf`.
--- `tabbed` a line of words, `row` one of numbers · `countsText`, `refusedText` the two outputs · `readInputOf` the input, read · `putText` a text written, or refused with 13 ·
--- `Result` number, bytes written, and what was lent, after.
+-- Document 01, "Census program": the text for an input, and what the call does. What the promises cite: `censusOf` for the call, `programText` for the program.
+-- `tabbed` a line of words, `row` one of numbers · `countsText`, `refusedText` the two outputs · `readInputOf` the input, read ·
+-- `putText` a text written, or refused with 13 · `Result` number, bytes written, and what was lent, after.
 -- Assumes nothing.
 use mathlib.Core.Bool.{cond}
 use mathlib.Core.List.{List, [], _∷_, _++_, map}
-use Prim.Native.Nat.{ℕ}
+use Prim.Native.Nat.{ℕ, _*_}
 use lib.Dec.{eqb, ltb}
-use lib.ListN.{length, drop}
+use lib.ListN.{length, drop, replicate}
+use Rattle.laws.specs.Choices.{unless}
+use Rattle.table.specs.Slots.{slotWidth}
 use Rattle.text.specs.Decimal.{tab, feed, digits, ended}
 use Rattle.readers.specs.Readers.{Outcome, outcome, refused, lengthsFit, readFullOf}
 use Rattle.counts.specs.Counts.{countsOf}
@@ -34,8 +36,8 @@ unfolding tabbed
 header = tabbed ((86 ∷ []) ∷ (69 ∷ []) ∷ (70 ∷ []) ∷ degreeWord 0 ∷ degreeWord 3 ∷ degreeWord 4 ∷ degreeWord 5 ∷ degreeWord 6 ∷ [])
 
 -- "V E F d0 d3 d4 d5 d6"
-abbrev pub listed : Counts → List ℕ
-listed c = c .vertices ∷ c .edges ∷ c .faces ∷ c .d0 ∷ c .d3 ∷ c .d4 ∷ c .d5 ∷ c .d6 ∷ []
+abbrev pub inRow : Counts → List ℕ
+inRow c = c .vertices ∷ c .edges ∷ c .faces ∷ c .d0 ∷ c .d3 ∷ c .d4 ∷ c .d5 ∷ c .d6 ∷ []
 
 -- a line of numbers
 abbrev pub row : List ℕ → List ℕ
@@ -43,7 +45,7 @@ row ns = tabbed (map digits ns)
 
 -- "a header line .. and one line of those numbers"
 abbrev pub countsText : Counts → List ℕ
-countsText c = header ++ row (listed c)
+countsText c = header ++ row (inRow c)
 
 -- the bytes of the word "refused"
 abbrev pub refusedWord : List ℕ
@@ -64,7 +66,21 @@ mostInput = 65536
 
 -- "It reads a full file"; "Longer input gives `refused`, 8, 0."
 unfoldable pub readInputOf : List ℕ → List ℕ → List ℕ → Outcome
-readInputOf t s input = cond (lengthsFit t s) (cond (ltb mostInput (length input)) (refused 8 0 t s) (readFullOf t s input)) (outcome 1 0 t s)
+readInputOf t s input = unless (lengthsFit t s) (outcome 1 0 t s) (cond (ltb mostInput (length input)) (refused 8 0 t s) (readFullOf t s input))
+
+-- ---- the program
+
+-- "into 5,461 slots"
+abbrev pub programSlots : ℕ
+programSlots = 5461
+
+-- the program's table, and its scratch table: every slot free
+unfoldable pub freeTable : List ℕ
+freeTable = replicate (slotWidth * programSlots) 255
+
+-- what the program writes: "It reads a full file from standard input, at most 65,536 bytes, into 5,461 slots."
+unfoldable pub programText : List ℕ → List ℕ
+programText input = textOf (readInputOf freeTable freeTable input)
 
 -- ---- the call
 

@@ -1,4 +1,5 @@
--- The input, read: `input-long`, `long-unfit`, `long-fit`, `input-read` the ways of reading it · `input-line` no line at fault is past the input's bytes · `input-order` what is read is a
+-- The input, read: `input-long`, `long-unfit`, `long-fit`, `input-read` the ways of reading it · `input-line` no line at fault is past the input's
+-- bytes · `input-order` what is read is a
 -- table in order · `census-refused`, `census-counted` the text that follows, `refused-most`, `counted-most` of at most 128 bytes.
 -- Assumes nothing.
 use mathlib.Core.Path.{_≡_, refl, sym, ap, _∙_, subst}
@@ -21,8 +22,9 @@ use Rattle.text.specs.Line.{lineAt}
 use Rattle.text.specs.declared.line.Line.{Line}
 use Rattle.text.specs.declared.line.Line.the-variants.{Good, Bad, End}
 use Rattle.grown.specs.Grown.{isGrown}
-use Rattle.readers.specs.Readers.{Lines, Read, Fault, after, above, noSlot, lineRead, linesFrom, readLines, Outcome, outcome, refused, accepted, lengthsFit, endFull, readFullOf}
-use Rattle.readers.specs.BeginLaws.{Prepared, prepared-unfit, prepared-fit}
+use Rattle.readers.specs.Readers.{Lines, Read, Fault, after, above, noSlot, lineRead, linesFrom, readLines, Outcome, outcome, refused, accepted}
+use Rattle.readers.specs.Readers.{lengthsFit, endFull, readFullOf}
+use Rattle.readers.specs.BeginLaws.{Prepared, prepared-unfit, prepared-fit, full-unfit}
 use Rattle.readers.specs.FaultLaws.{fault-number}
 use Rattle.readers.specs.ReadLaws.{read-lines}
 use Rattle.counts.specs.Counts.{countsOf}
@@ -36,11 +38,8 @@ longOf t s = cond (lengthsFit t s) (refused 8 0 t s) (outcome 1 0 t s)
 
 pub input-long : (t s input : List ℕ) → mostInput < length input → longOf t s ≡ readInputOf t s input
 unfolding readInputOf
-input-long t s input h = ap (λ (b : Bool). cond (lengthsFit t s) (cond b (refused 8 0 t s) (readFullOf t s input)) (outcome 1 0 t s)) (sym (lt-ltb mostInput (length input) h))
-
-full-unfit : (t s input : List ℕ) → lengthsFit t s ≡ false → readFullOf t s input ≡ outcome 1 0 t s
-unfolding readFullOf
-full-unfit t s input e = ap (λ (b : Bool). cond b (endFull t s (readLines input (clearedOf t))) (outcome 1 0 t s)) e
+input-long t s input h =
+    ap (λ (b : Bool). cond (lengthsFit t s) (cond b (refused 8 0 t s) (readFullOf t s input)) (outcome 1 0 t s)) (sym (lt-ltb mostInput (length input) h))
 
 pub input-read : (t s input : List ℕ) → length input ≤ mostInput → readFullOf t s input ≡ readInputOf t s input
 unfolding readInputOf
@@ -49,7 +48,8 @@ input-read t s input h = go (lengthsFit t s) refl
     short : ltb mostInput (length input) ≡ false
     short = le-ltb mostInput (length input) h
 
-    go : (b : Bool) → lengthsFit t s ≡ b → readFullOf t s input ≡ cond b (cond (ltb mostInput (length input)) (refused 8 0 t s) (readFullOf t s input)) (outcome 1 0 t s)
+    go : (b : Bool) → lengthsFit t s ≡ b → readFullOf t s input
+        ≡ cond b (cond (ltb mostInput (length input)) (refused 8 0 t s) (readFullOf t s input)) (outcome 1 0 t s)
     go true e = ap (λ (x : Bool). cond x (refused 8 0 t s) (readFullOf t s input)) (sym short)
     go false e = full-unfit t s input e
 

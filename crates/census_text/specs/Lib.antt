@@ -3,5 +3,6 @@ pub mod Census
 -- its laws
 pub mod TextLaws
 pub mod InputLaws
+pub mod ProgramLaws
 -- examples that compute
 pub mod Examples

@@ -1,5 +1,7 @@
--- The texts of a census, part by part: `header-is` the bytes of the header, `refused-is` the line of a refusal · `Copied`, `copied-start`, `copied-more`, `copied-all` bytes stored one by
--- one · `Rowed`, `rowed-start`, `rowed-room`, `rowed-more`, `rowed-all` numbers written one by one · `Measured`, `measured-start`, `measured-more`, `measured-all` their width · `put-short`,
+-- The texts of a census, part by part: `header-is` the bytes of the header, `refused-is` the line of a refusal · `Copied`, `copied-start`,
+-- `copied-more`, `copied-all` bytes stored one by
+-- one · `Rowed`, `rowed-start`, `rowed-room`, `rowed-more`, `rowed-all` numbers written one by one · `Measured`, `measured-start`,
+-- `measured-more`, `measured-all` their width · `put-short`,
 -- `put-done` a text refused with 13, or written.
 -- Assumes nothing.
 use mathlib.Core.Path.{_≡_, refl, sym, ap, _∙_}
@@ -40,7 +42,8 @@ copied-start o p bs = record { most = omega arith; bytes = refl }
 pub copied-long : (o : List ℕ) (p : ℕ) (bs : List ℕ) (i : ℕ) (o′ : List ℕ) → Copied o p bs i o′ → length o′ ≡ length o
 copied-long o p bs i o′ c = ap length (c .bytes) ∙ length-sets o p (take i bs)
 
-pub copied-more : (o : List ℕ) (p : ℕ) (bs : List ℕ) (i : ℕ) (o′ : List ℕ) → Copied o p bs i o′ → i < length bs → Copied o p bs (i + 1) (set o′ (p + i) (getD bs i 0))
+pub copied-more : (o : List ℕ) (p : ℕ) (bs : List ℕ) (i : ℕ) (o′ : List ℕ) → Copied o p bs i o′ → i < length bs
+    → Copied o p bs (i + 1) (set o′ (p + i) (getD bs i 0))
 copied-more o p bs i o′ c h = record { most = omega arith; bytes = stored }
   where
     long : length (take i bs) ≡ i
@@ -83,7 +86,8 @@ row-from (n ∷ ns) (suc i) h =
         ap (λ (b : Bool). cond b feed tab) (ne-eqb (i + 1) (length ns) e ∙ sym (ne-eqb (suc i + 1) (suc (length ns)) f))
 
 row-next : (ns : List ℕ) (i : ℕ) → i < length ns → row (drop i ns) ≡ ended (digits (getD ns i 0)) (stopAt (length ns) i) ++ row (drop (i + 1) ns)
-row-next ns i h = let e : suc i ≡ i + 1 = omega arith in row-from ns i h ∙ ap (λ (k : ℕ). ended (digits (getD ns i 0)) (stopAt (length ns) i) ++ row (drop k ns)) e
+row-next ns i h = let e : suc i ≡ i + 1 = omega arith in row-from ns i h
+    ∙ ap (λ (k : ℕ). ended (digits (getD ns i 0)) (stopAt (length ns) i) ++ row (drop k ns)) e
 
 none-left : (ns : List ℕ) (i : ℕ) → length ns ≤ i → row (drop i ns) ≡ []
 unfolding tabbed

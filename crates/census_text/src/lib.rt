@@ -1,6 +1,6 @@
 // Document 01's census program as a call: the text for an input, over lent bytes.
 //
-// One public call answers every input: `census`. The input is read by `readers::read_full`, counted by `counts::census_of`, and the text written by texts.rt.
+// One public call answers every input: `census`. The input is read by `readers::read_full`, counted by `counts::counts_of`, and the text written by texts.rt.
 // The promise cites specs/Census.
 ghost use mathlib.Core.Path.{_≡_};
 ghost use Prim.Native.Nat.{_≤_};
@@ -13,7 +13,10 @@ mod texts;
 
 use crate::texts::put_counts;
 use crate::texts::put_refused;
-use counts::census_of;
+use counts::counts_of;
+use lattice::DONE;
+use lattice::NO_ROOM;
+use lattice::NOT_IN_ORDER;
 use readers::ReadBack;
 use readers::prepare;
 use readers::read_full;
@@ -23,23 +26,19 @@ pub use texts::Census;
 // The longest input that is read.
 const MOST_INPUT: usize = 65536;
 
-// Document 01's numbers for lengths that don't fit, and for an input that is too long.
-const UNFIT: u8 = 1;
-
-const TOO_LONG: u8 = 8;
-
 // Refuses an input that is too long.
 fn refuse_long(table: &mut [u8], scratch: &mut [u8]) -> ReadBack
     ensures { λ r. ⌜ outcome (r .number) (r .line) (now (table .exit)) (now (scratch .exit)) ≡ longOf (now (table .entry)) (now (scratch .entry)) ⌝ }
 {
     let n = prepare(table, scratch);
-    let number = if n == 0 { UNFIT } else { TOO_LONG };
+    let number = if n == 0 { NOT_IN_ORDER } else { NO_ROOM };
     ReadBack { number, line: 0 }
 }
 
 // Reads the input into the table.
 fn read_input(input: &[u8], table: &mut [u8], scratch: &mut [u8]) -> ReadBack
-    ensures { λ r. ⌜ outcome (r .number) (r .line) (now (table .exit)) (now (scratch .exit)) ≡ readInputOf (now (table .entry)) (now (scratch .entry)) (now (input .entry)) ⌝ }
+    ensures { λ r. ⌜ outcome (r .number) (r .line) (now (table .exit)) (now (scratch .exit))
+        ≡ readInputOf (now (table .entry)) (now (scratch .entry)) (now (input .entry)) ⌝ }
 {
     if MOST_INPUT < input.len() {
         return refuse_long(table, scratch);
@@ -47,17 +46,20 @@ fn read_input(input: &[u8], table: &mut [u8], scratch: &mut [u8]) -> ReadBack
     read_full(table, scratch, input)
 }
 
-// The census of an input: what document 01's program writes for it goes to `out`, the table and the scratch table being lent as `read_full` wants them and left as it leaves them.
-// Gives back the number in the text, 0 where it counts, and the bytes written. 13 where `out` is shorter than the text, with nothing written; 128 bytes always suffice.
+// The census of an input: what document 01's program writes for it goes to `out`, the table and the scratch table being lent as `read_full` wants
+// them and left as it leaves them.
+// Gives back the number in the text, 0 where it counts, and the bytes written. 13 where `out` is shorter than the text, with nothing written; 128
+// bytes always suffice.
 pub fn census(input: &[u8], table: &mut [u8], scratch: &mut [u8], out: &mut [u8]) -> Census
-    ensures { λ r. ⌜ result (put (r .number) (r .written) (now (out .exit))) (now (table .exit)) (now (scratch .exit)) ≡ censusOf (now (input .entry)) (now (table .entry)) (now (scratch .entry)) (now (out .entry)) ⌝ }
+    ensures { λ r. ⌜ result (put (r .number) (r .written) (now (out .exit))) (now (table .exit)) (now (scratch .exit))
+        ≡ censusOf (now (input .entry)) (now (table .entry)) (now (scratch .entry)) (now (out .entry)) ⌝ }
     ensures { λ _. ⌜ length (textOf (readInputOf (now (table .entry)) (now (scratch .entry)) (now (input .entry)))) ≤ 128 ⌝ }
 {
     let read = read_input(input, table, scratch);
     let number = read.number;
-    if number != 0 {
+    if number != DONE {
         return put_refused(out, number, read.line);
     }
     let n = slots_of(table);
-    put_counts(out, census_of(table, n))
+    put_counts(out, counts_of(table, n))
 }

@@ -7,6 +7,10 @@ ghost use Rattle.laws.specs.Stores.{Wrote};
 ghost use Rattle.census_text.specs.Census.{row, countsText, refusedText, put, putText};
 ghost use Rattle.census_text.specs.TextLaws.{stopAt};
 use counts::Counts;
+use lattice::DONE;
+use lattice::SHORT;
+use text::FEED;
+use text::TAB;
 use text::width;
 use text::write_number;
 
@@ -15,13 +19,6 @@ pub struct Census {
     pub number: u8,
     pub written: u64,
 }
-
-const TAB: u8 = b'\t';
-
-const FEED: u8 = b'\n';
-
-// Document 01's number for an output that is too short.
-const SHORT: u8 = 13;
 
 fn answer(number: u8, written: u64) -> Census
     ensures { λ r. ⌜ (r .number ≡ number) × (r .written ≡ written) ⌝ }
@@ -100,7 +97,7 @@ pub fn put_counts(out: &mut [u8], c: Counts) -> Census
     ensures { λ _. ⌜ length (countsText c) ≤ 128 ⌝ }
 {
     let ns = [c.vertices, c.edges, c.faces, c.d0, c.d3, c.d4, c.d5, c.d6];
-    put_text(out, 0, b"V\tE\tF\td0\td3\td4\td5\td6\n", &ns)
+    put_text(out, DONE, b"V\tE\tF\td0\td3\td4\td5\td6\n", &ns)
 }
 
 // Writes the text of a refusal.

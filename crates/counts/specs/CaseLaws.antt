@@ -1,4 +1,5 @@
--- The ways through the functions. Loops that sum: `Summed`, `summed-start`, `summed-more`. A pair: `pair-counted`. A corner of another star: `corner-first`, `corner-second`,
+-- The ways through the functions. Loops that sum: `Summed`, `summed-start`, `summed-more`. A pair: `pair-counted`. A corner of another star:
+-- `corner-first`, `corner-second`,
 -- `corner-third`. A corner: `corner-none`, `corner-counted`. A face: `before-second`,
 -- `before-third`, `before-fourth`. A slot: `pairs-free`, `pairs-holds`, `faces-free`, `faces-holds`, `degree-free`, `degree-holds`.
 -- Assumes nothing.
@@ -19,7 +20,8 @@ use Rattle.table.specs.Search.{samePoint}
 use Rattle.table.specs.declared.slots.Slot.the-variants.{Free, Holds}
 use Rattle.queries.specs.Queries.{chosenAt}
 use Rattle.counts.specs.Counts.{bit, nextPlace, turned}
-use Rattle.counts.specs.Earlier.{sumBelow, slotSum, pairBefore, pairCount, starPairs, slotPairs, spotIs, cornerIs, faceSeen, faceBefore, faceOn, faceCount, cornerCount, starFaces, slotFaces, slotDegree}
+use Rattle.counts.specs.Earlier.{sumBelow, slotSum, pairBefore, pairCount, starPairs, slotPairs, spotIs, cornerIs, faceSeen, faceBefore, faceOn}
+use Rattle.counts.specs.Earlier.{faceCount, cornerCount, starFaces, slotFaces, slotDegree}
 use Rattle.counts.specs.DifferentLaws.{sum-none, sum-more}
 use Rattle.counts.specs.declared.faces.Face.{Face}
 
@@ -39,7 +41,8 @@ summed-more f w i sum x s e h =
 
 -- ---- pairs
 
-pub pair-counted : (t : List ℕ) (k : ℕ) (v : Record) (j : ℕ) (a : Point) → a ≡ adjacentAt v j → (b : Bool) → pairBefore t k (v .at) a ≡ b → bit (not b) ≡ pairCount t k v j
+pub pair-counted : (t : List ℕ) (k : ℕ) (v : Record) (j : ℕ) (a : Point) → a ≡ adjacentAt v j → (b : Bool) → pairBefore t k (v .at) a ≡ b
+    → bit (not b) ≡ pairCount t k v j
 unfolding pairCount
 pair-counted t k v j a e b h = ap (λ (x : Bool). bit (not x)) (sym h ∙ ap (pairBefore t k (v .at)) e)
 
@@ -56,7 +59,8 @@ module _ (t : List ℕ) (u : Record) (f : Face) (i : ℕ) where
       sym (and-false (samePoint (adjacentAt u i) (f .adjacent)))
       ∙ ap (λ (b : Bool). samePoint (adjacentAt u i) (f .adjacent) && (b && spotIs (chosenAt t u i) (f .opposite))) (sym e)
 
-  pub corner-third : samePoint (adjacentAt u i) (f .adjacent) ≡ true → samePoint (adjacentAt u (nextPlace (u .d) i)) (f .next) ≡ true → spotIs (chosenAt t u i) (f .opposite) ≡ cornerIs t u f i
+  pub corner-third : samePoint (adjacentAt u i) (f .adjacent) ≡ true → samePoint (adjacentAt u (nextPlace (u .d) i)) (f .next) ≡ true
+      → spotIs (chosenAt t u i) (f .opposite) ≡ cornerIs t u f i
   unfolding cornerIs
   corner-third e h =
       ap (λ (b : Bool). b && spotIs (chosenAt t u i) (f .opposite)) (sym h)
@@ -67,7 +71,8 @@ module _ (t : List ℕ) (k : ℕ) (v : Record) (j : ℕ) where
   unfolding cornerCount
   corner-none e = ap (faceCount t k v j) (sym e)
 
-  pub corner-counted : (o : Point) → chosenAt t v j ≡ At o → (f : Face) → f ≡ faceOn v j o → (b : Bool) → faceBefore t k f ≡ b → bit (not b) ≡ cornerCount t k v j
+  pub corner-counted : (o : Point) → chosenAt t v j ≡ At o → (f : Face) → f ≡ faceOn v j o → (b : Bool) → faceBefore t k f ≡ b → bit (not b)
+      ≡ cornerCount t k v j
   unfolding cornerCount
   corner-counted o e f g b h = ap (λ (x : Bool). bit (not x)) (sym h ∙ ap (faceBefore t k) g) ∙ ap (faceCount t k v j) (sym e)
 
@@ -80,7 +85,8 @@ module _ (t : List ℕ) (k : ℕ) (f : Face) where
 
   pub before-third : faceSeen t k (turned (turned f)) ≡ true → true ≡ faceBefore t k f
   unfolding faceBefore
-  before-third e = sym (or-true (faceSeen t k (turned f))) ∙ ap (λ (b : Bool). faceSeen t k (turned f) || (b || faceSeen t k (turned (turned (turned f))))) (sym e)
+  before-third e = sym (or-true (faceSeen t k (turned f)))
+      ∙ ap (λ (b : Bool). faceSeen t k (turned f) || (b || faceSeen t k (turned (turned (turned f))))) (sym e)
 
   pub before-fourth : faceSeen t k (turned f) ≡ false → faceSeen t k (turned (turned f)) ≡ false → faceSeen t k (turned (turned (turned f))) ≡ faceBefore t k f
   unfolding faceBefore

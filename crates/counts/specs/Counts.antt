@@ -1,6 +1,8 @@
--- Document 01, "Census program": "V is records; E is the different unordered pairs of a vertex and one of its star's adjacent points; F the different faces; then
+-- Document 01, "Census program": "V is records; E is the different unordered pairs of a vertex and one of its star's adjacent points; F the
+-- different faces; then
 -- records by degree." What the promise cites: `countsOf`.
--- `different` how many different ones a list has · `pairsAt`, `facesAt` the pairs and the faces of a vertex, `samePair`, `sameFace` which are the same · `edgesIn`, `facesIn`, `degreeIn`
+-- `different` how many different ones a list has · `pairsAt`, `facesAt` the pairs and the faces of a vertex, `samePair`, `sameFace` which are the
+-- same · `edgesIn`, `facesIn`, `degreeIn`
 -- those of a table.
 -- Assumes nothing.
 use mathlib.Core.Bool.{Bool, true, false, cond, not, _&&_, _||_}
@@ -8,6 +10,7 @@ use mathlib.Core.List.{List, [], _∷_, _++_}
 use Prim.Native.Nat.{ℕ, zero, suc, _+_}
 use lib.Dec.{eqb}
 use lib.ListN.{length}
+use Rattle.laws.specs.Some.{someOf}
 use Rattle.lattice.specs.Stars.{adjacentAt}
 use Rattle.lattice.specs.declared.points.Point.{Point}
 use Rattle.lattice.specs.declared.records.Record.{Record}
@@ -25,16 +28,10 @@ abbrev pub bit : Bool → ℕ
 bit true = 1
 bit false = 0
 
--- the test passes at an element of the list
-unfoldable pub someIn : {A : Type 0} → (A → Bool) → List A → Bool
-someIn f [] = false
-someIn f (x ∷ xs) = f x || someIn f xs
-
 -- `seen` are the ones before
 unfoldable pub differentAfter : {A : Type 0} → (A → A → Bool) → List A → List A → ℕ
-unfolding someIn
 differentAfter same seen [] = 0
-differentAfter same seen (x ∷ xs) = bit (not (someIn (same x) seen)) + differentAfter same (seen ++ x ∷ []) xs
+differentAfter same seen (x ∷ xs) = bit (not (someOf (same x) seen)) + differentAfter same (seen ++ x ∷ []) xs
 
 abbrev pub different : {A : Type 0} → (A → A → Bool) → List A → ℕ
 different same xs = differentAfter same [] xs

@@ -1,20 +1,23 @@
 -- How many different ones a list has, part by part.
--- `sum-none`, `sum-more` a sum · `among-more`, `slotTest` tests of numbers and of slots · `some-one`, `some-none`, `some-gather`, `some-each` where a test passes in a list put together of
--- parts · `different-one`, `different-place`, `different-nothing` an element, by those before it · `different-star` the different ones of a star, place by place · `different-slots` those of a
+-- `sum-none`, `sum-more` a sum · `among-more`, `slotTest` tests of numbers and of slots · `some-one`, `some-none`, `some-gather`, `some-each`
+-- where a test passes in a list put together of
+-- parts · `different-one`, `different-place`, `different-nothing` an element, by those before it · `different-star` the different ones of a star,
+-- place by place · `different-slots` those of a
 -- table, slot by slot.
 -- Assumes nothing.
 use mathlib.Core.Path.{_≡_, refl, sym, ap, _∙_}
-use mathlib.Core.Bool.{Bool, true, false, not, _||_, or-assoc, or-false}
+use mathlib.Core.Bool.{Bool, true, false, not, _||_, or-comm, or-false}
 use mathlib.Core.List.{List, [], _∷_, _++_, append-assoc, append-nil}
 use Prim.Native.Nat.{ℕ, zero, suc, _+_, _<_}
 use native.Mathlib.Omega.{arith}
 use Rattle.laws.specs.Rules.{among}
+use Rattle.laws.specs.Some.{someOf, some-append}
 use Rattle.lattice.specs.declared.records.Record.{Record}
 use Rattle.table.specs.Slots.{slotAt}
 use Rattle.table.specs.Entries.{listed, recordsBelow}
 use Rattle.table.specs.declared.slots.Slot.{Slot}
 use Rattle.table.specs.declared.slots.Slot.the-variants.{Free, Holds}
-use Rattle.counts.specs.Counts.{bit, someIn, differentAfter, gather, each}
+use Rattle.counts.specs.Counts.{bit, differentAfter, gather, each}
 use Rattle.counts.specs.Earlier.{sumBelow, slotSum}
 
 -- ---- sums
@@ -42,29 +45,17 @@ abbrev pub slotTest : (Record → Bool) → Slot → Bool
 slotTest f Free = false
 slotTest f (Holds v) = f v
 
-or-turn : (a b : Bool) → a || b ≡ b || a
-or-turn true true = refl
-or-turn true false = refl
-or-turn false true = refl
-or-turn false false = refl
-
 module _ {A : Type 0} where
-  pub some-append : (f : A → Bool) (xs ys : List A) → someIn f (xs ++ ys) ≡ someIn f xs || someIn f ys
-  unfolding someIn
-  some-append f [] ys = refl
-  some-append f (x ∷ xs) ys = ap (λ (b : Bool). f x || b) (some-append f xs ys) ∙ sym (or-assoc (f x) (someIn f xs) (someIn f ys))
-
-  pub some-gather : (f : A → Bool) (d : ℕ) (g : ℕ → List A) → someIn f (gather d g) ≡ among d (λ j. someIn f (g j))
-  unfolding gather someIn
+  pub some-gather : (f : A → Bool) (d : ℕ) (g : ℕ → List A) → someOf f (gather d g) ≡ among d (λ j. someOf f (g j))
+  unfolding gather
   some-gather f zero g = refl
-  some-gather f (suc d) g = some-append f (gather d g) (g d) ∙ ap (λ (b : Bool). b || someIn f (g d)) (some-gather f d g) ∙ or-turn (among d (λ j. someIn f (g j))) (someIn f (g d))
+  some-gather f (suc d) g = some-append f (gather d g) (g d) ∙ ap (λ (b : Bool). b || someOf f (g d)) (some-gather f d g)
+      ∙ or-comm (among d (λ j. someOf f (g j))) (someOf f (g d))
 
-  pub some-one : (f : A → Bool) (x : A) → someIn f (x ∷ []) ≡ f x
-  unfolding someIn
+  pub some-one : (f : A → Bool) (x : A) → someOf f (x ∷ []) ≡ f x
   some-one f x = or-false (f x)
 
-  pub some-none : (f : A → Bool) → someIn f [] ≡ false
-  unfolding someIn
+  pub some-none : (f : A → Bool) → someOf f [] ≡ false
   some-none f = refl
 
   each-append : (g : Record → List A) (vs ws : List Record) → each g (vs ++ ws) ≡ each g vs ++ each g ws
@@ -86,16 +77,17 @@ module _ {A : Type 0} where
       one Free = refl
       one (Holds v) = append-nil (g v)
 
-  pub some-each : (f : A → Bool) (g : Record → List A) (t : List ℕ) (k : ℕ) → someIn f (each g (recordsBelow t k)) ≡ among k (λ i. slotTest (λ u. someIn f (g u)) (slotAt t i))
-  unfolding recordsBelow each someIn
+  pub some-each : (f : A → Bool) (g : Record → List A) (t : List ℕ) (k : ℕ) → someOf f (each g (recordsBelow t k))
+      ≡ among k (λ i. slotTest (λ u. someOf f (g u)) (slotAt t i))
+  unfolding recordsBelow each
   some-each f g t zero = refl
   some-each f g t (suc k) =
       let a = each g (recordsBelow t k) in
       let s = slotAt t k in
-      ap (someIn f) (each-more g t k) ∙ some-append f a (slotGives g s) ∙ or-turn (someIn f a) (someIn f (slotGives g s))
+      ap (someOf f) (each-more g t k) ∙ some-append f a (slotGives g s) ∙ or-comm (someOf f a) (someOf f (slotGives g s))
       ∙ (λ i. one s i || some-each f g t k i)
     where
-      one : (s : Slot) → someIn f (slotGives g s) ≡ slotTest (λ u. someIn f (g u)) s
+      one : (s : Slot) → someOf f (slotGives g s) ≡ slotTest (λ u. someOf f (g u)) s
       one Free = refl
       one (Holds v) = refl
 
@@ -111,22 +103,24 @@ module _ {A : Type 0} where
         omega (arith, a, b)
 
     -- an element, by whether a same one is among those before
-    pub different-one : (seen : List A) (x : A) (b : Bool) → someIn (same x) seen ≡ b → differentAfter same seen (x ∷ []) ≡ bit (not b)
+    pub different-one : (seen : List A) (x : A) (b : Bool) → someOf (same x) seen ≡ b → differentAfter same seen (x ∷ []) ≡ bit (not b)
     unfolding differentAfter
     different-one seen x b e = let z = ap (λ (c : Bool). bit (not c)) e in omega (arith, z)
 
     -- an element at place j of a star, none of whose earlier places gives a same one
-    pub different-place : (seen : List A) (g : ℕ → List A) (j : ℕ) (x : A) (b : Bool) → someIn (same x) seen ≡ b → ((i : ℕ) → i < j → someIn (same x) (g i) ≡ false) → differentAfter same (seen ++ gather j g) (x ∷ []) ≡ bit (not b)
+    pub different-place : (seen : List A) (g : ℕ → List A) (j : ℕ) (x : A) (b : Bool) → someOf (same x) seen ≡ b
+        → ((i : ℕ) → i < j → someOf (same x) (g i) ≡ false) → differentAfter same (seen ++ gather j g) (x ∷ []) ≡ bit (not b)
     different-place seen g j x b e h =
         different-one (seen ++ gather j g) x b
-        (some-append (same x) seen (gather j g) ∙ (λ i. e i || (some-gather (same x) j g ∙ among-none (λ i. someIn (same x) (g i)) j h) i) ∙ or-false b)
+        (some-append (same x) seen (gather j g) ∙ (λ i. e i || (some-gather (same x) j g ∙ among-none (λ i. someOf (same x) (g i)) j h) i) ∙ or-false b)
 
     pub different-nothing : (seen : List A) → differentAfter same seen [] ≡ 0
     unfolding differentAfter
     different-nothing seen = refl
 
     -- a star's places, of which place j adds c j
-    pub different-star : (seen : List A) (g : ℕ → List A) (c : ℕ → ℕ) (d : ℕ) → ((j : ℕ) → j < d → differentAfter same (seen ++ gather j g) (g j) ≡ c j) → differentAfter same seen (gather d g) ≡ sumBelow c d
+    pub different-star : (seen : List A) (g : ℕ → List A) (c : ℕ → ℕ) (d : ℕ)
+        → ((j : ℕ) → j < d → differentAfter same (seen ++ gather j g) (g j) ≡ c j) → differentAfter same seen (gather d g) ≡ sumBelow c d
     unfolding gather sumBelow
     different-star seen g c zero h = different-nothing seen
     different-star seen g c (suc d) h =

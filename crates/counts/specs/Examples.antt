@@ -1,9 +1,9 @@
--- Document 01's counts of one hexagon and of "Three", computed from the bytes of their tables.
+-- Document 01's counts of one hexagon, computed from the bytes of its table.
 -- Assumes nothing.
 use mathlib.Core.Path.{_≡_, refl}
 use mathlib.Core.List.{List, [], _∷_}
 use Prim.Native.Nat.{ℕ, _*_}
-use lib.IntN.{ℤ, pos, negsuc}
+use lib.IntN.{ℤ, pos}
 use lib.ListN.{replicate}
 use Rattle.laws.specs.Words.{wordAt}
 use Rattle.lattice.specs.Points.{normalOf, turns}
@@ -13,7 +13,7 @@ use Rattle.table.specs.Search.{homeOf, samePoint, searchFrom, findOf}
 use Rattle.table.specs.Entries.{lookUp, enterOf, recordsBelow}
 use Rattle.base.specs.Base.{listedIn, firstBad, internal, cornerRecord, hexagonOf, layHexagon, layAll, laidOf, baseOf}
 use Rattle.queries.specs.Queries.{chosenAt}
-use Rattle.counts.specs.Counts.{someIn, differentAfter, gather, each, samePair, fits, sameFace, ofDegree, numbers, countsOf}
+use Rattle.counts.specs.Counts.{differentAfter, gather, each, samePair, fits, sameFace, ofDegree, numbers, countsOf}
 
 -- the base of these centres, in 16 slots
 laid : List ℤ → List ℕ
@@ -22,10 +22,7 @@ laid cs = baseOf (replicate (slotWidth * 16) 255) cs .bytes
 
 -- "Census of it: .. `7 3 3 6 1 0 0 0`."
 one-counts : countsOf (laid (pos 0 ∷ pos 0 ∷ [])) ≡ numbers 7 3 3 6 1 0 0 0
-unfolding countsOf someIn differentAfter gather each samePair fits sameFace ofDegree recordsBelow chosenAt laid baseOf firstBad laidOf layAll layHexagon hexagonOf cornerRecord internal listedIn turns normalOf patternOf rowsOf three four five six orient lookUp enterOf findOf searchFrom slotAt freeAt recordAt putSlot recordBytes slotsIn homeOf samePoint wordAt
+unfolding countsOf differentAfter gather each samePair fits sameFace ofDegree recordsBelow chosenAt laid baseOf firstBad laidOf layAll layHexagon
+    hexagonOf cornerRecord internal listedIn turns normalOf patternOf rowsOf three four five six orient lookUp enterOf findOf searchFrom slotAt
+    freeAt recordAt putSlot recordBytes slotsIn homeOf samePoint wordAt
 one-counts = refl
-
--- "Census 16 12 9 12 3 0 0 1."
-three-counts : countsOf (laid (pos 0 ∷ pos 0 ∷ pos 1 ∷ pos 1 ∷ pos 2 ∷ negsuc 0 ∷ [])) ≡ numbers 16 12 9 12 3 0 0 1
-unfolding countsOf someIn differentAfter gather each samePair fits sameFace ofDegree recordsBelow chosenAt laid baseOf firstBad laidOf layAll layHexagon hexagonOf cornerRecord internal listedIn turns normalOf patternOf rowsOf three four five six orient lookUp enterOf findOf searchFrom slotAt freeAt recordAt putSlot recordBytes slotsIn homeOf samePoint wordAt
-three-counts = refl

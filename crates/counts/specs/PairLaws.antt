@@ -1,6 +1,7 @@
 -- Each pair is counted at the first of the vertices that name it: `edges-counted`.
 --
--- The pair of v, in slot k, and its adjacent point a is the same as an earlier one exactly where the vertex at a stands before slot k and names v: an earlier vertex is not v
+-- The pair of v, in slot k, and its adjacent point a is the same as an earlier one exactly where the vertex at a stands before slot k and names v:
+-- an earlier vertex is not v
 -- itself, no point standing twice, and the places of one star are different points.
 -- Assumes nothing.
 use mathlib.Core.Path.{_≡_, refl, sym, ap, _∙_}
@@ -11,6 +12,7 @@ use Prim.Native.Nat.{ℕ, _≤_, _<_}
 use native.Mathlib.Omega.{arith}
 use Rattle.laws.specs.Rules.{among}
 use Rattle.laws.specs.Each.{both-left, both-right, among-at, at-among, same-test}
+use Rattle.laws.specs.Some.{someOf}
 use Rattle.lattice.specs.Stars.{adjacentAt}
 use Rattle.lattice.specs.declared.points.Point.{Point}
 use Rattle.lattice.specs.declared.records.Record.{Record}
@@ -21,7 +23,7 @@ use Rattle.table.specs.Order.{InOrder}
 use Rattle.table.specs.Entries.{recordsBelow}
 use Rattle.table.specs.MapLaws.{same-refl, same-true}
 use Rattle.table.specs.declared.slots.Slot.the-variants.{Holds}
-use Rattle.counts.specs.Counts.{someIn, differentAfter, each, Pair, pair, pairsAt, samePair, edgesIn}
+use Rattle.counts.specs.Counts.{differentAfter, each, Pair, pair, pairsAt, samePair, edgesIn}
 use Rattle.counts.specs.Earlier.{sumBelow, namesPoint, pairBefore, pairCount, starPairs, slotPairs}
 use Rattle.counts.specs.DifferentLaws.{slotTest, some-one, some-gather, some-each, different-place, different-star, different-slots}
 use Rattle.counts.specs.EarlierLaws.{other-point, star-inner, earlier-yes, yes-earlier, slots-pass, pass-slots}
@@ -48,17 +50,17 @@ place v j = pair (v .at) (adjacentAt v j) ∷ []
 
 -- the pair of p and a is one of u's
 abbrev gives : Point → Point → Record → Bool
-gives p a u = someIn (samePair (pair p a)) (pairsAt u)
+gives p a u = someOf (samePair (pair p a)) (pairsAt u)
 
 gives-place : (p a : Point) (u : Record) → gives p a u ≡ true → (i : ℕ) × (i < u .d) × (samePair (pair p a) (pair (u .at) (adjacentAt u i)) ≡ true)
 gives-place p a u h =
-    let x = among-at (λ i. someIn (samePair (pair p a)) (place u i)) (u .d) (sym (some-gather (samePair (pair p a)) (u .d) (place u)) ∙ h) in
+    let x = among-at (λ i. someOf (samePair (pair p a)) (place u i)) (u .d) (sym (some-gather (samePair (pair p a)) (u .d) (place u)) ∙ h) in
     (x .0, x .1, sym (some-one (samePair (pair p a)) (pair (u .at) (adjacentAt u (x .0)))) ∙ x .2)
 
 place-gives : (p a : Point) (u : Record) (i : ℕ) → i < u .d → samePair (pair p a) (pair (u .at) (adjacentAt u i)) ≡ true → gives p a u ≡ true
 place-gives p a u i l e =
     some-gather (samePair (pair p a)) (u .d) (place u)
-    ∙ at-among (λ i. someIn (samePair (pair p a)) (place u i)) (u .d) i l (some-one (samePair (pair p a)) (pair (u .at) (adjacentAt u i)) ∙ e)
+    ∙ at-among (λ i. someOf (samePair (pair p a)) (place u i)) (u .d) i l (some-one (samePair (pair p a)) (pair (u .at) (adjacentAt u i)) ∙ e)
 
 -- the vertex at a gives the pair where it names p
 names-gives : (p : Point) (u : Record) → namesPoint u p ≡ true → gives p (u .at) u ≡ true
@@ -73,13 +75,14 @@ gives-names : (p a : Point) (u : Record) → (u .at ≡ p → ⊥) → gives p a
 unfolding namesPoint
 gives-names p a u ne h = let x = gives-place p a u h in go (x .0) (x .1) (pair-same p a (u .at) (adjacentAt u (x .0)) (x .2))
   where
-    go : (i : ℕ) → i < u .d → ((p ≡ u .at) × (a ≡ adjacentAt u i)) ⊎ ((p ≡ adjacentAt u i) × (a ≡ u .at)) → (u .at ≡ a) × (among (u .d) (λ i. samePoint (adjacentAt u i) p) ≡ true)
+    go : (i : ℕ) → i < u .d → ((p ≡ u .at) × (a ≡ adjacentAt u i)) ⊎ ((p ≡ adjacentAt u i) × (a ≡ u .at)) → (u .at ≡ a)
+        × (among (u .d) (λ i. samePoint (adjacentAt u i) p) ≡ true)
     go i l (inl e) = absurd (ne (sym (e .0)))
     go i l (inr e) = (sym (e .1), at-among (λ i. samePoint (adjacentAt u i) p) (u .d) i l (ap (λ (q : Point). samePoint q p) (sym (e .0)) ∙ same-refl p))
 
 module _ (t : List ℕ) (o : InOrder t) where
   module _ (k : ℕ) (v : Record) (l : k < slotsOf t) (here : slotAt t k ≡ Holds v) where
-    pair-before : (a : Point) → someIn (samePair (pair (v .at) a)) (each pairsAt (recordsBelow t k)) ≡ pairBefore t k (v .at) a
+    pair-before : (a : Point) → someOf (samePair (pair (v .at) a)) (each pairsAt (recordsBelow t k)) ≡ pairBefore t k (v .at) a
     unfolding pairBefore
     pair-before a = some-each (samePair (pair p a)) pairsAt t k ∙ same-test (among k (λ i. slotTest (gives p a) (slotAt t i))) (pairBefore t k p a) there back
       where
@@ -100,11 +103,19 @@ module _ (t : List ℕ) (o : InOrder t) where
             let y = yes-earlier t o k top (λ u. namesPoint u p) a h in
             let x = y .0 in
             pass-slots t k (gives p a)
-            (record { rec = x .rec; slot = x .slot; below = x .below; holds = x .holds; passes = ap (λ (q : Point). gives p q (x .rec)) (sym (y .1)) ∙ names-gives p (x .rec) (x .passes) })
+            (record {
+              rec = x .rec;
+              slot = x .slot;
+              below = x .below;
+              holds = x .holds;
+              passes = ap (λ (q : Point). gives p q (x .rec)) (sym (y .1))
+                  ∙ names-gives p (x .rec) (x .passes);
+            })
 
     -- no two places of a star give one pair
-    place-apart : (i j : ℕ) → i < j → j < v .d → someIn (samePair (pair (v .at) (adjacentAt v j))) (place v i) ≡ false
-    place-apart i j h m = some-one (samePair (pair (v .at) (adjacentAt v j))) (pair (v .at) (adjacentAt v i)) ∙ go (samePair (pair (v .at) (adjacentAt v j)) (pair (v .at) (adjacentAt v i))) refl
+    place-apart : (i j : ℕ) → i < j → j < v .d → someOf (samePair (pair (v .at) (adjacentAt v j))) (place v i) ≡ false
+    place-apart i j h m = some-one (samePair (pair (v .at) (adjacentAt v j))) (pair (v .at) (adjacentAt v i))
+        ∙ go (samePair (pair (v .at) (adjacentAt v j)) (pair (v .at) (adjacentAt v i))) refl
       where
         never : ((v .at ≡ v .at) × (adjacentAt v j ≡ adjacentAt v i)) ⊎ ((v .at ≡ adjacentAt v i) × (adjacentAt v j ≡ v .at)) → ⊥
         never (inl e) =

@@ -1,6 +1,6 @@
 // What a census counts of a table: document 01's V, E, F and the records by degree.
 //
-// `census_of` gives them all. pairs.rt and faces.rt count each pair and each face once, at the first vertex that names it, with no memory but a few words.
+// `counts_of` gives them all. pairs.rt and faces.rt count each pair and each face once, at the first vertex that names it, with no memory but a few words.
 // The promise cites specs/Counts.
 ghost use mathlib.Core.Path.{_≡_};
 ghost use Rattle.table.specs.Slots.{slotsOf};
@@ -30,7 +30,7 @@ pub struct Counts {
 }
 
 // The numbers of a table in order, of n slots. In time linear in the slots, as long as the searches are short.
-pub fn census_of(t: &[u8], n: usize) -> Counts
+pub fn counts_of(t: &[u8], n: usize) -> Counts
     requires { ⌜ InOrder (now t) × (n ≡ slotsOf (now t)) ⌝ }
     ensures { λ r. ⌜ r ≡ countsOf (now (t .entry)) ⌝ }
 {

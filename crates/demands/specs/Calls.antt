@@ -1,24 +1,35 @@
--- Every public call: what it is lent, what is known of it afterwards, and the definition that its promise cites. A promise is `outcome ≡ does call lent`, for all that can be lent.
--- `one-outcome` two outcomes that a promise allows are equal.
+-- Every call that may be made with anything: what it is lent, what is known of it afterwards, and the definition that its promise cites. A promise is
+-- `outcome ≡ does call lent`, for all that can be lent. They are document 01's calls; ours, `subdivide_all`; and what floors above stand on,
+-- `in_order`, `parse_line`, `prepare`. All else that crates make public is a part of these that a floor above needs, and no call of the library.
+-- `one-outcome` two outcomes that a promise allows are equal · `prepare-one` the same of `prepare`, whose promise is by cases · `one-told` whatever is
+-- told of an outcome is one: so the C names, whose promises are these equations with the points in a row (`pointNumbers`, `answerNumbers`).
 -- Assumes nothing.
 use mathlib.Core.Path.{_≡_, sym, _∙_}
+use mathlib.Core.Bool.{Bool}
 use mathlib.Core.List.{List}
 use Prim.Native.Nat.{ℕ}
+use native.Mathlib.Omega.{arith}
 use lib.IntN.{ℤ}
 use Rattle.lattice.specs.Points.{normalOf}
 use Rattle.lattice.specs.Stars.{starOf}
 use Rattle.lattice.specs.declared.points.Point.{Point}
 use Rattle.lattice.specs.declared.records.Record.{Record}
 use Rattle.lattice.specs.declared.stars.Answer.{Answer}
+use Rattle.laws.specs.Each.{not-both}
+use Rattle.table.specs.Order.{inOrderOf}
+use Rattle.text.specs.Line.{lineAt}
+use Rattle.text.specs.declared.line.Line.{Line}
 use Rattle.base.specs.Base as laid
 use Rattle.mesh.specs.Subdivide as divided
 use Rattle.queries.specs.Queries.{neighboursOf, facesOf}
 use Rattle.writers.specs.Files as written
 use Rattle.readers.specs.Readers as read
+use Rattle.readers.specs.BeginLaws.{Prepared, unfit, fit}
 use Rattle.census_text.specs.Census as counted
 
 pub data Call : Type 0 where
-  normalise star base subdivide subdivideAll neighbours faces writeFull writeReduced readFull readReduced census : Call
+  normalise star base subdivide subdivideAll neighbours faces : Call
+  writeFull writeReduced readFull readReduced census inOrder parseLine : Call
 
 -- lent bytes are lists of ℕ, lent whole numbers lists of ℤ
 abbrev pub Lent : Call → Type 0
@@ -34,12 +45,14 @@ Lent writeReduced = List ℕ × List ℕ
 Lent readFull = List ℕ × List ℕ × List ℕ
 Lent readReduced = List ℕ × List ℕ × List ℕ
 Lent census = List ℕ × List ℕ × List ℕ × List ℕ
+Lent inOrder = List ℕ
+Lent parseLine = List ℕ × ℕ
 
 -- the answer, and the bytes after of all that was lent to be written
 abbrev pub Outcome : Call → Type 0
 Outcome normalise = Point
 Outcome star = Answer
-Outcome base = laid.Base
+Outcome base = laid.Answered
 Outcome subdivide = divided.Outcome
 Outcome subdivideAll = divided.Many
 Outcome neighbours = Answer
@@ -49,6 +62,8 @@ Outcome writeReduced = written.Outcome
 Outcome readFull = read.Outcome
 Outcome readReduced = read.Outcome
 Outcome census = counted.Result
+Outcome inOrder = Bool
+Outcome parseLine = Line
 
 abbrev pub does : (c : Call) → Lent c → Outcome c
 does normalise (a, b, m) = normalOf a b m
@@ -63,7 +78,19 @@ does writeReduced (t, out) = written.writeReducedOf t out
 does readFull (t, s, f) = read.readFullOf t s f
 does readReduced (t, s, f) = read.readReducedOf t s f
 does census (i, t, s, out) = counted.censusOf i t s out
+does inOrder t = inOrderOf t
+does parseLine (f, p) = lineAt f p
 
 -- "show that two outcomes allowed by it are equal"
 pub one-outcome : (c : Call) (x : Lent c) (o o′ : Outcome c) → o ≡ does c x → o′ ≡ does c x → o ≡ o′
 one-outcome c x o o′ p q = p ∙ sym q
+
+pub one-told : {A : Type 0} (c : Call) (x : Lent c) (told : Outcome c → A) (a a′ : A) → a ≡ told (does c x) → a′ ≡ told (does c x) → a ≡ a′
+one-told c x told a a′ p q = p ∙ sym q
+
+-- `prepare` leaves both tables and gives the number of slots, or 0
+pub prepare-one : (t s t′ s′ u v : List ℕ) (n k : ℕ) → Prepared t s t′ s′ n → Prepared t s u v k → (n ≡ k) × (t′ ≡ u) × (s′ ≡ v)
+prepare-one t s t′ s′ u v n k (unfit e f a b) (unfit e′ f′ a′ b′) = (e ∙ sym e′, a ∙ sym a′, b ∙ sym b′)
+prepare-one t s t′ s′ u v n k (unfit e f a b) (fit e′ f′ a′ b′ w′) = absurd (not-both f′ f)
+prepare-one t s t′ s′ u v n k (fit e f a b w) (unfit e′ f′ a′ b′) = absurd (not-both f f′)
+prepare-one t s t′ s′ u v n k (fit e f a b w) (fit e′ f′ a′ b′ w′) = (omega (arith, w .long, w′ .long), a ∙ sym a′, b ∙ sym b′)

@@ -1,14 +1,19 @@
 -- every public call, and that its outcome is one
 pub mod Calls
--- demand 1: the numbers, and the bytes of a refusal
+-- demand 1: the numbers, where a reader finds fault, and the bytes of a refusal
 pub mod Numbers
 pub mod ReadNumbers
+pub mod Faults
 pub mod Refused
--- demand 2: one form of a point, the meshes, the files
+-- demand 2: one form of a point, the opposites of a corner, the meshes, the files
 pub mod Points
+pub mod Opposites
+pub mod SeenFaces
+pub mod Forms
 pub mod Meshes
+pub mod Order
 pub mod Files
--- demand 3: what is written comes back
+-- demand 3: what is written comes back, call by call
 pub mod Returns
 -- the starred examples
 pub mod Starred

@@ -1,7 +1,8 @@
--- Demand 1, the numbers: "What is wrong is refused by document 01's numbers, on its conditions and no others." For each call its conditions, in the order that 01 has them: the number is that of
--- the first that holds, and 0 where none does.
--- `Rule`, `firstOf` · `first-number`, `number-first` refused with a number exactly when its condition holds and none before it, `zero-none`, `none-zero` 0 exactly where none does · `star-number`, `base-number`, `base-place`, `subdivide-number`, `neighbours-number`,
--- `faces-number`, `write-number` the calls.
+-- Demand 1, the numbers: "What is wrong is refused by document 01's numbers, on its conditions and no others." For each call its conditions, in the
+-- order that 01 has them: the number is that of the first that holds, and 0 where none does.
+-- `Rule`, `firstOf` · `first-number`, `number-first` refused with a number exactly when its condition holds and none before it, `zero-none`,
+-- `none-zero` 0 exactly where none does · `star-number`, `base-number`, `base-place`, `subdivide-number`, `neighbours-number`, `faces-number`,
+-- `write-number` the calls.
 -- Assumes nothing.
 use mathlib.Core.Path.{_≡_, refl, sym, _∙_, ap}
 use mathlib.Core.Bool.{Bool, true, false, cond, _&&_, not}
@@ -70,7 +71,15 @@ number-first (r ∷ rs) n e z = go (r .when) refl e (λ k. number-first rs n k z
     go true h e ih = record { before = []; rule = r; rest = rs; among = refl; none = tt; holds = h; gives = e }
     go false h e ih =
         let f = ih e in
-        record { before = r ∷ f .before; rule = f .rule; rest = f .rest; among = ap (λ (xs : List Rule). r ∷ xs) (f .among); none = (h, f .none); holds = f .holds; gives = f .gives }
+        record {
+          before = r ∷ f .before;
+          rule = f .rule;
+          rest = f .rest;
+          among = ap (λ (xs : List Rule). r ∷ xs) (f .among);
+          none = (h, f .none);
+          holds = f .holds;
+          gives = f .gives;
+        }
 
 -- 0 exactly where none holds, of rules that give other numbers than 0 where they hold
 pub zero-none : (rules : List Rule) → ((r : Rule) → List·Memᴰ r rules → r .when ≡ true → r .number ≢ 0) → firstOf rules ≡ 0 → noneHolds rules
@@ -113,7 +122,7 @@ unfolding baseOf
 base-number t cs = go (fitsLength (length t)) (unpaired cs) (ltb (badPlace cs) (centresIn cs)) (laidOf t cs)
   where
     go : (f o b : Bool) (l : Laid)
-        → cond f (cond o (laid.outcome 2 0 (clearedOf t)) (cond b (laid.outcome 2 (badPlace cs) (clearedOf t)) (fromLaid t l))) (laid.outcome 1 0 t) .number
+        → cond f (cond o (laid.answered 2 0 (clearedOf t)) (cond b (laid.answered 2 (badPlace cs) (clearedOf t)) (fromLaid t l))) (laid.answered 1 0 t) .number
         ≡ firstOf (not f ⇒ 1 ∷ o ⇒ 2 ∷ b ⇒ 2 ∷ noRoom l ⇒ 8 ∷ [])
     go false o b l = refl
     go true true b l = refl
@@ -122,12 +131,13 @@ base-number t cs = go (fitsLength (length t)) (unpaired cs) (ltb (badPlace cs) (
     go true false false NoRoom = refl
 
 -- "Base gives the 0-based place, counted in centres, of the first bad centre .., else 0; an empty or odd list gives place 0"
-pub base-place : (t : List ℕ) (cs : List ℤ) → baseOf t cs .place ≡ cond (fitsLength (length t) && (not (unpaired cs) && ltb (badPlace cs) (centresIn cs))) (badPlace cs) 0
+pub base-place : (t : List ℕ) (cs : List ℤ)
+    → baseOf t cs .place ≡ cond (fitsLength (length t) && (not (unpaired cs) && ltb (badPlace cs) (centresIn cs))) (badPlace cs) 0
 unfolding baseOf
 base-place t cs = go (fitsLength (length t)) (unpaired cs) (ltb (badPlace cs) (centresIn cs)) (laidOf t cs)
   where
     go : (f o b : Bool) (l : Laid)
-        → cond f (cond o (laid.outcome 2 0 (clearedOf t)) (cond b (laid.outcome 2 (badPlace cs) (clearedOf t)) (fromLaid t l))) (laid.outcome 1 0 t) .place
+        → cond f (cond o (laid.answered 2 0 (clearedOf t)) (cond b (laid.answered 2 (badPlace cs) (clearedOf t)) (fromLaid t l))) (laid.answered 1 0 t) .place
         ≡ cond (f && (not o && b)) (badPlace cs) 0
     go false o b l = refl
     go true true b l = refl
@@ -152,7 +162,12 @@ unfolding subdivideOf
 subdivide-number t a b m = go (inOrderOf t) (lookUp t (normalOf a b m))
   where
     at : (v : Record) (six last deep t7 few : Bool)
-        → cond six (cond last (divided.outcome 5 t) (cond deep (divided.outcome 6 t) (cond t7 (divided.outcome 7 t) (cond few (divided.outcome 8 t) (divided.outcome 0 (subdivided t v)))))) (divided.outcome 4 t) .number
+        → cond six
+        (cond last (divided.outcome 5 t)
+        (cond deep (divided.outcome 6 t)
+        (cond t7 (divided.outcome 7 t)
+        (cond few (divided.outcome 8 t) (divided.outcome 0 (subdivided t v))))))
+        (divided.outcome 4 t) .number
         ≡ firstOf (not six ⇒ 4 ∷ last ⇒ 5 ∷ deep ⇒ 6 ∷ t7 ⇒ 7 ∷ few ⇒ 8 ∷ [])
     at v false last deep t7 few = refl
     at v true true deep t7 few = refl
@@ -161,7 +176,17 @@ subdivide-number t a b m = go (inOrderOf t) (lookUp t (normalOf a b m))
     at v true false false false true = refl
     at v true false false false false = refl
 
-    go : (o : Bool) (l : Looked) → cond o (subdivideLooked t l) (divided.outcome 1 t) .number ≡ firstOf (not o ⇒ 1 ∷ not (isHeld l) ⇒ 3 ∷ ofHeld (λ v. not (eqb (v .d) 6)) l ⇒ 4 ∷ ofHeld (λ v. eqb (v .n .0) 12) l ⇒ 5 ∷ ofHeld tooDeep l ⇒ 6 ∷ ofHeld (torn t) l ⇒ 7 ∷ ltb (freeSlots t) 6 ⇒ 8 ∷ [])
+    go : (o : Bool) (l : Looked)
+        → cond o (subdivideLooked t l) (divided.outcome 1 t) .number
+        ≡ firstOf
+        (not o ⇒ 1
+        ∷ not (isHeld l) ⇒ 3
+        ∷ ofHeld (λ v. not (eqb (v .d) 6)) l ⇒ 4
+        ∷ ofHeld (λ v. eqb (v .n .0) 12) l ⇒ 5
+        ∷ ofHeld tooDeep l ⇒ 6
+        ∷ ofHeld (torn t) l ⇒ 7
+        ∷ ltb (freeSlots t) 6 ⇒ 8
+        ∷ [])
     go false l = refl
     go true Absent = refl
     go true (Held v) = at v (eqb (v .d) 6) (eqb (v .n .0) 12) (tooDeep v) (torn t v) (ltb (freeSlots t) 6)
@@ -186,12 +211,14 @@ query-number t l whole answer zero = go (inOrderOf t) l
     go true (Held v) = at v (eqb (v .d) 0) (whole v)
 
 -- "Torn, neighbours: an adjacent is absent."
-pub neighbours-number : (t : List ℕ) (a b : ℤ) (m : ℕ) → neighboursOf t a b m .number ≡ firstOf (queryRules t (lookUp t (normalOf a b m)) (λ v. not (adjacentsThere t v)))
+pub neighbours-number : (t : List ℕ) (a b : ℤ) (m : ℕ)
+    → neighboursOf t a b m .number ≡ firstOf (queryRules t (lookUp t (normalOf a b m)) (λ v. not (adjacentsThere t v)))
 unfolding neighboursOf
 neighbours-number t a b m = query-number t (lookUp t (normalOf a b m)) (adjacentsThere t) given (λ v. refl)
 
 -- "Torn, faces: that, or a corner with no opposite in the table."
-pub faces-number : (t : List ℕ) (a b : ℤ) (m : ℕ) → facesOf t a b m .number ≡ firstOf (queryRules t (lookUp t (normalOf a b m)) (λ v. not (adjacentsThere t v && cornersThere t v)))
+pub faces-number : (t : List ℕ) (a b : ℤ) (m : ℕ)
+    → facesOf t a b m .number ≡ firstOf (queryRules t (lookUp t (normalOf a b m)) (λ v. not (adjacentsThere t v && cornersThere t v)))
 unfolding facesOf
 faces-number t a b m = query-number t (lookUp t (normalOf a b m)) (λ v. adjacentsThere t v && cornersThere t v) (facesGiven t) (λ v. refl)
 
@@ -200,7 +227,8 @@ pub write-number : (file t out : List ℕ) → writeOf file t out .number ≡ fi
 unfolding writeOf putOf
 write-number file t out = go (inOrderOf t) (ltb (length out) (length file))
   where
-    go : (o s : Bool) → cond o (cond s (written.outcome 13 0 out) (written.outcome 0 (length file) (file ++ drop (length file) out))) (written.outcome 1 0 out) .number
+    go : (o s : Bool)
+        → cond o (cond s (written.outcome 13 0 out) (written.outcome 0 (length file) (file ++ drop (length file) out))) (written.outcome 1 0 out) .number
         ≡ firstOf (not o ⇒ 1 ∷ s ⇒ 13 ∷ [])
     go false s = refl
     go true true = refl

@@ -1,74 +1,22 @@
 -- Demand 2: "One point has one written form", however a request spells it.
--- `one-form`, `form-one` two spellings normalise alike exactly where they are one point · `form-normal` the form is normalised · `subdivide-spelling`, `neighbours-spelling`, `faces-spelling` so no call tells them apart.
+-- `one-form`, `form-one` two spellings normalise alike exactly where they are one point · `form-normal` the form is normalised ·
+-- `subdivide-spelling`, `neighbours-spelling`, `faces-spelling` so no call tells them apart. Requests in a row, tables, files: Forms.
 -- Assumes nothing.
-use mathlib.Core.Path.{_≡_, refl, sym, _∙_, ap}
-use mathlib.Core.Bool.{true, false, cond, _&&_, _||_, not}
+use mathlib.Core.Path.{_≡_, ap}
+use mathlib.Core.Bool.{cond}
 use mathlib.Core.List.{List}
-use Prim.Native.Nat.{ℕ, _+_, _-_, _≤_, _<_, _^_}
-use native.Mathlib.Omega.{arith}
-use native.Mathlib.Decide.{decLt}
-use lib.Dec.{eqb}
-use lib.IntN.{ℤ, pos, _*ℤ_}
-use Rattle.laws.specs.Choices.{or-right}
-use Rattle.laws.specs.Each.{fact-true}
-use Rattle.lattice.specs.Points.{normalOf, isNormal, by3, lift}
-use Rattle.lattice.specs.Places.{wide, high, Low, unique, normal-place, normal-low, normal-depth}
+use Prim.Native.Nat.{ℕ, _-_}
+use lib.IntN.{ℤ}
+use Rattle.lattice.specs.Points.{normalOf}
 use Rattle.lattice.specs.declared.points.Point.{Point}
 use Rattle.table.specs.Entries.{lookUp}
 use Rattle.mesh.specs.Subdivide.{subdivideOf, subdivideLooked}
 use Rattle.mesh.specs.Subdivide as divided
 use Rattle.table.specs.Order.{inOrderOf}
+pub use Rattle.geometry.specs.Forms.{OnePoint, one-form, form-one, form-normal}
 pub use Rattle.queries.specs.QueryLaws.{neighbours-spelling, faces-spelling}
 
--- "A point [a, b, m] is (a + bw)/3^m": two spellings of one point
-pub record OnePoint (a b : ℤ) (m : ℕ) (a′ b′ : ℤ) (m′ : ℕ) : Type 0 where
-  pub across : a *ℤ pos (3 ^ m′) ≡ a′ *ℤ pos (3 ^ m)
-  pub up : b *ℤ pos (3 ^ m′) ≡ b′ *ℤ pos (3 ^ m)
-
 module _ (a b : ℤ) (m : ℕ) (a′ b′ : ℤ) (m′ : ℕ) where
-  -- both brought to the depth m + m′
-  over : (x : ℤ) → lift x m (m + m′) ≡ x *ℤ pos (3 ^ m′)
-  over x = let e : m + m′ - m ≡ m′ = omega arith in ap (λ (k : ℕ). x *ℤ pos (3 ^ k)) e
-
-  over′ : (x : ℤ) → lift x m′ (m + m′) ≡ x *ℤ pos (3 ^ m)
-  over′ x = let e : m + m′ - m′ ≡ m = omega arith in ap (λ (k : ℕ). x *ℤ pos (3 ^ k)) e
-
-  left : m ≤ m + m′
-  left = omega arith
-
-  right : m′ ≤ m + m′
-  right = omega arith
-
-  pub one-form : OnePoint a b m a′ b′ m′ → normalOf a b m ≡ normalOf a′ b′ m′
-  one-form h =
-      let (w, u) = normal-place a b m (m + m′) left in
-      let (w′, u′) = normal-place a′ b′ m′ (m + m′) right in
-      unique (normalOf a b m) (normalOf a′ b′ m′) (m + m′) (omega (arith, normal-depth a b m)) (omega (arith, normal-depth a′ b′ m′)) (normal-low a b m) (normal-low a′ b′ m′)
-      (w ∙ over a ∙ h .across ∙ sym (over′ a′) ∙ sym w′) (u ∙ over b ∙ h .up ∙ sym (over′ b′) ∙ sym u′)
-
-  pub form-one : normalOf a b m ≡ normalOf a′ b′ m′ → OnePoint a b m a′ b′ m′
-  form-one e =
-      let (w, u) = normal-place a b m (m + m′) left in
-      let (w′, u′) = normal-place a′ b′ m′ (m + m′) right in
-      record {
-        across = sym (over a) ∙ sym w ∙ ap (wide (m + m′)) e ∙ w′ ∙ over′ a′;
-        up = sym (over b) ∙ sym u ∙ ap (high (m + m′)) e ∙ u′ ∙ over′ b′;
-      }
-
   pub subdivide-spelling : (t : List ℕ) → normalOf a b m ≡ normalOf a′ b′ m′ → subdivideOf t a b m ≡ subdivideOf t a′ b′ m′
   unfolding subdivideOf
   subdivide-spelling t e = ap (λ (p : Point). cond (inOrderOf t) (subdivideLooked t (lookUp t p)) (divided.outcome 1 t)) e
-
--- "It is normalised when m = 0 or 3 fails to divide one of a, b."
-pub form-normal : (a b : ℤ) (m : ℕ) → isNormal (normalOf a b m) ≡ true
-form-normal a b m = go (normalOf a b m) (normal-low a b m)
-  where
-    deep : (p : Point) → by3 (p .a) && by3 (p .b) ≡ false → isNormal p ≡ true
-    deep p h = fact-true (isNormal p) (or-right (eqb (p .m .0) 0) (not (by3 (p .a) && by3 (p .b))) (rw h tt))
-
-    go : (p : Point) → Low p → isNormal p ≡ true
-    go p l = at (decLt 0 (p .m .0))
-      where
-        at : Dec (0 < p .m .0) → isNormal p ≡ true
-        at (yes h) = deep p (l .low h)
-        at (no h) = let e : p .m .0 ≡ 0 = omega arith in rw e refl

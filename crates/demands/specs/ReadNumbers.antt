@@ -1,5 +1,7 @@
--- Demand 1, the readers' numbers: "Readers 1; then per line 9, 10, 8; then restoring, at the first point met, 11 if the new record is not valid, else 8 if no slot is free; then 11, 12."
--- `full-number`, `reduced-number`, `census-number` the order · `line-refused`, `line-passed` the order at one line, and that the line given is its own · `restore-number` that at one point · `not-grown` 11 is said of records that are not grown · `full-empty`, `reduced-empty` an empty file is 11.
+-- Demand 1, the readers' numbers: "Readers 1; then per line 9, 10, 8; then restoring, at the first point met, 11 if the new record is not valid, else
+-- 8 if no slot is free; then 11, 12." Which line and which point of a whole file it is: Faults.
+-- `full-number`, `reduced-number`, `census-number` the order · `line-refused`, `line-passed` the order at one line, and that the line given is its
+-- own · `restore-number` that at one point · `not-grown` 11 is said of records that are not grown · `full-empty`, `reduced-empty` an empty file is 11.
 -- Assumes nothing.
 use mathlib.Core.Path.{_≡_, refl, sym, _∙_, ap}
 use mathlib.Core.Logic.{_≢_}
@@ -10,8 +12,9 @@ use Prim.Native.Nat.{ℕ, suc, _+_}
 use native.Mathlib.Omega.{arith}
 use lib.Dec.{ltb}
 use lib.ListN.{length}
-use Rattle.laws.specs.Choices.{is-false}
-use Rattle.laws.specs.Each.{not-both, fact-true}
+use Rattle.laws.specs.Choices.{is-false, is-true}
+use Rattle.laws.specs.Each.{not-both}
+use Rattle.laws.specs.Some.{someOf}
 use Rattle.lattice.specs.Records.{validOf}
 use Rattle.lattice.specs.declared.records.Record.{Record}
 use Rattle.table.specs.Slots.{clearedOf}
@@ -25,14 +28,16 @@ use Rattle.table.specs.declared.probe.Found.the-variants as found
 use Rattle.text.specs.Line.{lineAt}
 use Rattle.text.specs.declared.line.Line.{Line}
 use Rattle.text.specs.declared.line.Line.the-variants.{Good, Bad, End}
-use Rattle.writers.specs.Files.{someOf, redundant}
+use Rattle.writers.specs.Files.{redundant}
 use Rattle.mesh.specs.Grown.{Grown}
 use Rattle.growth.specs.Growth.{grown-some}
 use Rattle.local.specs.Sheet.{asOption, sheetOf}
 use Rattle.grown.specs.Tables.{grown-sheet}
 use Rattle.grown.specs.Grown.{isGrown, is-grown, grown-is}
-use Rattle.archive.specs.Outcomes.{lengths-table}
-use Rattle.readers.specs.Readers.{Lines, Read, Fault, after, above, noSlot, lineRead, linesFrom, readLines, Restored, With, Stopped, restoreAt, restore, restoreAll, lengthsFit, endFull, endReduced, endRestored, readFullOf, readReducedOf}
+use Rattle.readers.specs.BeginLaws.{lengths-table}
+use Rattle.readers.specs.Readers.{Lines, Read, Fault, after, above, noSlot, lineRead, linesFrom, readLines}
+use Rattle.readers.specs.Readers.{Restored, With, Stopped, restoreAt, restore, restoreAll, lengthsFit}
+use Rattle.readers.specs.Readers.{endFull, endReduced, endRestored, readFullOf, readReducedOf}
 use Rattle.readers.specs.Readers as read
 use Rattle.census_text.specs.Census.{readInputOf, mostInput}
 use Rattle.demands.specs.Numbers.{Rule, _⇒_, firstOf}
@@ -66,7 +71,8 @@ module _ (f : List ℕ) (left p i : ℕ) (q : Option Record) (t : List ℕ) wher
   unfolding linesFrom
   line-refused = go (lineAt f p)
     where
-      good : (a n : Bool) (x : Lines) → firstOf (not a ⇒ 10 ∷ n ⇒ 8 ∷ []) ≢ 0 → cond a (cond n (Fault 8 i) x) (Fault 10 i) ≡ Fault (firstOf (not a ⇒ 10 ∷ n ⇒ 8 ∷ [])) i
+      good : (a n : Bool) (x : Lines) → firstOf (not a ⇒ 10 ∷ n ⇒ 8 ∷ []) ≢ 0
+          → cond a (cond n (Fault 8 i) x) (Fault 10 i) ≡ Fault (firstOf (not a ⇒ 10 ∷ n ⇒ 8 ∷ [])) i
       good false n x z = refl
       good true true x z = refl
       good true false x z = absurd (z refl)
@@ -103,7 +109,8 @@ isAbsent (found.Free i) = true
 isAbsent found.Full = true
 
 -- of an absent point: "11 if the new record is not valid, else 8 if no slot is free"
-pub restore-number : (t : List ℕ) (r : Record) → isAbsent (findOf t (r .at)) ≡ true → stopNumber (restore (With t) r) ≡ firstOf (not (validOf r) ⇒ 11 ∷ noSlot (findOf t (r .at)) ⇒ 8 ∷ [])
+pub restore-number : (t : List ℕ) (r : Record) → isAbsent (findOf t (r .at)) ≡ true
+    → stopNumber (restore (With t) r) ≡ firstOf (not (validOf r) ⇒ 11 ∷ noSlot (findOf t (r .at)) ⇒ 8 ∷ [])
 restore-number t r = go (findOf t (r .at))
   where
     free : (v : Bool) → stopNumber (cond v (With (enterOf t r)) (Stopped 11)) ≡ firstOf (not v ⇒ 11 ∷ false ⇒ 8 ∷ [])
@@ -148,7 +155,8 @@ full-number t s f = go (lengthsFit t s) (readLines f (clearedOf t))
     judged u true = refl
     judged u false = refl
 
-    go : (b : Bool) (x : Lines) → cond b (endFull t s x) (read.outcome 1 0 t s) .number ≡ firstOf (not b ⇒ 1 ∷ isFault x ⇒ numberIn x ∷ ofRead (λ rs u. not (isGrown u)) x ⇒ 11 ∷ [])
+    go : (b : Bool) (x : Lines) → cond b (endFull t s x) (read.outcome 1 0 t s) .number
+        ≡ firstOf (not b ⇒ 1 ∷ isFault x ⇒ numberIn x ∷ ofRead (λ rs u. not (isGrown u)) x ⇒ 11 ∷ [])
     go false x = refl
     go true (Fault n i) = refl
     go true (Read rs u) = judged u (isGrown u)
@@ -179,21 +187,30 @@ abbrev pub reducedRules : List ℕ → List ℕ → Lines → Restored → List 
 reducedRules t s x w =
     not (lengthsFit t s) ⇒ 1 ∷ isFault x ⇒ numberIn x ∷ isStopped w ⇒ stopNumber w ∷ ofWith (λ u. not (isGrown u)) w ⇒ 11 ∷ ofWith (keptIn x) w ⇒ 12 ∷ []
 
-pub reduced-number : (t s f : List ℕ) → readReducedOf t s f .number ≡ firstOf (reducedRules t s (readLines f (clearedOf t)) (restoredFrom (readLines f (clearedOf t))))
+pub reduced-number : (t s f : List ℕ)
+    → readReducedOf t s f .number ≡ firstOf (reducedRules t s (readLines f (clearedOf t)) (restoredFrom (readLines f (clearedOf t))))
 unfolding readReducedOf
 reduced-number t s f = go (lengthsFit t s) (readLines f (clearedOf t))
   where
-    judged : (u : List ℕ) (g k : Bool) → cond g (cond k (read.refused 12 0 t s) (read.accepted u s)) (read.refused 11 0 t s) .number ≡ firstOf (not g ⇒ 11 ∷ k ⇒ 12 ∷ [])
+    judged : (u : List ℕ) (g k : Bool) → cond g (cond k (read.refused 12 0 t s) (read.accepted u s)) (read.refused 11 0 t s) .number
+        ≡ firstOf (not g ⇒ 11 ∷ k ⇒ 12 ∷ [])
     judged u true true = refl
     judged u true false = refl
     judged u false k = refl
 
-    ended : (rs : List Record) (u : List ℕ) (w : Restored) → endRestored t s rs w .number ≡ firstOf (isStopped w ⇒ stopNumber w ∷ ofWith (λ v. not (isGrown v)) w ⇒ 11 ∷ ofWith (keptIn (Read rs u)) w ⇒ 12 ∷ [])
+    ended : (rs : List Record) (u : List ℕ) (w : Restored) → endRestored t s rs w .number
+        ≡ firstOf (isStopped w ⇒ stopNumber w ∷ ofWith (λ v. not (isGrown v)) w ⇒ 11 ∷ ofWith (keptIn (Read rs u)) w ⇒ 12 ∷ [])
     ended rs u (Stopped n) = refl
     ended rs u (With v) = judged v (isGrown v) (someOf (redundant v) rs)
 
     go : (b : Bool) (x : Lines) → cond b (endReduced t s x) (read.outcome 1 0 t s) .number
-        ≡ firstOf (not b ⇒ 1 ∷ isFault x ⇒ numberIn x ∷ isStopped (restoredFrom x) ⇒ stopNumber (restoredFrom x) ∷ ofWith (λ u. not (isGrown u)) (restoredFrom x) ⇒ 11 ∷ ofWith (keptIn x) (restoredFrom x) ⇒ 12 ∷ [])
+        ≡ firstOf
+        (not b ⇒ 1
+        ∷ isFault x ⇒ numberIn x
+        ∷ isStopped (restoredFrom x) ⇒ stopNumber (restoredFrom x)
+        ∷ ofWith (λ u. not (isGrown u)) (restoredFrom x) ⇒ 11
+        ∷ ofWith (keptIn x) (restoredFrom x) ⇒ 12
+        ∷ [])
     go false x = refl
     go true (Fault n i) = refl
     go true (Read rs u) = ended rs u (restoreAll rs (With u))
@@ -205,13 +222,17 @@ none-held (Held q) r e x = let z : _≡_ {A = ℕ} 0 1 = cc in omega arith
 
 empty-not : (t s : List ℕ) → lengthsFit t s ≡ true → isGrown (clearedOf t) ≡ false
 empty-not t s h =
-    is-false (isGrown (clearedOf t)) (λ g. let (p, (r, x)) = grown-some (sheetOf (clearedOf t)) (grown-sheet (clearedOf t) (is-grown (clearedOf t) (fact-true (isGrown (clearedOf t)) g))) in
+    is-false (isGrown (clearedOf t)) (λ g.
+    let grown = is-grown (clearedOf t) (is-true (isGrown (clearedOf t)) g) in
+    let (p, (r, x)) = grown-some (sheetOf (clearedOf t)) (grown-sheet (clearedOf t) grown) in
     none-held (lookUp (clearedOf t) p) r (clear-absent t (lengths-table t s h) p) x)
 
 -- "An empty file is 11."
 pub full-empty : (t s : List ℕ) → lengthsFit t s ≡ true → readFullOf t s [] ≡ read.refused 11 0 t s
 unfolding readFullOf linesFrom
-full-empty t s h = ap (λ (b : Bool). cond b (endFull t s (Read [] (clearedOf t))) (read.outcome 1 0 t s)) h ∙ ap (λ (g : Bool). cond g (read.accepted (clearedOf t) s) (read.refused 11 0 t s)) (empty-not t s h)
+full-empty t s h =
+    ap (λ (b : Bool). cond b (endFull t s (Read [] (clearedOf t))) (read.outcome 1 0 t s)) h
+    ∙ ap (λ (g : Bool). cond g (read.accepted (clearedOf t) s) (read.refused 11 0 t s)) (empty-not t s h)
 
 pub reduced-empty : (t s : List ℕ) → lengthsFit t s ≡ true → readReducedOf t s [] ≡ read.refused 11 0 t s
 unfolding readReducedOf linesFrom restoreAll

@@ -1,4 +1,5 @@
--- Document 01's starred bench examples: one table, `starred`, and one statement, `starred-hold`: what the promises' definitions compute is what the document says.
+-- Document 01's starred bench examples: one table, `starred`, and one statement, `starred-hold`: what the promises' definitions compute is what the
+-- document says. They stand nowhere else.
 -- Assumes nothing.
 use mathlib.Core.Path.{_≡_, refl}
 use mathlib.Core.Bool.{Bool, true, false, cond}
@@ -26,8 +27,8 @@ use Rattle.writers.specs.Sorting.{insertBy, sortBy}
 use Rattle.writers.specs.Files.{earlier, redundant, leaveOut, reducedFile}
 use Rattle.text.specs.Decimal.{digits, digitsBy}
 use Rattle.text.specs.Line.{pointText, starText, lineOf, lines}
-use Rattle.archive.specs.LineCount.{linesIn}
-use Rattle.counts.specs.Counts.{someIn, differentAfter, gather, each, samePair, fits, sameFace, ofDegree, countsOf}
+use Rattle.text.specs.LineCount.{linesIn}
+use Rattle.counts.specs.Counts.{differentAfter, gather, each, samePair, fits, sameFace, ofDegree, countsOf}
 use Rattle.counts.specs.declared.Counts.{Counts}
 
 -- ---- what is compared: whole numbers
@@ -99,7 +100,11 @@ four2 = record { at = pt (pos 0) (pos 0) 0; d = 4; k = 2; n = record { 0 = 0 } }
 
 -- ---- the table
 pub starred : List Example
-unfolding someIn differentAfter gather each samePair fits sameFace ofDegree countsOf chosenAt sixes threeCentres six0 six1 meshThree once twice reducedLines lines lineOf pointText starText digits digitsBy earlier insertBy sortBy four2 redundant leaveOut neighboursOf adjacentsThere subdivideOf subdivided torn tooDeep renewedTo enteredTo updateOf acceptsOf baseOf firstBad laidOf layAll layHexagon hexagonOf cornerRecord internal listedIn normalOf turns orient patternOf rowsOf inOrderOf allPlaced placedAt lookUp enterOf replaceOf recordsBelow findOf searchFrom slotAt freeAt recordAt putSlot recordBytes slotsIn homeOf samePoint wordAt freeBelow
+unfolding differentAfter gather each samePair fits sameFace ofDegree countsOf chosenAt sixes threeCentres six0 six1 meshThree once
+    twice reducedLines lines lineOf pointText starText digits digitsBy earlier insertBy sortBy four2 redundant leaveOut neighboursOf
+    adjacentsThere subdivideOf subdivided torn tooDeep renewedTo enteredTo updateOf acceptsOf baseOf firstBad laidOf layAll layHexagon
+    hexagonOf cornerRecord internal listedIn normalOf turns orient patternOf rowsOf inOrderOf allPlaced placedAt lookUp enterOf replaceOf
+    recordsBelow findOf searchFrom slotAt freeAt recordAt putSlot recordBytes slotsIn homeOf samePoint wordAt freeBelow
 starred =
     -- "The three normalisations under Points."
     ofPoint (normalOf (pos 3) (pos 0) 1) is (pos 1 ∷ pos 0 ∷ pos 0 ∷ [])
@@ -116,7 +121,8 @@ starred =
     -- "Census 16 12 9 12 3 0 0 1."
     ∷ ofCounts (countsOf meshThree) is (pos 16 ∷ pos 12 ∷ pos 9 ∷ pos 12 ∷ pos 3 ∷ pos 0 ∷ pos 0 ∷ pos 1 ∷ [])
     ∷ number (baseOf (replicate (slotWidth * 40) 255) threeCentres .number) is number 0
-    -- "Subdividing [3,0,1] in Three enters [4,1,1], [2,2,1], [1,1,1], [2,-1,1], [4,-2,1], [5,-1,1] with k 3, 1, 3, 1, 3, 1.": in this order, where none was before
+    -- "Subdividing [3,0,1] in Three enters [4,1,1], [2,2,1], [1,1,1], [2,-1,1], [4,-2,1], [5,-1,1] with k 3, 1, 3, 1, 3, 1.":
+    -- in this order, where none was before
     ∷ number (subdivideOf meshThree (pos 3) (pos 0) 1 .number) is number 0
     ∷ starAt meshThree (pos 1) (pos 0) 0 is (ofPoint (six0 .at) ++ ofStar six0)
     ∷ ofPoint (newOf six0 0 .at) is (pos 4 ∷ pos 1 ∷ pos 1 ∷ [])
@@ -169,5 +175,9 @@ saidOf [] = []
 saidOf (e ∷ es) = e .said ∷ saidOf es
 
 pub starred-hold : computedOf starred ≡ saidOf starred
-unfolding starred someIn differentAfter gather each samePair fits sameFace ofDegree countsOf chosenAt sixes threeCentres six0 six1 meshThree once twice reducedLines lines lineOf pointText starText digits digitsBy earlier insertBy sortBy four2 redundant leaveOut neighboursOf adjacentsThere subdivideOf subdivided torn tooDeep renewedTo enteredTo updateOf acceptsOf baseOf firstBad laidOf layAll layHexagon hexagonOf cornerRecord internal listedIn normalOf turns orient patternOf rowsOf three four five six inOrderOf allPlaced placedAt lookUp enterOf replaceOf recordsBelow findOf searchFrom slotAt freeAt recordAt putSlot recordBytes slotsIn homeOf samePoint wordAt freeBelow
+unfolding starred differentAfter gather each samePair fits sameFace ofDegree countsOf chosenAt sixes threeCentres six0 six1 meshThree
+    once twice reducedLines lines lineOf pointText starText digits digitsBy earlier insertBy sortBy four2 redundant leaveOut neighboursOf
+    adjacentsThere subdivideOf subdivided torn tooDeep renewedTo enteredTo updateOf acceptsOf baseOf firstBad laidOf layAll layHexagon
+    hexagonOf cornerRecord internal listedIn normalOf turns orient patternOf rowsOf three four five six inOrderOf allPlaced placedAt lookUp
+    enterOf replaceOf recordsBelow findOf searchFrom slotAt freeAt recordAt putSlot recordBytes slotsIn homeOf samePoint wordAt freeBelow
 starred-hold = refl

@@ -1,5 +1,5 @@
 -- Rows of numbers as the code fills them.
--- `row-back`, `row-put` its numbers, in a row of their own and from a place on · `filled`, `filled-start`, `filled-more`, `filled-all` an
+-- `row-back`, `row-put` a point's numbers, in a row of their own and from a place on · `filled`, `filled-start`, `filled-more`, `filled-all` an
 -- answer's row, filled point by point.
 -- Assumes nothing.
 use mathlib.Core.Path.{_≡_, refl, ap}
@@ -26,7 +26,9 @@ module _ (p : Point) (fa : SFits w32 (p .a)) (fb : SFits w32 (p .b)) (fm : p .m 
   row-back = λ i. toZ-ofZ w32 (p .a) fa i ∷ toZ-ofZ w32 (p .b) fb i ∷ back-m i ∷ []
 
   -- three numbers of a longer row
-  pub row-put : (out : List ℤ) (i : ℕ) → set (set (set out i (toZ w32 (ofZ w32 (p .a)))) (i + 1) (toZ w32 (ofZ w32 (p .b)))) (i + 2) (toZ w32 (p .m .0)) ≡ sets out i (pointNumbers p)
+  pub row-put :
+      (out : List ℤ) (i : ℕ)
+      → set (set (set out i (toZ w32 (ofZ w32 (p .a)))) (i + 1) (toZ w32 (ofZ w32 (p .b)))) (i + 2) (toZ w32 (p .m .0)) ≡ sets out i (pointNumbers p)
   row-put out i =
       let e₁ : i + 1 ≡ suc i = omega arith in
       let e₂ : i + 2 ≡ suc (suc i) = omega arith in
@@ -41,7 +43,9 @@ pub filled-start : (count : ℕ) (ps : List Point) → count < 256 → set (repl
 unfolding filled
 filled-start count ps h = ap (set (replicate 19 (pos 0)) 0) (toZ-pos w32 count (omega (arith, h)))
 
-pub filled-more : (count : ℕ) (ps : List Point) (j : ℕ) → sets (filled count ps j) (3 * j + 1) (pointNumbers (getD ps j nowhere)) ≡ filled count ps (j + 1)
+pub filled-more :
+    (count : ℕ) (ps : List Point) (j : ℕ)
+    → sets (filled count ps j) (3 * j + 1) (pointNumbers (getD ps j nowhere)) ≡ filled count ps (j + 1)
 unfolding filled
 filled-more count ps j = let e : suc j ≡ j + 1 = omega arith in ap (filled count ps) e
 

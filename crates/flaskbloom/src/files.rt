@@ -34,7 +34,10 @@ pub extern "C" fn fb_read_full(
     file: &[u8],
     line: &mut u64,
 ) -> u8
-    ensures { λ r. ⌜ reader.outcome r (now (line .exit)) (now (table .exit)) (now (scratch .exit)) ≡ reader.readFullOf (now (table .entry)) (now (scratch .entry)) (now (file .entry)) ⌝ }
+    ensures { λ r. ⌜
+        reader.outcome r (now (line .exit)) (now (table .exit)) (now (scratch .exit))
+        ≡ reader.readFullOf (now (table .entry)) (now (scratch .entry)) (now (file .entry))
+        ⌝ }
 {
     let read = readers::read_full(table, scratch, file);
     *line = read.line;
@@ -49,7 +52,10 @@ pub extern "C" fn fb_read_reduced(
     file: &[u8],
     line: &mut u64,
 ) -> u8
-    ensures { λ r. ⌜ reader.outcome r (now (line .exit)) (now (table .exit)) (now (scratch .exit)) ≡ reader.readReducedOf (now (table .entry)) (now (scratch .entry)) (now (file .entry)) ⌝ }
+    ensures { λ r. ⌜
+        reader.outcome r (now (line .exit)) (now (table .exit)) (now (scratch .exit))
+        ≡ reader.readReducedOf (now (table .entry)) (now (scratch .entry)) (now (file .entry))
+        ⌝ }
 {
     let read = readers::read_reduced(table, scratch, file);
     *line = read.line;
@@ -65,7 +71,10 @@ pub extern "C" fn fb_census(
     out: &mut [u8],
     written: &mut u64,
 ) -> u8
-    ensures { λ r. ⌜ result (put r (now (written .exit)) (now (out .exit))) (now (table .exit)) (now (scratch .exit)) ≡ censusOf (now (input .entry)) (now (table .entry)) (now (scratch .entry)) (now (out .entry)) ⌝ }
+    ensures { λ r. ⌜
+        result (put r (now (written .exit)) (now (out .exit))) (now (table .exit)) (now (scratch .exit))
+        ≡ censusOf (now (input .entry)) (now (table .entry)) (now (scratch .entry)) (now (out .entry))
+        ⌝ }
     ensures { λ _. ⌜ length (textOf (readInputOf (now (table .entry)) (now (scratch .entry)) (now (input .entry)))) ≤ 128 ⌝ }
 {
     let census = census_text::census(input, table, scratch, out);

@@ -7,6 +7,7 @@ ghost use Rattle.flaskbloom.specs.Numbers.{pointNumbers, answerNumbers, 
 use crate::numbers::ANSWER_NUMBERS;
 use crate::numbers::answer_numbers;
 use crate::numbers::point_numbers;
+use lattice::DONE;
 use lattice::Depth;
 use lattice::Level;
 use lattice::Point;
@@ -19,7 +20,7 @@ pub extern "C" fn fb_normalise(a: i32, b: i32, m: u8, point: &mut [i32; 3]) -> u
     ensures { λ r. ⌜ now (point .exit) ≡ pointNumbers (normalOf a b m) ⌝ }
 {
     *point = point_numbers(lattice::normalise(a, b, m));
-    0
+    DONE
 }
 
 // The record of six fields, valid or not.

@@ -1,5 +1,7 @@
 -- The geometry of stars: steps in the twelve directions, and the adjacent points of a record's star.
--- `six-adjacent` a degree 6 star goes by the even or the odd directions · `move-back` a step read from its other end · `move-inj` two directions lead to two points ·
+-- `six-adjacent` a degree 6 star goes by the even or the odd directions · `turned-move` a corner of a hexagon by directions ·
+-- `move-back` a step read from its other end ·
+-- `move-inj` two directions lead to two points ·
 -- `star-distinct` the places of a star are different points · `sum-sum` two steps that add up to a third.
 -- Each is a law of places at a common depth: a step adds the place of what is stepped by (`step-told`, `sum-same`).
 -- Assumes nothing.
@@ -15,7 +17,8 @@ use Rattle.laws.specs.Linear.{same, told-≡, ‵, _⊕_, _⊝_, ⊟, _⊗_}
 use Rattle.laws.specs.Multiples.{add-times, neg-times, cancel}
 use Rattle.lattice.specs.Points.{pt, by3, isNormal, turn60Of, turn30Of, turns, lift, sumOf}
 use Rattle.lattice.specs.PointLaws.{alike, alike-eq, turns-three}
-use Rattle.lattice.specs.Places.{wide, high, sum-wide, sum-high, sum-depth, sum-assoc, unique, normal-low, Low, turn60-wide, turn60-high, away, sum-away, lift-lift, pow-over}
+use Rattle.lattice.specs.Places.{wide, high, sum-wide, sum-high, sum-depth, sum-assoc, unique, normal-low, Low, turn60-wide, turn60-high, away}
+use Rattle.lattice.specs.Places.{sum-away, lift-lift, pow-over}
 use Rattle.lattice.specs.Patterns.{orient, three, four, five, six, rowsOf, patternOf, adjacentOf}
 use Rattle.lattice.specs.PatternLaws.{orient-depth, adjacent-close}
 use Rattle.lattice.specs.Stars.{scaleOf, stepOf, adjacentAt}
@@ -60,7 +63,13 @@ six-row j h = alike-eq _ _ (rule 6 (λ j. alike (patternOf 6 j .adjacent) (turns
 
 -- place j of a degree 6 star is direction 2j + k
 pub six-adjacent : (r : Record) (j : ℕ) → r .d ≡ 6 → j < 6 → adjacentAt r j ≡ moveOf (r .at) (2 * j + r .k) (r .n .0)
-six-adjacent r j d h = ap (λ (p : Point). stepOf (r .at) (r .n) p) (ap (λ (d : ℕ). adjacentOf d (r .k) j) d ∙ ap (orient (r .k)) (six-row j h) ∙ orient-turns j (r .k) unit)
+six-adjacent r j d h = ap (λ (p : Point). stepOf (r .at) (r .n) p)
+    (ap (λ (d : ℕ). adjacentOf d (r .k) j) d ∙ ap (orient (r .k)) (six-row j h) ∙ orient-turns j (r .k) unit)
+
+-- a unit step turned j times is a step of level 0 in direction 2j
+pub turned-move : (p : Point) (j : ℕ) → j < 6 → sumOf p (turns j unit) ≡ moveOf p (2 * j) 0
+unfolding turns orient
+turned-move p j h = ap (sumOf p) (alike-eq _ _ (rule 6 (λ j. alike (turns j unit) (scaleOf (level 0) (orient (2 * j) unit))) tt j h))
 
 -- ---- six directions on is the other way
 away-away : (p : Point) → away (away p) ≡ p
@@ -98,7 +107,8 @@ same-down : (d D : ℕ) (p q : Point) → d ≤ D → p .m .0 ≤ d → q .m .0 
 same-down d D p q h hp hq s = record { across = one (p .a) (q .a) (s .across); up = one (p .b) (q .b) (s .up) }
   where
     one : (x y : ℤ) → lift x (p .m .0) D ≡ lift y (q .m .0) D → lift x (p .m .0) d ≡ lift y (q .m .0) d
-    one x y e = cancel (lift x (p .m .0) d) (lift y (q .m .0) d) (3 ^ (D - d)) (pow-over (D - d)) (lift-lift x (p .m .0) d D hp h ∙ e ∙ sym (lift-lift y (q .m .0) d D hq h))
+    one x y e = cancel (lift x (p .m .0) d) (lift y (q .m .0) d) (3 ^ (D - d)) (pow-over (D - d))
+        (lift-lift x (p .m .0) d D hp h ∙ e ∙ sym (lift-lift y (q .m .0) d D hq h))
 
 -- the step's length only scales what is stepped by
 pub scale-lift : (x : ℤ) (m h D : ℕ) → lift x (m + h) (D + h) ≡ lift x m D
@@ -130,7 +140,8 @@ step-told v p q n d hp hq e =
 -- ---- two directions lead to two points
 row-inj : (e g : ℕ) → e < 12 → g < 12 → Same 1 (orient e unit) (orient g unit) → e ≡ g
 unfolding orient
-row-inj e g he hg s = rule2 12 12 (λ e g. wide 1 (orient e unit) ≡ᶻ? wide 1 (orient g unit) & high 1 (orient e unit) ≡ᶻ? high 1 (orient g unit) ⇒ e ≡? g) tt e he g hg (s .across, s .up)
+row-inj e g he hg s = rule2 12 12 (λ e g. wide 1 (orient e unit) ≡ᶻ? wide 1 (orient g unit) & high 1 (orient e unit) ≡ᶻ? high 1 (orient g unit)
+    ⇒ e ≡? g) tt e he g hg (s .across, s .up)
 
 unit-depth : (e : ℕ) → orient e unit .m .0 ≤ 1
 unit-depth e = let d = orient-depth e unit in omega arith
@@ -147,7 +158,8 @@ turn60-told D p q s =
 
 turn30-wide : (p : Point) (D : ℕ) → wide (D + 1) (turn30Of p) ≡ wide D p -ℤ high D p
 turn30-wide p D =
-    scale-lift (p .a -ℤ p .b) (p .m .0) 1 D ∙ add-times (p .a) (negℤ (p .b)) (3 ^ (D - p .m .0)) ∙ ap (λ (z : ℤ). wide D p +ℤ z) (neg-times (p .b) (3 ^ (D - p .m .0)))
+    scale-lift (p .a -ℤ p .b) (p .m .0) 1 D ∙ add-times (p .a) (negℤ (p .b)) (3 ^ (D - p .m .0))
+    ∙ ap (λ (z : ℤ). wide D p +ℤ z) (neg-times (p .b) (3 ^ (D - p .m .0)))
 
 turn30-high : (p : Point) (D : ℕ) → high (D + 1) (turn30Of p) ≡ wide D p +ℤ (high D p +ℤ high D p)
 turn30-high p D =
@@ -158,7 +170,8 @@ turn30-high p D =
 turn30-told : (D : ℕ) (p q : Point) → Same (D + 1) (turn30Of p) (turn30Of q) → Same D p q
 turn30-told D p q s =
     let x = told-≡ (‵ (wide D p) ⊝ ‵ (high D p)) (‵ (wide D q) ⊝ ‵ (high D q)) (sym (turn30-wide p D) ∙ s .across ∙ turn30-wide q D) in
-    let y = told-≡ (‵ (wide D p) ⊕ (‵ (high D p) ⊕ ‵ (high D p))) (‵ (wide D q) ⊕ (‵ (high D q) ⊕ ‵ (high D q))) (sym (turn30-high p D) ∙ s .up ∙ turn30-high q D) in
+    let y = told-≡ (‵ (wide D p) ⊕ (‵ (high D p) ⊕ ‵ (high D p))) (‵ (wide D q) ⊕ (‵ (high D q) ⊕ ‵ (high D q)))
+    (sym (turn30-high p D) ∙ s .up ∙ turn30-high q D) in
     record { across = same (‵ (wide D p)) (‵ (wide D q)) (omega arith); up = same (‵ (high D p)) (‵ (high D q)) (omega arith) }
 
 -- an orientation keeps different points different
@@ -207,7 +220,8 @@ sum-same v p q D hp hq s =
     (sum-wide v p E (omega arith) (omega arith) ∙ ap (λ (z : ℤ). wide E v +ℤ z) (t .across) ∙ sym (sum-wide v q E (omega arith) (omega arith)))
     (sum-high v p E (omega arith) (omega arith) ∙ ap (λ (z : ℤ). high E v +ℤ z) (t .up) ∙ sym (sum-high v q E (omega arith) (omega arith)))
 
-pub sum-sum : (v p q r : Point) (D : ℕ) → p .m .0 ≤ D → q .m .0 ≤ D → r .m .0 ≤ D → wide D p +ℤ wide D q ≡ wide D r → high D p +ℤ high D q ≡ high D r → sumOf (sumOf v p) q ≡ sumOf v r
+pub sum-sum : (v p q r : Point) (D : ℕ) → p .m .0 ≤ D → q .m .0 ≤ D → r .m .0 ≤ D → wide D p +ℤ wide D q ≡ wide D r → high D p +ℤ high D q ≡ high D r
+    → sumOf (sumOf v p) q ≡ sumOf v r
 sum-sum v p q r D hp hq hr a b =
     let d = sum-depth p q in
     sum-assoc v p q

@@ -1,6 +1,8 @@
 -- Ranks and birth orientations, read off what a point's numerators leave on division by 3.
--- `Ranked`, `ranked` the four kinds of points · `rank-between`, `birth-below`, `birth-parity` bounds · `ra`, `rb`, `rc` what the numerators, and their difference, leave at a depth ·
--- `ground-in` .. `paired-born` a rank by remainders, and back, at level 0, at an odd level 2h + 1, at an even level 2h + 2 · `step-a` .. `step-9` a step adds remainders.
+-- `Ranked`, `ranked` the four kinds of points · `rank-between`, `birth-below`, `birth-parity` bounds ·
+-- `ra`, `rb`, `rc` what the numerators, and their difference, leave at a depth ·
+-- `ground-in` .. `paired-born` a rank by remainders, and back, at level 0, at an odd level 2h + 1, at an even level 2h + 2 ·
+-- `step-a` .. `step-9` a step adds remainders.
 -- Assumes nothing.
 use mathlib.Core.Path.{_≡_, refl, sym, _∙_, ap}
 use mathlib.Core.Logic.{_⊎_, inl, inr}
@@ -37,7 +39,11 @@ times-one z k e = ap (λ (k : ℕ). z *ℤ pos (3 ^ k)) e ∙ *ℤ-comm z (pos 1
 
 -- at a point's own depth it is what its numerators leave; at a greater depth nothing is left
 own : (p : Point) → (ra (p .m .0) p ≡ modZ (p .a) 3) × (rb (p .m .0) p ≡ modZ (p .b) 3)
-own p = (ap (λ (z : ℤ). modZ z 3) (times-one (p .a) (p .m .0 - p .m .0) (omega arith)), ap (λ (z : ℤ). modZ z 3) (times-one (p .b) (p .m .0 - p .m .0) (omega arith)))
+own p = (
+  ap (λ (z : ℤ). modZ z 3) (times-one (p .a) (p .m .0 - p .m .0) (omega arith)),
+  ap (λ (z : ℤ). modZ z 3)
+      (times-one (p .b) (p .m .0 - p .m .0) (omega arith)),
+)
 
 pub zeros : (p : Point) (h : ℕ) → p .m .0 ≤ h → (ra (suc h) p ≡ 0) × (rb (suc h) p ≡ 0)
 zeros p h l = (one (p .a), one (p .b))
@@ -59,7 +65,8 @@ shallow p h t l a b = go (ℕ-discrete (p .m .0) (suc h))
     go (yes e) = absurd (not-zeros p t (omega arith) (sym (own p .0) ∙ ap (λ (d : ℕ). ra d p) e ∙ a) (sym (own p .1) ∙ ap (λ (d : ℕ). rb d p) e ∙ b))
     go (no e) = omega arith
 
-pub deep : (p : Point) (h : ℕ) → p .m .0 ≤ suc h → ((ra (suc h) p ≡ 0) × (rb (suc h) p ≡ 0) → ⊥) → (p .m .0 ≡ suc h) × (modZ (p .a) 3 ≡ ra (suc h) p) × (modZ (p .b) 3 ≡ rb (suc h) p)
+pub deep : (p : Point) (h : ℕ) → p .m .0 ≤ suc h → ((ra (suc h) p ≡ 0) × (rb (suc h) p ≡ 0) → ⊥)
+    → (p .m .0 ≡ suc h) × (modZ (p .a) 3 ≡ ra (suc h) p) × (modZ (p .b) 3 ≡ rb (suc h) p)
 deep p h l n = go (ℕ-discrete (p .m .0) (suc h))
   where
     go : Dec (p .m .0 ≡ suc h) → (p .m .0 ≡ suc h) × (modZ (p .a) 3 ≡ ra (suc h) p) × (modZ (p .b) 3 ≡ rb (suc h) p)
@@ -106,7 +113,8 @@ ranked p t = go (p .m .0) refl (ℕ-discrete (classOf p) 0) (ℕ-discrete (class
     go zero e (no z) (no o) = let w : classOf p ≡ 2 = omega (arith, c) in base e o (rw (e, w)) (rw (e, w))
     go (suc m) e (yes z) (yes o) = absurd (omega arith)
     go (suc m) e (yes z) (no o) =
-        even m e z (some m e z) (rw (ne-eqb (p .m .0) 0 (omega arith), z, e) (omega arith)) (rw (ne-eqb (p .m .0) 0 (omega arith), z) (turn (modZ (p .a) 3) (three-below (p .a)) (some m e z)))
+        even m e z (some m e z) (rw (ne-eqb (p .m .0) 0 (omega arith), z, e) (omega arith))
+        (rw (ne-eqb (p .m .0) 0 (omega arith), z) (turn (modZ (p .a) 3) (three-below (p .a)) (some m e z)))
     go (suc m) e (no z) (yes o) = odd m e (omega arith) (rw (ne-eqb (p .m .0) 0 (omega arith), o, e) (omega arith)) (rw (ne-eqb (p .m .0) 0 (omega arith), o))
     go (suc m) e (no z) (no o) =
         let w : classOf p ≡ 2 = omega (arith, c) in
@@ -200,7 +208,8 @@ module _ (q : Point) (e i : ℕ) (d : Dir e i) (h : q .m .0 ≤ deepOf i) where
   sum-c : wide (deepOf i) (moveOf q e i) -ℤ high (deepOf i) (moveOf q e i) ≡ (wide (deepOf i) q -ℤ high (deepOf i) q) +ℤ (one e .a -ℤ one e .b)
   sum-c =
       (λ t. sum-a t -ℤ sum-b t)
-      ∙ same ((‵ (wide (deepOf i) q) ⊕ ‵ (one e .a)) ⊝ (‵ (high (deepOf i) q) ⊕ ‵ (one e .b))) ((‵ (wide (deepOf i) q) ⊝ ‵ (high (deepOf i) q)) ⊕ (‵ (one e .a) ⊝ ‵ (one e .b))) (omega arith)
+      ∙ same ((‵ (wide (deepOf i) q) ⊕ ‵ (one e .a)) ⊝ (‵ (high (deepOf i) q) ⊕ ‵ (one e .b)))
+      ((‵ (wide (deepOf i) q) ⊝ ‵ (high (deepOf i) q)) ⊕ (‵ (one e .a) ⊝ ‵ (one e .b))) (omega arith)
 
   pub step-c : rc 3 (deepOf i) (moveOf q e i) ≡ (rc 3 (deepOf i) q + modZ (one e .a -ℤ one e .b) 3) % 3
   step-c = ap (λ (z : ℤ). modZ z 3) sum-c ∙ three-add (wide (deepOf i) q -ℤ high (deepOf i) q) (one e .a -ℤ one e .b)
@@ -220,11 +229,13 @@ odd-table e h = rule 12 (λ e. (e % 2) ≡? 1 ⇒ (2 * modZ (one e .a) 3) ≡? (
 pub even-row : (e : ℕ) → e < 12 → e % 2 ≡ 0 → ((e % 4 ≡ 0) × (modZ (one e .a -ℤ one e .b) 3 ≡ 1)) ⊎ ((e % 4 ≡ 2) × (modZ (one e .a -ℤ one e .b) 3 ≡ 2))
 even-row e h p = go (ℕ-discrete (e % 4) 0) (even-table e h p)
   where
-    go : Dec (e % 4 ≡ 0) → 2 * modZ (one e .a -ℤ one e .b) 3 ≡ e % 4 + 2 → ((e % 4 ≡ 0) × (modZ (one e .a -ℤ one e .b) 3 ≡ 1)) ⊎ ((e % 4 ≡ 2) × (modZ (one e .a -ℤ one e .b) 3 ≡ 2))
+    go : Dec (e % 4 ≡ 0) → 2 * modZ (one e .a -ℤ one e .b) 3 ≡ e % 4 + 2
+        → ((e % 4 ≡ 0) × (modZ (one e .a -ℤ one e .b) 3 ≡ 1)) ⊎ ((e % 4 ≡ 2) × (modZ (one e .a -ℤ one e .b) 3 ≡ 2))
     go (yes z) r = inl (z, omega arith)
     go (no z) r = let w : e % 4 ≡ 2 = omega arith in inr (w, omega arith)
 
-pub odd-row : (e : ℕ) → e < 12 → e % 2 ≡ 1 → ((e % 4 ≡ 1) × (modZ (one e .a) 3 ≡ 1) × (modZ (one e .b) 3 ≡ 1)) ⊎ ((e % 4 ≡ 3) × (modZ (one e .a) 3 ≡ 2) × (modZ (one e .b) 3 ≡ 2))
+pub odd-row : (e : ℕ) → e < 12 → e % 2 ≡ 1 → ((e % 4 ≡ 1) × (modZ (one e .a) 3 ≡ 1) × (modZ (one e .b) 3 ≡ 1))
+    ⊎ ((e % 4 ≡ 3) × (modZ (one e .a) 3 ≡ 2) × (modZ (one e .b) 3 ≡ 2))
 odd-row e h p = go (ℕ-discrete (e % 4) 1) (odd-table e h p)
   where
     go : Dec (e % 4 ≡ 1) → (2 * modZ (one e .a) 3 ≡ e % 4 + 1) × (2 * modZ (one e .b) 3 ≡ e % 4 + 1)
@@ -316,8 +327,13 @@ module _ (p : Point) (t : T (isNormal p)) where
         go (even k m c a r b) =
             let e : p .m .0 ≡ suc h = omega arith in
             let x : ra (suc h) p ≡ modZ (p .a) 3 = ap (λ (d : ℕ). ra d p) (sym e) ∙ own p .0 in
-            let y : rb (suc h) p ≡ modZ (p .b) 3 = ap (λ (d : ℕ). rb d p) (sym e) ∙ own p .1 in
-            (e, omega arith, y ∙ alike (modZ (p .a) 3) (modZ (p .b) 3) (three-below (p .a)) (three-below (p .b)) (sym (class-is p) ∙ c) ∙ sym x, b ∙ ap (λ (n : ℕ). 5 - 2 * n) (sym x))
+            let y : rb (suc h) p ≡ modZ (p .b) 3 = ap (λ (d : ℕ). rb d p) (sym e) ∙ own p .1 in (
+              e,
+              omega arith,
+              y ∙ alike (modZ (p .a) 3) (modZ (p .b) 3) (three-below (p .a)) (three-below (p .b)) (sym (class-is p) ∙ c) ∙ sym x,
+              b
+                  ∙ ap (λ (n : ℕ). 5 - 2 * n) (sym x),
+            )
 
     pub uneven-class : rankOf p ≡ 2 * h + 2 → classOf p ≡ 0
     uneven-class l = go (ranked p t)

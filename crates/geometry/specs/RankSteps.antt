@@ -1,8 +1,8 @@
--- What a step does to ranks. A point of rank at most i, stepped from at level i, leads to one of rank i + 1 (`out-rank`), born with the step's direction turned back (`out-birth`). A
--- point of rank i + 1 has three neighbours of rank at most i, in every fourth direction from its birth orientation (`in-rank`); if i is at least 1, one of them has a
--- rank below i (`creator`).
--- Why: at depth (i + 1) / 2 the point and the step are whole, the steps leave on division by 3 what a table of the twelve directions says, and remainders add up. For the creator
--- the remainders by 9 decide.
+-- What a step does to ranks. A point of rank at most i, stepped from at level i, leads to one of rank i + 1 (`out-rank`), born with the step's direction
+-- turned back (`out-birth`). A point of rank i + 1 has three neighbours of rank at most i, in every fourth direction from its birth orientation
+-- (`in-rank`); if i is at least 1, one of them has a rank below i (`creator`).
+-- Why: at depth (i + 1) / 2 the point and the step are whole, the steps leave on division by 3 what a table of the twelve directions says, and
+-- remainders add up. For the creator the remainders by 9 decide.
 -- Assumes nothing.
 use mathlib.Core.Path.{_≡_, sym, _∙_, ap, subst}
 use mathlib.Core.Logic.{_⊎_, inl, inr}
@@ -23,7 +23,10 @@ use Rattle.lattice.specs.Ranks.{rankOf, birthOf, moveOf}
 use Rattle.geometry.specs.SideLaws.{Dir, vector}
 use Rattle.geometry.specs.SubdivisionLaws.{sum-normal}
 use Rattle.lattice.specs.declared.points.Point.{Point}
-use Rattle.geometry.specs.RankLaws.{ra, rb, rc, rank-between, birth-parity, LevelKind, ground, uneven, paired, level-kind, deepOf, zeros, class-own, step-a, step-b, step-c, step-9, step-depth, even-row, odd-row, one, ground-in, ground-out, ground-first, ground-base, uneven-in, uneven-out, uneven-low, uneven-born, uneven-class, paired-in, paired-out, paired-low, paired-born}
+use Rattle.geometry.specs.RankLaws.{ra, rb, rc, rank-between, birth-parity, LevelKind, ground, uneven, paired, level-kind, deepOf, zeros}
+use Rattle.geometry.specs.RankLaws.{class-own, step-a, step-b, step-c, step-9, step-depth, even-row, odd-row, one, ground-in, ground-out}
+use Rattle.geometry.specs.RankLaws.{ground-first, ground-base, uneven-in, uneven-out, uneven-low, uneven-born, uneven-class, paired-in}
+use Rattle.geometry.specs.RankLaws.{paired-out, paired-low, paired-born}
 
 -- ---- from a point of rank at most i, a step of level i
 module _ (q : Point) (e i : ℕ) (t : T (isNormal q)) (d : Dir e i) (l : rankOf q ≤ i) where
@@ -48,12 +51,15 @@ module _ (q : Point) (e i : ℕ) (t : T (isNormal q)) (d : Dir e i) (l : rankOf 
       let (m, c) = ground-first q t (omega arith) in
       let ds = step-depth q e i d whole in
       let D : deepOf i ≡ 0 = omega arith in
-      let x : classOf s ≡ (1 + tc) % 3 = sym (class-own s (deepOf i) (omega arith)) ∙ step-c q e i d whole ∙ ap (λ (n : ℕ). (n + tc) % 3) (class-own q (deepOf i) (omega arith) ∙ c) in
+      let x : classOf s ≡ (1 + tc) % 3 = sym (class-own s (deepOf i) (omega arith)) ∙ step-c q e i d whole
+      ∙ ap (λ (n : ℕ). (n + tc) % 3) (class-own q (deepOf i) (omega arith) ∙ c) in
       by (even-row e (d .0) (d .1 ∙ ap (λ (n : ℕ). n % 2) z)) x (omega arith)
     where
       by : ((e % 4 ≡ 0) × (tc ≡ 1)) ⊎ ((e % 4 ≡ 2) × (tc ≡ 2)) → classOf s ≡ (1 + tc) % 3 → s .m .0 ≡ 0 → Out
-      by (inl (k, v)) x m = let y : classOf s ≡ 2 = x ∙ ap (λ (n : ℕ). (1 + n) % 3) v in let (r, b) = ground-out s ts m (omega arith) in (omega arith, b ∙ omega arith)
-      by (inr (k, v)) x m = let y : classOf s ≡ 0 = x ∙ ap (λ (n : ℕ). (1 + n) % 3) v in let (r, b) = ground-out s ts m (omega arith) in (omega arith, b ∙ omega arith)
+      by (inl (k, v)) x m = let y : classOf s ≡ 2 = x ∙ ap (λ (n : ℕ). (1 + n) % 3) v in let (r, b) = ground-out s ts m (omega arith) in
+          (omega arith, b ∙ omega arith)
+      by (inr (k, v)) x m = let y : classOf s ≡ 0 = x ∙ ap (λ (n : ℕ). (1 + n) % 3) v in let (r, b) = ground-out s ts m (omega arith) in
+          (omega arith, b ∙ omega arith)
 
   out-uneven : (h : ℕ) → i ≡ 2 * h + 1 → Out
   out-uneven h z =
@@ -61,8 +67,10 @@ module _ (q : Point) (e i : ℕ) (t : T (isNormal q)) (d : Dir e i) (l : rankOf 
       let m = uneven-low q t h (omega arith) in
       let (za, zb) = zeros q h m in
       let ds : s .m .0 ≤ suc h = rw D at (step-depth q e i d whole) in
-      let x : ra (suc h) s ≡ (0 + modZ (one e .a) 3) % 3 = ap (λ (n : ℕ). ra n s) (sym D) ∙ step-a q e i d whole ∙ ap (λ (n : ℕ). (ra n q + modZ (one e .a) 3) % 3) D ∙ ap (λ (n : ℕ). (n + modZ (one e .a) 3) % 3) za in
-      let y : rb (suc h) s ≡ (0 + modZ (one e .b) 3) % 3 = ap (λ (n : ℕ). rb n s) (sym D) ∙ step-b q e i d whole ∙ ap (λ (n : ℕ). (rb n q + modZ (one e .b) 3) % 3) D ∙ ap (λ (n : ℕ). (n + modZ (one e .b) 3) % 3) zb in
+      let x : ra (suc h) s ≡ (0 + modZ (one e .a) 3) % 3 = ap (λ (n : ℕ). ra n s) (sym D) ∙ step-a q e i d whole
+      ∙ ap (λ (n : ℕ). (ra n q + modZ (one e .a) 3) % 3) D ∙ ap (λ (n : ℕ). (n + modZ (one e .a) 3) % 3) za in
+      let y : rb (suc h) s ≡ (0 + modZ (one e .b) 3) % 3 = ap (λ (n : ℕ). rb n s) (sym D) ∙ step-b q e i d whole
+      ∙ ap (λ (n : ℕ). (rb n q + modZ (one e .b) 3) % 3) D ∙ ap (λ (n : ℕ). (n + modZ (one e .b) 3) % 3) zb in
       by (odd-row e (d .0) (d .1 ∙ ap (λ (n : ℕ). n % 2) z ∙ odd1 h)) x y ds
     where
       odd1 : (h : ℕ) → (2 * h + 1) % 2 ≡ 1
@@ -86,15 +94,18 @@ module _ (q : Point) (e i : ℕ) (t : T (isNormal q)) (d : Dir e i) (l : rankOf 
       let D : deepOf i ≡ suc h = omega arith in
       let (m, c) = paired-low q t h (omega arith) in
       let ds : s .m .0 ≤ suc h = rw D at (step-depth q e i d whole) in
-      let x : rc 3 (suc h) s ≡ (0 + tc) % 3 = ap (λ (n : ℕ). rc 3 n s) (sym D) ∙ step-c q e i d whole ∙ ap (λ (n : ℕ). (rc 3 n q + tc) % 3) D ∙ ap (λ (n : ℕ). (n + tc) % 3) c in
+      let x : rc 3 (suc h) s ≡ (0 + tc) % 3 = ap (λ (n : ℕ). rc 3 n s) (sym D) ∙ step-c q e i d whole ∙ ap (λ (n : ℕ). (rc 3 n q + tc) % 3) D
+      ∙ ap (λ (n : ℕ). (n + tc) % 3) c in
       by (even-row e (d .0) (d .1 ∙ ap (λ (n : ℕ). n % 2) z ∙ even2 h)) x ds
     where
       even2 : (h : ℕ) → (2 * h + 2) % 2 ≡ 0
       even2 h = omega arith
 
       by : ((e % 4 ≡ 0) × (tc ≡ 1)) ⊎ ((e % 4 ≡ 2) × (tc ≡ 2)) → rc 3 (suc h) s ≡ (0 + tc) % 3 → s .m .0 ≤ suc h → Out
-      by (inl (k, v)) x ds = let y : rc 3 (suc h) s ≡ 1 = x ∙ ap (λ (n : ℕ). (0 + n) % 3) v in let (r, o) = paired-out s ts h ds (omega arith) in (omega arith, o ∙ omega arith)
-      by (inr (k, v)) x ds = let y : rc 3 (suc h) s ≡ 2 = x ∙ ap (λ (n : ℕ). (0 + n) % 3) v in let (r, o) = paired-out s ts h ds (omega arith) in (omega arith, o ∙ omega arith)
+      by (inl (k, v)) x ds = let y : rc 3 (suc h) s ≡ 1 = x ∙ ap (λ (n : ℕ). (0 + n) % 3) v in let (r, o) = paired-out s ts h ds (omega arith) in
+          (omega arith, o ∙ omega arith)
+      by (inr (k, v)) x ds = let y : rc 3 (suc h) s ≡ 2 = x ∙ ap (λ (n : ℕ). (0 + n) % 3) v in let (r, o) = paired-out s ts h ds (omega arith) in
+          (omega arith, o ∙ omega arith)
 
   out : LevelKind i → Out
   out (ground z) = out-ground z
@@ -129,7 +140,8 @@ module _ (p : Point) (e i : ℕ) (t : T (isNormal p)) (he : e < 12) (f : rankOf 
       let (m, c, b) = ground-base p t (omega arith) in
       let ds = step-depth p e i in-dir in-whole in
       let x : classOf r ≡ (classOf p + modZ (one e .a -ℤ one e .b) 3) % 3 =
-      sym (class-own r (deepOf i) (omega arith)) ∙ step-c p e i in-dir in-whole ∙ ap (λ (n : ℕ). (n + modZ (one e .a -ℤ one e .b) 3) % 3) (class-own p (deepOf i) (omega arith)) in
+      sym (class-own r (deepOf i) (omega arith)) ∙ step-c p e i in-dir in-whole
+      ∙ ap (λ (n : ℕ). (n + modZ (one e .a -ℤ one e .b) 3) % 3) (class-own p (deepOf i) (omega arith)) in
       let y : classOf r ≡ 1 = by (even-row e he (in-dir .1 ∙ ap (λ (n : ℕ). n % 2) z)) b x in
       omega (arith, ground-in r tr (omega arith) y)
     where
@@ -143,9 +155,11 @@ module _ (p : Point) (e i : ℕ) (t : T (isNormal p)) (he : e < 12) (f : rankOf 
       let D : deepOf i ≡ suc h = omega arith in
       let (m, a, ab, b) = uneven-born p t h (omega arith) in
       let ds : r .m .0 ≤ suc h = rw D at (step-depth p e i in-dir in-whole) in
-      let x : ra (suc h) r ≡ (ra (suc h) p + modZ (one e .a) 3) % 3 = ap (λ (n : ℕ). ra n r) (sym D) ∙ step-a p e i in-dir in-whole ∙ ap (λ (n : ℕ). (ra n p + modZ (one e .a) 3) % 3) D in
+      let x : ra (suc h) r ≡ (ra (suc h) p + modZ (one e .a) 3) % 3 = ap (λ (n : ℕ). ra n r) (sym D) ∙ step-a p e i in-dir in-whole
+      ∙ ap (λ (n : ℕ). (ra n p + modZ (one e .a) 3) % 3) D in
       let y : rb (suc h) r ≡ (ra (suc h) p + modZ (one e .b) 3) % 3 =
-      ap (λ (n : ℕ). rb n r) (sym D) ∙ step-b p e i in-dir in-whole ∙ ap (λ (n : ℕ). (rb n p + modZ (one e .b) 3) % 3) D ∙ ap (λ (n : ℕ). (n + modZ (one e .b) 3) % 3) ab in
+      ap (λ (n : ℕ). rb n r) (sym D) ∙ step-b p e i in-dir in-whole ∙ ap (λ (n : ℕ). (rb n p + modZ (one e .b) 3) % 3) D
+      ∙ ap (λ (n : ℕ). (n + modZ (one e .b) 3) % 3) ab in
       let (u, v) = by (odd-row e he (in-dir .1 ∙ ap (λ (n : ℕ). n % 2) z ∙ odd1 h)) a (three-below (wide (suc h) p)) b x y in
       omega (arith, uneven-in r tr h ds u v)
     where
@@ -153,7 +167,8 @@ module _ (p : Point) (e i : ℕ) (t : T (isNormal p)) (he : e < 12) (f : rankOf 
       odd1 h = omega arith
 
       by : ((e % 4 ≡ 1) × (modZ (one e .a) 3 ≡ 1) × (modZ (one e .b) 3 ≡ 1)) ⊎ ((e % 4 ≡ 3) × (modZ (one e .a) 3 ≡ 2) × (modZ (one e .b) 3 ≡ 2))
-          → 0 < ra (suc h) p → ra (suc h) p < 3 → birthOf p ≡ 5 - 2 * ra (suc h) p → ra (suc h) r ≡ (ra (suc h) p + modZ (one e .a) 3) % 3 → rb (suc h) r ≡ (ra (suc h) p + modZ (one e .b) 3) % 3
+          → 0 < ra (suc h) p → ra (suc h) p < 3 → birthOf p ≡ 5 - 2 * ra (suc h) p → ra (suc h) r ≡ (ra (suc h) p + modZ (one e .a) 3) % 3
+          → rb (suc h) r ≡ (ra (suc h) p + modZ (one e .b) 3) % 3
           → (ra (suc h) r ≡ 0) × (rb (suc h) r ≡ 0)
       by (inl (j, v, w)) a a′ b x y = let c : ra (suc h) p ≡ 2 = omega arith in (x ∙ (λ i. (c i + v i) % 3), y ∙ (λ i. (c i + w i) % 3))
       by (inr (j, v, w)) a a′ b x y = let c : ra (suc h) p ≡ 1 = omega arith in (x ∙ (λ i. (c i + v i) % 3), y ∙ (λ i. (c i + w i) % 3))
@@ -165,12 +180,17 @@ module _ (p : Point) (e i : ℕ) (t : T (isNormal p)) (he : e < 12) (f : rankOf 
       let ds : r .m .0 ≤ suc h = rw D at (step-depth p e i in-dir in-whole) in
       let x : rc 3 (suc h) r ≡ (rc 3 (suc h) p + modZ (one e .a -ℤ one e .b) 3) % 3 =
       ap (λ (n : ℕ). rc 3 n r) (sym D) ∙ step-c p e i in-dir in-whole ∙ ap (λ (n : ℕ). (rc 3 n p + modZ (one e .a -ℤ one e .b) 3) % 3) D in
-      omega (arith, paired-in r tr h ds (by (even-row e he (in-dir .1 ∙ ap (λ (n : ℕ). n % 2) z ∙ even2 h)) c (three-below (wide (suc h) p -ℤ high (suc h) p)) b x))
+      omega (
+        arith,
+        paired-in r tr h ds (by (even-row e he (in-dir .1 ∙ ap (λ (n : ℕ). n % 2) z ∙ even2 h)) c
+            (three-below (wide (suc h) p -ℤ high (suc h) p)) b x),
+      )
     where
       even2 : (h : ℕ) → (2 * h + 2) % 2 ≡ 0
       even2 h = omega arith
 
-      by : ((e % 4 ≡ 0) × (modZ (one e .a -ℤ one e .b) 3 ≡ 1)) ⊎ ((e % 4 ≡ 2) × (modZ (one e .a -ℤ one e .b) 3 ≡ 2)) → 0 < rc 3 (suc h) p → rc 3 (suc h) p < 3 → birthOf p ≡ 4 - 2 * rc 3 (suc h) p
+      by : ((e % 4 ≡ 0) × (modZ (one e .a -ℤ one e .b) 3 ≡ 1)) ⊎ ((e % 4 ≡ 2) × (modZ (one e .a -ℤ one e .b) 3 ≡ 2)) → 0 < rc 3 (suc h) p
+          → rc 3 (suc h) p < 3 → birthOf p ≡ 4 - 2 * rc 3 (suc h) p
           → rc 3 (suc h) r ≡ (rc 3 (suc h) p + modZ (one e .a -ℤ one e .b) 3) % 3 → rc 3 (suc h) r ≡ 0
       by (inl (j, v)) c c′ b x = let w : rc 3 (suc h) p ≡ 2 = omega arith in x ∙ (λ i. (w i + v i) % 3)
       by (inr (j, v)) c c′ b x = let w : rc 3 (suc h) p ≡ 1 = omega arith in x ∙ (λ i. (w i + v i) % 3)
@@ -189,12 +209,14 @@ abbrev evenWay : ℕ → ℕ → ℕ
 evenWay x y = cond (eqb ((x + 2 * y) % 3) 1) (2 + 4 * x) (8 - 4 * x)
 
 even-way : (x y : ℕ) → x < 3 → y < 3 → 0 < (x + 2 * y) % 3
-    → (evenWay x y ≤ 11) × ((evenWay x y % 4 ≡ 4 - 2 * ((x + 2 * y) % 3)) × (((x + modZ (one (evenWay x y) .a) 3) % 3 ≡ 0) × ((y + modZ (one (evenWay x y) .b) 3) % 3 ≡ 0)))
+    → (evenWay x y ≤ 11) × ((evenWay x y % 4 ≡ 4 - 2 * ((x + 2 * y) % 3))
+    × (((x + modZ (one (evenWay x y) .a) 3) % 3 ≡ 0) × ((y + modZ (one (evenWay x y) .b) 3) % 3 ≡ 0)))
 unfolding orient
 even-way x y hx hy =
     rule2 3 3
     (λ x y. 1 ≤? ((x + 2 * y) % 3)
-    ⇒ evenWay x y ≤? 11 & (evenWay x y % 4) ≡? (4 - 2 * ((x + 2 * y) % 3)) & ((x + modZ (one (evenWay x y) .a) 3) % 3) ≡? 0 & ((y + modZ (one (evenWay x y) .b) 3) % 3) ≡? 0)
+    ⇒ evenWay x y ≤? 11 & (evenWay x y % 4) ≡? (4 - 2 * ((x + 2 * y) % 3)) & ((x + modZ (one (evenWay x y) .a) 3) % 3) ≡? 0
+    & ((y + modZ (one (evenWay x y) .b) 3) % 3) ≡? 0)
     tt x hx y hy
 
 -- at an odd level: x is what a numerator leaves, 3g what the difference leaves of 9, and the direction takes that to 3w
@@ -239,10 +261,12 @@ module _ (p : Point) (t : T (isNormal p)) where
 
   -- a point of depth at most h: its difference at depth h + 1 is three times that at depth h
   thrice : (q : Point) (h : ℕ) → q .m .0 ≤ h → rc 9 (suc h) q ≡ 3 * rc 3 h q
-  thrice q h l = ap (λ (z : ℤ). modZ z 9) (λ i. one-more (q .a) i -ℤ one-more (q .b) i) ∙ ap (λ (z : ℤ). modZ z 9) (sub3 (wide h q) (high h q)) ∙ nine-thrice (wide h q -ℤ high h q)
+  thrice q h l = ap (λ (z : ℤ). modZ z 9) (λ i. one-more (q .a) i -ℤ one-more (q .b) i) ∙ ap (λ (z : ℤ). modZ z 9) (sub3 (wide h q) (high h q))
+      ∙ nine-thrice (wide h q -ℤ high h q)
     where
       one-more : (z : ℤ) → lift z (q .m .0) (suc h) ≡ lift z (q .m .0) h *ℤ pos 3
-      one-more z = let e : suc h - h ≡ 1 = omega arith in sym (lift-lift z (q .m .0) h (suc h) l (omega arith)) ∙ ap (λ (k : ℕ). lift z (q .m .0) h *ℤ pos (3 ^ k)) e
+      one-more z = let e : suc h - h ≡ 1 = omega arith in sym (lift-lift z (q .m .0) h (suc h) l (omega arith))
+          ∙ ap (λ (k : ℕ). lift z (q .m .0) h *ℤ pos (3 ^ k)) e
 
       sub3 : (x y : ℤ) → x *ℤ pos 3 -ℤ y *ℤ pos 3 ≡ (x -ℤ y) *ℤ pos 3
       sub3 x y = (λ i. *ℤ-comm x (pos 3) i -ℤ *ℤ-comm y (pos 3) i) ∙ same (3 ⊗ ‵ x ⊝ 3 ⊗ ‵ y) (3 ⊗ (‵ x ⊝ ‵ y)) (omega arith) ∙ *ℤ-comm (pos 3) (x -ℤ y)
@@ -278,7 +302,8 @@ module _ (p : Point) (t : T (isNormal p)) where
       let low : q .m .0 ≤ h = uneven-low q (sum-normal p (vector e (suc i))) h (subst (λ (k : ℕ). rankOf q ≤ k) z (in-rank p e (suc i) t (omega arith) f k′)) in
       let g3 : n ≡ 3 * g = omega arith in
       let r9 : rc 9 (suc h) q ≡ 3 * goal h =
-      ap (λ (n : ℕ). rc 9 n q) (sym D) ∙ step-9 p e (suc i) d w ∙ ap (λ (j : ℕ). (rc 9 j p + modZ (one e .a -ℤ one e .b) 9) % 9) D ∙ ap (λ (j : ℕ). (j + modZ (one e .a -ℤ one e .b) 9) % 9) g3 ∙ u in
+      ap (λ (n : ℕ). rc 9 n q) (sym D) ∙ step-9 p e (suc i) d w ∙ ap (λ (j : ℕ). (rc 9 j p + modZ (one e .a -ℤ one e .b) 9) % 9) D
+      ∙ ap (λ (j : ℕ). (j + modZ (one e .a -ℤ one e .b) 9) % 9) g3 ∙ u in
       let r3 : rc 3 h q ≡ goal h = third (rc 3 h q) (goal h) (sym (thrice q h low) ∙ r9) in
       (e, omega arith, k′, half i h z (reached q h (sum-normal p (vector e (suc i))) low r3))
     where

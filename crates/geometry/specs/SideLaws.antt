@@ -1,5 +1,6 @@
 -- Steps of one level and of the next. A step of level i + 1 in direction e ends between the steps of level i in directions e - 1 and e + 1:
--- from its end, two directions on or back, a step of level i + 1 leads to theirs (`side-left`, `side-right`), and it is a third of their sum (`middle-wide`, `middle-high`).
+-- from its end, two directions on or back, a step of level i + 1 leads to theirs (`side-left`, `side-right`), and it is a third of their sum
+-- (`middle-wide`, `middle-high`).
 -- `fan` at one level, four directions on leads to the next end round.
 -- The directions' parities are the levels', so one table over the directions serves all levels.
 -- Assumes nothing.
@@ -86,12 +87,14 @@ sides : ℕ → ℕ → ℕ → ℕ → Test
 sides b e g f = (across (1 - b) e +ℤ across (1 - b) g) ≡ᶻ? across 1 f & (upward (1 - b) e +ℤ upward (1 - b) g) ≡ᶻ? upward 1 f
 
 left-row : (b e : ℕ) → b < 2 → e < 12 → e % 2 ≡ 1 - b
-    → (across (1 - b) e +ℤ across (1 - b) ((e + 2) % 12) ≡ across 1 ((e + 1) % 12)) × (upward (1 - b) e +ℤ upward (1 - b) ((e + 2) % 12) ≡ upward 1 ((e + 1) % 12))
+    → (across (1 - b) e +ℤ across (1 - b) ((e + 2) % 12) ≡ across 1 ((e + 1) % 12))
+    × (upward (1 - b) e +ℤ upward (1 - b) ((e + 2) % 12) ≡ upward 1 ((e + 1) % 12))
 unfolding orient sides
 left-row b e hb he = rule2 2 12 (λ b e. (e % 2) ≡? (1 - b) ⇒ sides b e ((e + 2) % 12) ((e + 1) % 12)) tt b hb e he
 
 right-row : (b e : ℕ) → b < 2 → e < 12 → e % 2 ≡ 1 - b
-    → (across (1 - b) e +ℤ across (1 - b) ((e + 10) % 12) ≡ across 1 ((e + 11) % 12)) × (upward (1 - b) e +ℤ upward (1 - b) ((e + 10) % 12) ≡ upward 1 ((e + 11) % 12))
+    → (across (1 - b) e +ℤ across (1 - b) ((e + 10) % 12) ≡ across 1 ((e + 11) % 12))
+    × (upward (1 - b) e +ℤ upward (1 - b) ((e + 10) % 12) ≡ upward 1 ((e + 11) % 12))
 unfolding orient sides
 right-row b e hb he = rule2 2 12 (λ b e. (e % 2) ≡? (1 - b) ⇒ sides b e ((e + 10) % 12) ((e + 11) % 12)) tt b hb e he
 
@@ -114,9 +117,11 @@ pub side-right : (q : Point) (e i : ℕ) → Dir e (suc i) → moveOf (moveOf q 
 side-right q e i h = side q e ((e + 10) % 12) ((e + 11) % 12) i h (turn10 e (suc i) h) (right-row (i % 2) e (omega arith) (h .0) (odd-of e i (h .1)))
 
 -- ---- at one level
-fan-row : (e : ℕ) → e < 12 → (across 1 e +ℤ across 1 ((e + 4) % 12) ≡ across 1 ((e + 2) % 12)) × (upward 1 e +ℤ upward 1 ((e + 4) % 12) ≡ upward 1 ((e + 2) % 12))
+fan-row : (e : ℕ) → e < 12 → (across 1 e +ℤ across 1 ((e + 4) % 12) ≡ across 1 ((e + 2) % 12))
+    × (upward 1 e +ℤ upward 1 ((e + 4) % 12) ≡ upward 1 ((e + 2) % 12))
 unfolding orient
-fan-row e he = rule 12 (λ e. (across 1 e +ℤ across 1 ((e + 4) % 12)) ≡ᶻ? across 1 ((e + 2) % 12) & (upward 1 e +ℤ upward 1 ((e + 4) % 12)) ≡ᶻ? upward 1 ((e + 2) % 12)) tt e he
+fan-row e he = rule 12 (λ e. (across 1 e +ℤ across 1 ((e + 4) % 12)) ≡ᶻ? across 1 ((e + 2) % 12)
+    & (upward 1 e +ℤ upward 1 ((e + 4) % 12)) ≡ᶻ? upward 1 ((e + 2) % 12)) tt e he
 
 pub fan : (q : Point) (e i : ℕ) → e < 12 → moveOf (moveOf q e i) ((e + 4) % 12) i ≡ moveOf q ((e + 2) % 12) i
 fan q e i h =
@@ -128,16 +133,19 @@ fan q e i h =
 
 -- ---- a step of the next level is a third of the two beside it
 middle-row : (b e : ℕ) → b < 2 → e < 12 → e % 2 ≡ 1 - b
-    → (across 1 ((e + 11) % 12) +ℤ across 1 ((e + 1) % 12) ≡ across (1 - b) e *ℤ pos 3) × (upward 1 ((e + 11) % 12) +ℤ upward 1 ((e + 1) % 12) ≡ upward (1 - b) e *ℤ pos 3)
+    → (across 1 ((e + 11) % 12) +ℤ across 1 ((e + 1) % 12) ≡ across (1 - b) e *ℤ pos 3)
+    × (upward 1 ((e + 11) % 12) +ℤ upward 1 ((e + 1) % 12) ≡ upward (1 - b) e *ℤ pos 3)
 unfolding orient
 middle-row b e hb he =
     rule2 2 12
     (λ b e. (e % 2) ≡? (1 - b)
-    ⇒ (across 1 ((e + 11) % 12) +ℤ across 1 ((e + 1) % 12)) ≡ᶻ? (across (1 - b) e *ℤ pos 3) & (upward 1 ((e + 11) % 12) +ℤ upward 1 ((e + 1) % 12)) ≡ᶻ? (upward (1 - b) e *ℤ pos 3))
+    ⇒ (across 1 ((e + 11) % 12) +ℤ across 1 ((e + 1) % 12)) ≡ᶻ? (across (1 - b) e *ℤ pos 3)
+    & (upward 1 ((e + 11) % 12) +ℤ upward 1 ((e + 1) % 12)) ≡ᶻ? (upward (1 - b) e *ℤ pos 3))
     tt b hb e he
 
 -- what is three times another at a depth is so at any greater
-raise-third : (x y z : Point) (f : Point → ℤ) (d D : ℕ) → d ≤ D → ((p : Point) → p .m .0 ≤ d → lift (f p) (p .m .0) D ≡ lift (f p) (p .m .0) d *ℤ pos (3 ^ (D - d)))
+raise-third : (x y z : Point) (f : Point → ℤ) (d D : ℕ) → d ≤ D
+    → ((p : Point) → p .m .0 ≤ d → lift (f p) (p .m .0) D ≡ lift (f p) (p .m .0) d *ℤ pos (3 ^ (D - d)))
     → x .m .0 ≤ d → y .m .0 ≤ d → z .m .0 ≤ d → lift (f x) (x .m .0) d +ℤ lift (f y) (y .m .0) d ≡ lift (f z) (z .m .0) d *ℤ pos 3
     → lift (f x) (x .m .0) D +ℤ lift (f y) (y .m .0) D ≡ lift (f z) (z .m .0) D *ℤ pos 3
 raise-third x y z f d D h up hx hy hz e =
@@ -149,14 +157,16 @@ raise-third x y z f d D h up hx hy hz e =
 module _ (e i D : ℕ) (h : Dir e (suc i)) (k : 1 + i / 2 ≤ D) where
   pub middle-wide : wide D (vector ((e + 11) % 12) i) +ℤ wide D (vector ((e + 1) % 12) i) ≡ wide D (vector e (suc i)) *ℤ pos 3
   middle-wide =
-      raise-third (vector ((e + 11) % 12) i) (vector ((e + 1) % 12) i) (vector e (suc i)) (λ p. p .a) (1 + i / 2) D k (λ p l. sym (lift-lift (p .a) (p .m .0) (1 + i / 2) D l k))
+      raise-third (vector ((e + 11) % 12) i) (vector ((e + 1) % 12) i) (vector e (suc i)) (λ p. p .a) (1 + i / 2) D k
+      (λ p l. sym (lift-lift (p .a) (p .m .0) (1 + i / 2) D l k))
       (vector-depth ((e + 11) % 12) i) (vector-depth ((e + 1) % 12) i) (next-deep e i h)
       ((λ t. vector-wide ((e + 11) % 12) i t +ℤ vector-wide ((e + 1) % 12) i t)
       ∙ middle-row (i % 2) e (omega arith) (h .0) (odd-of e i (h .1)) .0 ∙ ap (λ (z : ℤ). z *ℤ pos 3) (sym (next-wide e i)))
 
   pub middle-high : high D (vector ((e + 11) % 12) i) +ℤ high D (vector ((e + 1) % 12) i) ≡ high D (vector e (suc i)) *ℤ pos 3
   middle-high =
-      raise-third (vector ((e + 11) % 12) i) (vector ((e + 1) % 12) i) (vector e (suc i)) (λ p. p .b) (1 + i / 2) D k (λ p l. sym (lift-lift (p .b) (p .m .0) (1 + i / 2) D l k))
+      raise-third (vector ((e + 11) % 12) i) (vector ((e + 1) % 12) i) (vector e (suc i)) (λ p. p .b) (1 + i / 2) D k
+      (λ p l. sym (lift-lift (p .b) (p .m .0) (1 + i / 2) D l k))
       (vector-depth ((e + 11) % 12) i) (vector-depth ((e + 1) % 12) i) (next-deep e i h)
       ((λ t. vector-high ((e + 11) % 12) i t +ℤ vector-high ((e + 1) % 12) i t)
       ∙ middle-row (i % 2) e (omega arith) (h .0) (odd-of e i (h .1)) .1 ∙ ap (λ (z : ℤ). z *ℤ pos 3) (sym (next-high e i)))

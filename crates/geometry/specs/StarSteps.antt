@@ -40,7 +40,8 @@ star-row : (b k d j : ℕ) → b < 2 → k < 12 → 3 ≤ d → d ≤ 6 → j < 
 unfolding orient patternOf rowsOf three four five six turnOf downOf
 star-row b k d j hb hk l h hj e =
     let f : ℕ → ℕ → ℕ → ℕ → Test = λ b k d j. 3 ≤? d ⇒ suc j ≤? d ⇒ (k % 2) ≡? b ⇒ row b k d j in
-    rule2 7 6 (f b k) (upto-at 12 (λ k. upto 7 (λ d. upto 6 (λ j. run (f b k d j)))) (upto-at 2 (λ b. upto 12 (λ k. upto 7 (λ d. upto 6 (λ j. run (f b k d j))))) tt b hb) k hk)
+    rule2 7 6 (f b k) (upto-at 12 (λ k. upto 7 (λ d. upto 6 (λ j. run (f b k d j))))
+    (upto-at 2 (λ b. upto 12 (λ k. upto 7 (λ d. upto 6 (λ j. run (f b k d j))))) tt b hb) k hk)
     d (omega arith) j (omega arith) l hj e
 
 pub star-step : (r : Record) (j : ℕ) → 3 ≤ r .d → r .d ≤ 6 → j < r .d → r .k < 12 → r .k % 2 ≡ r .n .0 % 2

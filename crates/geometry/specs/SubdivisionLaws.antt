@@ -1,7 +1,10 @@
--- A subdivision makes valid records: `centre-valid`, `update-valid`, `new-valid`. So in a table in order a subdivision that is not torn needs no further refusal.
--- A new point is a third of the sum of v and two of its old adjacent points, so it keeps to their range; and its depth is at most 6 (`new-depth`): number 6 never comes.
--- `Sited` what the point of a valid record has · `sited`, `valid-made`, `suits-made` between it and validity · `update-boundary` .. `update-five` what becomes of an old
--- adjacent vertex, degree by degree · `Rule`, `has-rule`, `accepted` what it is when nothing is torn · `six-place` a star of degree 6 by directions · `sum-normal`.
+-- A subdivision makes valid records: `centre-valid`, `update-valid`, `new-valid`. So in a table in order a subdivision that is not torn needs no further
+-- refusal.
+-- A new point is a third of the sum of v and two of its old adjacent points, so it keeps to their range; and its depth is at most 6 (`new-depth`):
+-- number 6 never comes.
+-- `Sited` what the point of a valid record has · `sited`, `valid-made`, `suits-made` between it and validity ·
+-- `update-boundary` .. `update-five` what becomes of an old adjacent vertex, degree by degree ·
+-- `Rule`, `has-rule`, `accepted` what it is when nothing is torn · `six-place` a star of degree 6 by directions · `sum-normal`.
 -- Assumes nothing.
 use mathlib.Core.Path.{_≡_, refl, sym, _∙_, ap, subst}
 use mathlib.Core.Logic.{_⊎_, inl, inr, ⊎-map}
@@ -127,7 +130,11 @@ accepted k′ n u t = go (ℕ-discrete (u .d) 0)
     go (yes e) = inl e
     go (no e) =
         let h : T (eqb (u .n .0) n && hasRule k′ (u .d) (u .k)) = rw (ne-eqb (u .d) 0 e) at t in
-        inr (eqb→eq (u .n .0) n (and-left (eqb (u .n .0) n) (hasRule k′ (u .d) (u .k)) h), has-rule k′ u (and-right (eqb (u .n .0) n) (hasRule k′ (u .d) (u .k)) h))
+        inr (
+          eqb→eq (u .n .0) n (and-left (eqb (u .n .0) n) (hasRule k′ (u .d) (u .k)) h),
+          has-rule k′ u
+              (and-right (eqb (u .n .0) n) (hasRule k′ (u .d) (u .k)) h),
+        )
 
 pub update-valid : (k′ n : ℕ) (u : Record) → n < 12 → T (validOf u) → T (acceptsOf k′ n u) → T (validOf (updateOf k′ u))
 update-valid k′ n u l t a = go (accepted k′ n u a)
@@ -159,11 +166,13 @@ update-valid k′ n u l t a = go (accepted k′ n u a)
     go (inl e) = subst (λ (r : Record). T (validOf r)) (sym (update-boundary k′ u e)) t
     go (inr (m, three e k)) =
         let p = i (omega arith) in
-        into _ (update-three k′ u e) refl (suits-made 4 ((k′ + 4) % 12) (u .n .0) (omega arith) (omega arith) (omega arith) (even 4 (u .n .0) refl (omega arith)))
+        into _ (update-three k′ u e) refl (suits-made 4 ((k′ + 4) % 12) (u .n .0) (omega arith) (omega arith) (omega arith)
+        (even 4 (u .n .0) refl (omega arith)))
     go (inr (m, four e k)) =
         let p = i (omega arith) in
         let q : k′ % 2 ≡ u .n .0 % 2 = four-parity k p in
-        into _ (update-four k′ u e) refl (suits-made 5 (fourTurn k′ (u .k)) (u .n .0) (omega arith) (turn (eqb (u .k) k′)) (omega arith) (turn-even (eqb (u .k) k′) (u .n .0) q))
+        into _ (update-four k′ u e) refl (suits-made 5 (fourTurn k′ (u .k)) (u .n .0) (omega arith) (turn (eqb (u .k) k′)) (omega arith)
+        (turn-even (eqb (u .k) k′) (u .n .0) q))
       where
         four-parity : (u .k ≡ k′) ⊎ ((u .k + 4) % 12 ≡ k′) → u .k % 2 ≡ u .n .0 % 2 → k′ % 2 ≡ u .n .0 % 2
         four-parity (inl x) p = omega arith
@@ -221,7 +230,8 @@ module _ (q x l r : Point) (dx : x .m .0 ≤ 6) (dl : l .m .0 ≤ 6) (dr : r .m 
   third-range f sum hq hl hr e =
       range-lift (f (sumOf q x)) (sumOf q x .m .0) 6 third-depth
       (rw (sum x dx)
-      (middle (lift (f q) (q .m .0) 6) (lift (f x) (x .m .0) 6) (lift (f l) (l .m .0) 6) (lift (f r) (r .m .0) 6) (reach 6) e (lift-range (f q) (q .m .0) 6 (sq .depth) hq)
+      (middle (lift (f q) (q .m .0) 6) (lift (f x) (x .m .0) 6) (lift (f l) (l .m .0) 6) (lift (f r) (r .m .0) 6) (reach 6) e
+      (lift-range (f q) (q .m .0) 6 (sq .depth) hq)
       (rw (← (sum l dl)) (lift-range (f (sumOf q l)) (sumOf q l .m .0) 6 (sl .depth) hl))
       (rw (← (sum r dr)) (lift-range (f (sumOf q r)) (sumOf q r .m .0) 6 (sr .depth) hr))))
 
@@ -235,7 +245,8 @@ module _ (q x l r : Point) (dx : x .m .0 ≤ 6) (dl : l .m .0 ≤ 6) (dr : r .m 
       }
 
 -- direction g of v's old star, by its place
-pub six-place : (v : Record) (g : ℕ) → v .d ≡ 6 → v .k < 2 → v .k % 2 ≡ v .n .0 % 2 → Dir g (v .n .0) → (g / 2 < 6) × (adjacentAt v (g / 2) ≡ moveOf (v .at) g (v .n .0))
+pub six-place : (v : Record) (g : ℕ) → v .d ≡ 6 → v .k < 2 → v .k % 2 ≡ v .n .0 % 2 → Dir g (v .n .0)
+    → (g / 2 < 6) × (adjacentAt v (g / 2) ≡ moveOf (v .at) g (v .n .0))
 six-place v g six k p d =
     let e = d .1 in
     let l : g / 2 < 6 = omega (arith, d .0) in
@@ -276,7 +287,8 @@ module _ (v : Record) (t : T (validOf v)) (six : v .d ≡ 6) (below : v .n .0 < 
         valid-made (newOf v j)
         (subst Sited (sym new-at)
         (third-sited (v .at) (vector e (suc n)) (vector ((e + 11) % 12) n) (vector ((e + 1) % 12) n) (omega arith) (omega arith) (omega arith) (sited v t)
-        (beside ((e + 11) % 12) (turn11 e n dir)) (beside ((e + 1) % 12) (turn1 e n dir)) (middle-wide e n 6 dir (omega arith)) (middle-high e n 6 dir (omega arith))))
+        (beside ((e + 11) % 12) (turn11 e n dir)) (beside ((e + 1) % 12) (turn1 e n dir)) (middle-wide e n 6 dir (omega arith))
+        (middle-high e n 6 dir (omega arith))))
         (suits-made 3 ((6 + 2 * j + (v .k + 1) % 2) % 4) (n + 1) (omega arith) (omega arith) (omega arith) (next (v .k) n p))
       where
         four : (x : ℕ) → x % 4 % 2 ≡ x % 2

@@ -1,5 +1,6 @@
--- The base that document 01's call lays is the model's. It is said in two ways: by the corners of the listed hexagons (crate base) and by the hexagons round a corner (crate growth).
--- `corner-move` a corner is one step away · `list-sheet`, `list-model` a good list gives the model's base · `base-sheet`, `base-model` so does a base that is accepted.
+-- The base that document 01's call lays is the model's. It is said in two ways: by the corners of the listed hexagons (crate base) and by the
+-- hexagons round a corner (crate growth).
+-- `list-sheet`, `list-model` a good list gives the model's base · `base-sheet`, `base-model` so does a base that is accepted.
 -- Assumes nothing.
 use mathlib.Core.Path.{_≡_, refl, sym, _∙_, ap, subst}
 use mathlib.Core.Logic.{_≢_}
@@ -11,35 +12,28 @@ use native.Mathlib.Omega.{arith}
 use native.Mathlib.Decide.{ℕ-discrete}
 use borrow.Author.Tests.{eq-eqb, ne-eqb, eqb-true, eqb-false}
 use lib.Dec.{T, eqb}
-use lib.IntN.{ℤ, pos, _-ℤ_}
+use lib.IntN.{ℤ, _-ℤ_}
 use lib.ListN.{length}
 use Rattle.laws.specs.Rules.{_≡?_, _⇒_, among, run, rule, eqZ}
 use Rattle.laws.specs.Each.{both-left, both-right, each-upto, upto-each, same-test, not-both}
 use Rattle.laws.specs.Choices.{is-true, of-true}
 use Rattle.laws.specs.Thirds.{three-below}
-use Rattle.lattice.specs.Points.{classOf, pt, turns, sumOf}
-use Rattle.lattice.specs.PointLaws.{alike, alike-eq}
-use Rattle.lattice.specs.Patterns.{orient}
-use Rattle.lattice.specs.Ranks.{moveOf, level}
-use Rattle.lattice.specs.Stars.{scaleOf}
+use Rattle.lattice.specs.Points.{classOf}
+use Rattle.lattice.specs.PointLaws.{alike}
+use Rattle.lattice.specs.Ranks.{moveOf}
 use Rattle.lattice.specs.declared.points.Point.{Point}
-use Rattle.growth.specs.Sheets.{hexagonOf, insideBase, baseVertex, listed, Base}
+use Rattle.geometry.specs.GeometryLaws.{turned-move}
+use Rattle.growth.specs.Sheets.{hexagonRound, insideBase, baseVertex, inList, CentreSet, baseSheet, givenBy}
 use Rattle.growth.specs.Hexagons.{unit-step, hexagon-centre, in-any, any-in, inside-all, all-inside, centre-in, centre-inside}
 use Rattle.table.specs.Search.{samePoint}
 use Rattle.table.specs.declared.entries.Looked.the-variants.{Absent, Held}
-use Rattle.base.specs.Base.{centreAt, centresIn, goodCentre, listedIn, isCentre, cornerOf, hexagonListed, internal, cornerRecord, baseOf}
-use Rattle.base.specs.Vertices.{inBase, vertexOf, GoodList}
+use Rattle.base.specs.Base.{centreAt, centresIn, goodCentre, listedIn, isListed, cornerOf, hexagonListed, internal, cornerRecord, baseOf}
+use Rattle.base.specs.Vertices.{inBase, baseRecord, GoodList}
 use Rattle.base.specs.MarkLaws.{good-is, listed-at, listed-is}
 use Rattle.base.specs.BaseLaws.{base-list, base-holds, base-depth, base-centre, base-corner, centre-base, corner-base}
 use Rattle.local.specs.Sheet.{asOption, sheetOf}
-use Rattle.growth.specs.Sheets as model
 
 -- ---- corners and hexagons
-
--- corner j is the step in the direction of 60j degrees
-pub corner-move : (p : Point) (j : ℕ) → j < 6 → cornerOf p j ≡ moveOf p (2 * j) 0
-unfolding turns orient
-corner-move p j h = ap (sumOf p) (alike-eq _ _ (rule 6 (λ j. alike (turns j (pt (pos 1) (pos 0) 0)) (scaleOf (level 0) (orient (2 * j) (pt (pos 1) (pos 0) 0)))) tt j h))
 
 -- the corner of p that hexagon t round it is
 abbrev cornerAt : Point → ℕ → ℕ
@@ -52,17 +46,17 @@ corner-at p t h = go (eqb (classOf p) 1)
     go true = omega arith
     go false = omega arith
 
-hexagon-is : (p : Point) (t : ℕ) → t < 3 → hexagonOf p t ≡ cornerOf p (cornerAt p t)
-hexagon-is p t h = ap (λ (e : ℕ). moveOf p e 0) (go (eqb (classOf p) 1)) ∙ sym (corner-move p (cornerAt p t) (corner-at p t h))
+hexagon-is : (p : Point) (t : ℕ) → t < 3 → hexagonRound p t ≡ cornerOf p (cornerAt p t)
+hexagon-is p t h = ap (λ (e : ℕ). moveOf p e 0) (go (eqb (classOf p) 1)) ∙ sym (turned-move p (cornerAt p t) (corner-at p t h))
   where
     go : (b : Bool) → cond b 2 0 + 4 * t ≡ 2 * (cond b 1 0 + 2 * t)
     go true = omega arith
     go false = omega arith
 
 -- a unit neighbour of a corner that is a centre is one of the three
-neighbour-hexagon : (p : Point) (j : ℕ) → p .m .0 ≡ 0 → classOf p ≢ 0 → j < 6 → classOf (cornerOf p j) ≡ 0 → cornerOf p j ≡ hexagonOf p (j / 2)
+neighbour-hexagon : (p : Point) (j : ℕ) → p .m .0 ≡ 0 → classOf p ≢ 0 → j < 6 → classOf (cornerOf p j) ≡ 0 → cornerOf p j ≡ hexagonRound p (j / 2)
 neighbour-hexagon p j m n h c =
-    let e = corner-move p j h in
+    let e = turned-move p j h in
     let u = unit-step p (2 * j) m (omega arith, even j) .1 in
     e ∙ ap (λ (x : ℕ). moveOf p x 0) (go (ℕ-discrete (classOf p) 1) (sym u ∙ ap classOf (sym e) ∙ c))
   where
@@ -81,7 +75,7 @@ neighbour-hexagon p j m n h c =
 -- ---- a list that is good
 module _ (cs : List ℤ) (g : GoodList cs) where
   abbrev H : Point → Bool
-  H = isCentre cs
+  H = isListed cs
 
   centre-good : (p : Point) → H p ≡ true → (p .m .0 ≡ 0) × (goodCentre p ≡ true)
   centre-good p h =
@@ -93,28 +87,28 @@ module _ (cs : List ℤ) (g : GoodList cs) where
 
   -- the points of the base
   module _ (p : Point) where
-    in-model : inBase cs p ≡ true → eqb (p .m .0) 0 && model.inBase H p ≡ true
-    in-model h = (λ i. eq-eqb (p .m .0) 0 (base-depth cs p g h) i && is-true (model.inBase H p) (go (ℕ-discrete (classOf p) 0)) i)
+    in-model : inBase cs p ≡ true → eqb (p .m .0) 0 && givenBy H p ≡ true
+    in-model h = (λ i. eq-eqb (p .m .0) 0 (base-depth cs p g h) i && is-true (givenBy H p) (go (ℕ-discrete (classOf p) 0)) i)
       where
-        go : Dec (classOf p ≡ 0) → T (model.inBase H p)
+        go : Dec (classOf p ≡ 0) → T (givenBy H p)
         go (yes c) = subst T (sym (centre-in H p c)) (of-true (base-centre cs p g h c))
         go (no c) =
             let (j, l, k) = base-corner cs p g h c in
             any-in H p c (j / 2) (omega arith) (of-true (ap H (sym (neighbour-hexagon p j (base-depth cs p g h) c l (centre-class (cornerOf p j) k))) ∙ k))
 
-    model-in : p .m .0 ≡ 0 → T (model.inBase H p) → inBase cs p ≡ true
+    model-in : p .m .0 ≡ 0 → T (givenBy H p) → inBase cs p ≡ true
     model-in m h = go (ℕ-discrete (classOf p) 0)
       where
         go : Dec (classOf p ≡ 0) → inBase cs p ≡ true
-        go (yes c) = centre-base cs p (sym (centre-in H p c) ∙ is-true (model.inBase H p) h)
+        go (yes c) = centre-base cs p (sym (centre-in H p c) ∙ is-true (givenBy H p) h)
         go (no c) =
             let (t, l, k) = in-any H p c h in
-            corner-base cs p (cornerAt p t) m (corner-at p t l) (ap H (sym (hexagon-is p t l)) ∙ is-true (H (hexagonOf p t)) k)
+            corner-base cs p (cornerAt p t) m (corner-at p t l) (ap H (sym (hexagon-is p t l)) ∙ is-true (H (hexagonRound p t)) k)
 
-    in-same : inBase cs p ≡ eqb (p .m .0) 0 && model.inBase H p
+    in-same : inBase cs p ≡ eqb (p .m .0) 0 && givenBy H p
     in-same =
-        same-test (inBase cs p) (eqb (p .m .0) 0 && model.inBase H p) in-model
-        (λ h. model-in (eqb-true (p .m .0) 0 (both-left (eqb (p .m .0) 0) (model.inBase H p) h)) (of-true (both-right (eqb (p .m .0) 0) (model.inBase H p) h)))
+        same-test (inBase cs p) (eqb (p .m .0) 0 && givenBy H p) in-model
+        (λ h. model-in (eqb-true (p .m .0) 0 (both-left (eqb (p .m .0) 0) (givenBy H p) h)) (of-true (both-right (eqb (p .m .0) 0) (givenBy H p) h)))
 
     -- a corner is internal in both ways
     module _ (m : p .m .0 ≡ 0) (n : classOf p ≢ 0) where
@@ -122,12 +116,13 @@ module _ (cs : List ℤ) (g : GoodList cs) where
       unfolding internal
       internal-inside h = is-true (insideBase H p) (all-inside H p n (λ t l. of-true (each t l)))
         where
-          each : (t : ℕ) → t < 3 → H (hexagonOf p t) ≡ true
+          each : (t : ℕ) → t < 3 → H (hexagonRound p t) ≡ true
           each t l =
               let e = hexagon-is p t l in
               let c : classOf (cornerOf p (cornerAt p t)) ≡ 0 = ap classOf (sym e) ∙ hexagon-centre p m n t l .1 in
               let q = cornerOf p (cornerAt p t) in
-              ap H e ∙ ap (λ (b : Bool). not b || H q) (sym (eq-eqb (classOf q) 0 c)) ∙ upto-each (λ j. hexagonListed H (cornerOf p j)) 6 (cornerAt p t) h (corner-at p t l)
+              ap H e ∙ ap (λ (b : Bool). not b || H q) (sym (eq-eqb (classOf q) 0 c))
+              ∙ upto-each (λ j. hexagonListed H (cornerOf p j)) 6 (cornerAt p t) h (corner-at p t l)
 
       inside-internal : insideBase H p ≡ true → internal H p ≡ true
       unfolding internal
@@ -137,28 +132,28 @@ module _ (cs : List ℤ) (g : GoodList cs) where
           go j l (yes c) =
               ap (λ (b : Bool). not b || H (cornerOf p j)) (eq-eqb (classOf (cornerOf p j)) 0 c)
               ∙ ap H (neighbour-hexagon p j m n l c)
-              ∙ is-true (H (hexagonOf p (j / 2))) (inside-all H p n (of-true h) (j / 2) (omega arith))
+              ∙ is-true (H (hexagonRound p (j / 2))) (inside-all H p n (of-true h) (j / 2) (omega arith))
           go j l (no c) = ap (λ (b : Bool). not b || H (cornerOf p j)) (ne-eqb (classOf (cornerOf p j)) 0 c)
 
       internal-same : internal H p ≡ insideBase H p
       internal-same = same-test (internal H p) (insideBase H p) internal-inside inside-internal
 
     -- the record of a point of the base
-    vertex-same : inBase cs p ≡ true → vertexOf H p ≡ baseVertex H p
+    vertex-same : inBase cs p ≡ true → baseRecord H p ≡ baseVertex H p
     unfolding cornerRecord
     vertex-same h = go (ℕ-discrete (classOf p) 0)
       where
-        go : Dec (classOf p ≡ 0) → vertexOf H p ≡ baseVertex H p
+        go : Dec (classOf p ≡ 0) → baseRecord H p ≡ baseVertex H p
         go (yes c) =
             let inside : insideBase H p ≡ true = centre-inside H p c ∙ base-centre cs p g h c in
             rw (inside, eq-eqb (classOf p) 0 c)
         go (no c) = rw (internal-same (base-depth cs p g h) c, ne-eqb (classOf p) 0 c)
 
-    pub list-sheet : asOption (cond (inBase cs p) (Held (vertexOf H p)) Absent) ≡ model.baseOf H p
-    unfolding model.baseOf
+    pub list-sheet : asOption (cond (inBase cs p) (Held (baseRecord H p)) Absent) ≡ baseSheet H p
+    unfolding baseSheet
     list-sheet = go (inBase cs p) refl ∙ ap (λ (b : Bool). cond b (some (baseVertex H p)) none) in-same
       where
-        go : (b : Bool) → inBase cs p ≡ b → asOption (cond b (Held (vertexOf H p)) Absent) ≡ cond b (some (baseVertex H p)) none
+        go : (b : Bool) → inBase cs p ≡ b → asOption (cond b (Held (baseRecord H p)) Absent) ≡ cond b (some (baseVertex H p)) none
         go true h = ap some (vertex-same h)
         go false h = refl
 
@@ -175,7 +170,7 @@ module _ (cs : List ℤ) (g : GoodList cs) where
       go true b = refl
       go false b = refl
 
-  lists : (n : ℕ) (p : Point) → among n (λ i. samePoint (centreAt cs i) p) ≡ listed (centres n) p
+  lists : (n : ℕ) (p : Point) → among n (λ i. samePoint (centreAt cs i) p) ≡ inList (centres n) p
   unfolding centres
   lists zero p = refl
   lists (suc n) p = λ i. same-alike (centreAt cs n) p i || lists n p i
@@ -188,7 +183,7 @@ module _ (cs : List ℤ) (g : GoodList cs) where
       go false false e f k = absurd (not-both refl k)
       go false true e f k = let z = eqb-false (length cs) 0 e in let w = eqb-true (length cs % 2) 0 f in omega arith
 
-  pub list-model : Base H
+  pub list-model : CentreSet H
   unfolding listedIn
   list-model =
       record {
@@ -200,8 +195,8 @@ module _ (cs : List ℤ) (g : GoodList cs) where
 
 -- ---- a base that is accepted
 module _ (t : List ℕ) (cs : List ℤ) (z : baseOf t cs .number ≡ 0) where
-  pub base-sheet : (p : Point) → sheetOf (baseOf t cs .bytes) p ≡ model.baseOf (isCentre cs) p
+  pub base-sheet : (p : Point) → sheetOf (baseOf t cs .bytes) p ≡ baseSheet (isListed cs) p
   base-sheet p = ap asOption (base-holds t cs z p) ∙ list-sheet cs (base-list t cs z) p
 
-  pub base-model : Base (isCentre cs)
+  pub base-model : CentreSet (isListed cs)
   base-model = list-model cs (base-list t cs z)

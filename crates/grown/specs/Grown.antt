@@ -1,13 +1,15 @@
--- "grown" of a table, decided: for the readers, whose number 11 turns on it. `Grown` is the mesh's, document 01's sentence; `grown?` decides it, by the local check.
--- `isGrown` the decision as a truth value: `is-grown`, `grown-is` say so · `grown-passes` in a table in order it is the local check · `grown-same` it turns on the records alone.
+-- "grown" of a table, decided: for the readers, whose number 11 turns on it. `Grown` is the mesh's, document 01's sentence; `grown?` decides it, by
+-- the local check.
+-- `isGrown` the decision as a truth value: `is-grown`, `grown-is` say so · `grown-passes` in a table in order it is the local check · `grown-same` it
+-- turns on the records alone.
 -- Assumes nothing.
-use mathlib.Core.Path.{_≡_, refl, sym, _∙_, subst}
+use mathlib.Core.Path.{_≡_, refl, _∙_}
 use mathlib.Core.Bool.{Bool, true, false}
 use mathlib.Core.List.{List}
 use Prim.Native.Nat.{ℕ}
 use lib.Dec.{T}
-use Rattle.laws.specs.Bools.{bool-is}
-use Rattle.laws.specs.Each.{not-both, true-fact, fact-true}
+use Rattle.laws.specs.Choices.{of-true, is-true}
+use Rattle.laws.specs.Each.{not-both, same-test}
 use Rattle.lattice.specs.declared.points.Point.{Point}
 use Rattle.table.specs.Entries.{lookUp}
 use Rattle.table.specs.Order.{InOrder, inOrderOf}
@@ -27,8 +29,8 @@ grown? t = ordered (inOrderOf t) refl (passesAll t) refl
   where
     ordered : (b : Bool) → inOrderOf t ≡ b → (p : Bool) → passesAll t ≡ p → Dec (Grown t)
     ordered false e p q = no (λ g. not-both (order-test t (g .order)) e)
-    ordered true e true q = yes (passes-grown t (test-order t e) (true-fact (passesAll t) q))
-    ordered true e false q = no (λ g. not-both (fact-true (passesAll t) (grown-checked t g)) q)
+    ordered true e true q = yes (passes-grown t (test-order t e) (of-true q))
+    ordered true e false q = no (λ g. not-both (is-true (passesAll t) (grown-checked t g)) q)
 
 abbrev pub told : {A : Type 0} → Dec A → Bool
 told (yes h) = true
@@ -55,7 +57,7 @@ grown-is t g = go (grown? t)
 
 pub grown-passes : (t : List ℕ) → InOrder t → isGrown t ≡ passesAll t
 grown-passes t o =
-    bool-is (isGrown t) (passesAll t) (λ h. grown-checked t (is-grown t (fact-true (isGrown t) h))) (λ h. true-fact (isGrown t) (grown-is t (passes-grown t o h)))
+    same-test (isGrown t) (passesAll t) (λ h. is-true (passesAll t) (grown-checked t (is-grown t h))) (λ h. grown-is t (passes-grown t o (of-true h)))
 
 -- whatever the tables' room, and wherever their records stand
 pub grown-same : (t u : List ℕ) → InOrder u → ((p : Point) → lookUp u p ≡ lookUp t p) → Grown t → Grown u

@@ -18,8 +18,8 @@ use Rattle.laws.specs.Rules.{run, sound, complete}
 use Rattle.lattice.specs.Points.{pt}
 use Rattle.lattice.specs.PointLaws.{alike, alike-eq}
 use Rattle.lattice.specs.declared.points.Point.{Point}
-use Rattle.growth.specs.Sheets.{listed, Base}
-use Rattle.base.specs.Base.{centreAt, centresIn, goodCentre, listedIn, isCentre, unpaired}
+use Rattle.growth.specs.Sheets.{inList, CentreSet}
+use Rattle.base.specs.Base.{centreAt, centresIn, goodCentre, listedIn, isListed, unpaired}
 use Rattle.base.specs.Vertices.{GoodList}
 use Rattle.base.specs.MarkLaws.{listed-at, listed-is}
 
@@ -27,39 +27,39 @@ use Rattle.base.specs.MarkLaws.{listed-at, listed-is}
 
 once : List Point → List Point
 once [] = []
-once (c ∷ cs) = cond (listed cs c) (once cs) (c ∷ once cs)
+once (c ∷ cs) = cond (inList cs c) (once cs) (c ∷ once cs)
 
 -- no point stands twice
 abbrev Once : List Point → Type 0
 Once [] = Unit
 Once (c ∷ cs) = (List·Memᴰ c cs → ⊥) × Once cs
 
-listed-member : (cs : List Point) (p : Point) → T (listed cs p) → List·Memᴰ p cs
+listed-member : (cs : List Point) (p : Point) → T (inList cs p) → List·Memᴰ p cs
 listed-member [] p t = absurd t
-listed-member (c ∷ cs) p t = go (or-split (run (alike c p)) (listed cs p) t) (λ u. listed-member cs p u)
+listed-member (c ∷ cs) p t = go (or-split (run (alike c p)) (inList cs p) t) (λ u. listed-member cs p u)
   where
-    go : T (run (alike c p)) ⊎ T (listed cs p) → (T (listed cs p) → List·Memᴰ p cs) → List·Memᴰ p (c ∷ cs)
+    go : T (run (alike c p)) ⊎ T (inList cs p) → (T (inList cs p) → List·Memᴰ p cs) → List·Memᴰ p (c ∷ cs)
     go (inl u) ih = List·Memᴰ·head (sym (alike-eq c p (sound (alike c p) u)))
     go (inr u) ih = List·Memᴰ·tail (ih u)
 
 alike-is : (c p : Point) → c ≡ p → T (run (alike c p))
 alike-is c p e = complete (alike c p) (ap (λ (q : Point). q .a) e, (ap (λ (q : Point). q .b) e, ap (λ (q : Point). q .m .0) e))
 
-member-listed : (cs : List Point) (p : Point) → List·Memᴰ p cs → T (listed cs p)
+member-listed : (cs : List Point) (p : Point) → List·Memᴰ p cs → T (inList cs p)
 member-listed [] p m = absurd (List·Memᴰ·not-nil m)
 member-listed (c ∷ cs) p m = go (List·Memᴰ·cases-cons m) (λ k. member-listed cs p k)
   where
-    go : (p ≡ c) ⊎ List·Memᴰ p cs → (List·Memᴰ p cs → T (listed cs p)) → T (run (alike c p) || listed cs p)
-    go (inl e) ih = or-left (run (alike c p)) (listed cs p) (alike-is c p (sym e))
-    go (inr k) ih = or-right (run (alike c p)) (listed cs p) (ih k)
+    go : (p ≡ c) ⊎ List·Memᴰ p cs → (List·Memᴰ p cs → T (inList cs p)) → T (run (alike c p) || inList cs p)
+    go (inl e) ih = or-left (run (alike c p)) (inList cs p) (alike-is c p (sym e))
+    go (inr k) ih = or-right (run (alike c p)) (inList cs p) (ih k)
 
 once-member : (cs : List Point) (p : Point) → List·Memᴰ p cs → List·Memᴰ p (once cs)
 unfolding once
 once-member [] p m = m
-once-member (c ∷ cs) p m = go (listed cs c) refl (List·Memᴰ·cases-cons m) (λ k. once-member cs p k)
+once-member (c ∷ cs) p m = go (inList cs c) refl (List·Memᴰ·cases-cons m) (λ k. once-member cs p k)
   where
-    go : (b : Bool) → listed cs c ≡ b → (p ≡ c) ⊎ List·Memᴰ p cs → (List·Memᴰ p cs → List·Memᴰ p (once cs)) → List·Memᴰ p (cond b (once cs) (c ∷ once cs))
-    go true e (inl h) ih = ih (listed-member cs p (of-true (ap (listed cs) h ∙ e)))
+    go : (b : Bool) → inList cs c ≡ b → (p ≡ c) ⊎ List·Memᴰ p cs → (List·Memᴰ p cs → List·Memᴰ p (once cs)) → List·Memᴰ p (cond b (once cs) (c ∷ once cs))
+    go true e (inl h) ih = ih (listed-member cs p (of-true (ap (inList cs) h ∙ e)))
     go true e (inr k) ih = ih k
     go false e (inl h) ih = List·Memᴰ·head h
     go false e (inr k) ih = List·Memᴰ·tail (ih k)
@@ -67,7 +67,7 @@ once-member (c ∷ cs) p m = go (listed cs c) refl (List·Memᴰ·cases-cons m) 
 member-once : (cs : List Point) (p : Point) → List·Memᴰ p (once cs) → List·Memᴰ p cs
 unfolding once
 member-once [] p m = m
-member-once (c ∷ cs) p m = go (listed cs c) m (λ k. member-once cs p k)
+member-once (c ∷ cs) p m = go (inList cs c) m (λ k. member-once cs p k)
   where
     go : (b : Bool) → List·Memᴰ p (cond b (once cs) (c ∷ once cs)) → (List·Memᴰ p (once cs) → List·Memᴰ p cs) → List·Memᴰ p (c ∷ cs)
     go true k ih = List·Memᴰ·tail (ih k)
@@ -80,11 +80,11 @@ member-once (c ∷ cs) p m = go (listed cs c) m (λ k. member-once cs p k)
 once-is : (cs : List Point) → Once (once cs)
 unfolding once
 once-is [] = tt
-once-is (c ∷ cs) = go (listed cs c) refl (once-is cs)
+once-is (c ∷ cs) = go (inList cs c) refl (once-is cs)
   where
-    go : (b : Bool) → listed cs c ≡ b → Once (once cs) → Once (cond b (once cs) (c ∷ once cs))
+    go : (b : Bool) → inList cs c ≡ b → Once (once cs) → Once (cond b (once cs) (c ∷ once cs))
     go true e ih = ih
-    go false e ih = (λ m. not-both (is-true (listed cs c) (member-listed cs c (member-once cs c m))) e, ih)
+    go false e ih = (λ m. not-both (is-true (inList cs c) (member-listed cs c (member-once cs c m))) e, ih)
 
 -- ---- points as numbers
 
@@ -121,13 +121,15 @@ flat-first c cs f = centre-first c cs (f c (List·Memᴰ·head refl))
 centre-member : (cs : List Point) → Flat cs → (i : ℕ) → i < length cs → List·Memᴰ (centreAt (numbers cs) i) cs
 centre-member [] f i l = absurd (omega arith)
 centre-member (c ∷ cs) f zero l = List·Memᴰ·head (flat-first c cs f)
-centre-member (c ∷ cs) f (suc i) l = List·Memᴰ·tail (subst (λ (p : Point). List·Memᴰ p cs) (sym (centre-next c cs i)) (centre-member cs (flat-rest c cs f) i (omega arith)))
+centre-member (c ∷ cs) f (suc i) l =
+    List·Memᴰ·tail (subst (λ (p : Point). List·Memᴰ p cs) (sym (centre-next c cs i)) (centre-member cs (flat-rest c cs f) i (omega arith)))
 
 member-centre : (cs : List Point) → Flat cs → (p : Point) → List·Memᴰ p cs → (i : ℕ) × (i < length cs) × (centreAt (numbers cs) i ≡ p)
 member-centre [] f p m = absurd (List·Memᴰ·not-nil m)
 member-centre (c ∷ cs) f p m = go (List·Memᴰ·cases-cons m) (λ k. member-centre cs (flat-rest c cs f) p k)
   where
-    go : (p ≡ c) ⊎ List·Memᴰ p cs → (List·Memᴰ p cs → (i : ℕ) × (i < length cs) × (centreAt (numbers cs) i ≡ p)) → (i : ℕ) × (i < length (c ∷ cs)) × (centreAt (numbers (c ∷ cs)) i ≡ p)
+    go : (p ≡ c) ⊎ List·Memᴰ p cs → (List·Memᴰ p cs → (i : ℕ) × (i < length cs) × (centreAt (numbers cs) i ≡ p))
+        → (i : ℕ) × (i < length (c ∷ cs)) × (centreAt (numbers (c ∷ cs)) i ≡ p)
     go (inl e) ih = (0, omega arith, flat-first c cs f ∙ sym e)
     go (inr k) ih = let (i, l, e) = ih k in (suc i, omega arith, centre-next c cs i ∙ e)
 
@@ -136,7 +138,8 @@ centres-apart [] f o i j l h e = absurd (omega arith)
 centres-apart (c ∷ cs) f o i zero l h e = absurd (omega arith)
 centres-apart (c ∷ cs) f o zero (suc j) l h e =
     o .0 (subst (λ (p : Point). List·Memᴰ p cs) (sym (centre-next c cs j) ∙ sym e ∙ flat-first c cs f) (centre-member cs (flat-rest c cs f) j (omega arith)))
-centres-apart (c ∷ cs) f o (suc i) (suc j) l h e = centres-apart cs (flat-rest c cs f) (o .1) i j (omega arith) (omega arith) (sym (centre-next c cs i) ∙ e ∙ centre-next c cs j)
+centres-apart (c ∷ cs) f o (suc i) (suc j) l h e =
+    centres-apart cs (flat-rest c cs f) (o .1) i j (omega arith) (omega arith) (sym (centre-next c cs i) ∙ e ∙ centre-next c cs j)
 
 -- ---- a base of the model
 
@@ -144,9 +147,9 @@ centres-apart (c ∷ cs) f o (suc i) (suc j) l h e = centres-apart cs (flat-rest
 pub record Numbered (H : Point → Bool) : Type 0 where
   pub list : List ℤ
   pub good : GoodList list
-  pub same : (p : Point) → isCentre list p ≡ H p
+  pub same : (p : Point) → isListed list p ≡ H p
 
-module _ (H : Point → Bool) (b : Base H) where
+module _ (H : Point → Bool) (b : CentreSet H) where
   points : List Point
   points = once (b .list)
 
@@ -194,20 +197,20 @@ module _ (H : Point → Bool) (b : Base H) where
       go true e = let (j, h, q) = listed-is cs i (centreAt cs i) e in absurd (centres-apart points flat each-once j i h (below i l) q)
 
   -- it lists what H says
-  lists-in : (p : Point) → isCentre cs p ≡ true → H p ≡ true
+  lists-in : (p : Point) → isListed cs p ≡ true → H p ≡ true
   lists-in p e =
       let (i, l, q) = listed-is cs (centresIn cs) p e in
       is-true (H p) (point-in p (subst (λ (x : Point). List·Memᴰ x points) q (centre-member points flat i (below i l))))
 
-  in-lists : (p : Point) → H p ≡ true → isCentre cs p ≡ true
+  in-lists : (p : Point) → H p ≡ true → isListed cs p ≡ true
   in-lists p e =
       let (i, l, q) = member-centre points flat p (in-point p (of-true e)) in
-      ap (isCentre cs) (sym q) ∙ listed-at cs (centresIn cs) i (omega (arith, how-many))
+      ap (isListed cs) (sym q) ∙ listed-at cs (centresIn cs) i (omega (arith, how-many))
 
   pub base-numbers : Numbered H
   base-numbers =
       record {
         list = cs;
         good = record { paired = pairs; good = good-at; once = once-at };
-        same = λ p. same-test (isCentre cs p) (H p) (lists-in p) (in-lists p);
+        same = λ p. same-test (isListed cs p) (H p) (lists-in p) (in-lists p);
       }

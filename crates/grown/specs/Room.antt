@@ -1,6 +1,7 @@
 -- How many records there can be: points counted over a list of records.
--- `Among` a point of the list · `count` how many of its records have a point that passes a test · `count-all`, `count-less`, `count-more` · `fresh` how many of some points are new, `count-fresh` they
--- are counted, `all-fresh` all are new · `count-base` the points of a base's hexagons · `Within`, `count-step` a subdivision has six more.
+-- `Among` a point of the list · `count` how many of its records have a point that passes a test · `count-all`, `count-less`, `count-more` · `fresh`
+-- how many of some points are new, `count-fresh` they are counted, `all-fresh` all are new · `count-base` the points of a base's hexagons ·
+-- `Covered`, `count-step` a subdivision has six more.
 -- Assumes nothing.
 use mathlib.Core.Path.{_≡_, refl, sym, _∙_, ap}
 use mathlib.Core.Logic.{_⊎_, inl, inr}
@@ -17,7 +18,7 @@ use Rattle.laws.specs.Choices.{is-true, of-true}
 use Rattle.lattice.specs.Stars.{adjacentAt}
 use Rattle.lattice.specs.Subdivision.{centreOf, newOf, backOf, updateOf}
 use Rattle.geometry.specs.GeometryLaws.{star-distinct}
-use Rattle.growth.specs.Sheets.{Sheet, Whole, Step}
+use Rattle.growth.specs.Sheets.{Sheet, UntornAt, Step}
 use Rattle.growth.specs.Local.{isThere, there}
 use Rattle.growth.specs.LocalTests.{there-some, some-there}
 use Rattle.growth.specs.Normal.{point?}
@@ -79,7 +80,8 @@ count-more (r ∷ rs) P x a f = go (List·Memᴰ·cases-cons (a .1)) (λ m. coun
     go (inl e) ih =
         let q : r .at ≡ x = ap (λ (u : Record). u .at) (sym e) ∙ a .2 in
         let zero : _≡_ {A = ℕ} (cond (P (r .at)) 1 0) 0 = ap (λ (b : Bool). cond b 1 0) (ap P q ∙ f) in
-        let one : _≡_ {A = ℕ} (cond (samePoint x (r .at) || P (r .at)) 1 0) 1 = ap (λ (b : Bool). cond (b || P (r .at)) 1 0) (ap (samePoint x) q ∙ same-refl x) in
+        let one : _≡_ {A = ℕ} (cond (samePoint x (r .at) || P (r .at)) 1 0) 1 = ap
+        (λ (b : Bool). cond (b || P (r .at)) 1 0) (ap (samePoint x) q ∙ same-refl x) in
         let l = count-less rs P (λ p. samePoint x p || P p) (λ p. or-after (samePoint x p) (P p)) in
         omega arith
     go (inr m) ih = let l = ih m in let k = more (samePoint x (r .at)) (P (r .at)) in omega arith
@@ -106,12 +108,14 @@ or-swap : (a b c : Bool) → a || (b || c) ≡ true → (a || b) || c ≡ true
 or-swap true b c h = refl
 or-swap false b c h = h
 
-pub count-fresh : (rs : List Record) (f : ℕ → Point) (P : Point → Bool) (k : ℕ) → ((j : ℕ) → j < k → Among rs (f j)) → count rs P + fresh f P k ≤ count rs (joined f k P)
+pub count-fresh : (rs : List Record) (f : ℕ → Point) (P : Point → Bool) (k : ℕ) → ((j : ℕ) → j < k → Among rs (f j))
+    → count rs P + fresh f P k ≤ count rs (joined f k P)
 unfolding fresh
 count-fresh rs f P zero h = omega arith
 count-fresh rs f P (suc k) h = go (joined f k P (f k)) refl (count-fresh rs f P k (λ j l. h j (omega arith)))
   where
-    go : (b : Bool) → joined f k P (f k) ≡ b → count rs P + fresh f P k ≤ count rs (joined f k P) → count rs P + (fresh f P k + cond (joined f k P (f k)) 0 1) ≤ count rs (joined f (suc k) P)
+    go : (b : Bool) → joined f k P (f k) ≡ b → count rs P + fresh f P k ≤ count rs (joined f k P)
+        → count rs P + (fresh f P k + cond (joined f k P (f k)) 0 1) ≤ count rs (joined f (suc k) P)
     go true e ih =
         let z : _≡_ {A = ℕ} (cond (joined f k P (f k)) 0 1) 0 = ap (λ (b : Bool). cond b 0 1) e in
         let l = count-less rs (joined f k P) (joined f (suc k) P) (λ p. or-left-more (samePoint (f k) p) (among k (λ i. samePoint (f i) p)) (P p)) in
@@ -119,7 +123,8 @@ count-fresh rs f P (suc k) h = go (joined f k P (f k)) refl (count-fresh rs f P 
     go false e ih =
         let z : _≡_ {A = ℕ} (cond (joined f k P (f k)) 0 1) 1 = ap (λ (b : Bool). cond b 0 1) e in
         let m = count-more rs (joined f k P) (f k) (h k (omega arith)) e in
-        let l = count-less rs (λ p. samePoint (f k) p || joined f k P p) (joined f (suc k) P) (λ p. or-swap (samePoint (f k) p) (among k (λ i. samePoint (f i) p)) (P p)) in
+        let l = count-less rs (λ p. samePoint (f k) p || joined f k P p) (joined f (suc k) P)
+        (λ p. or-swap (samePoint (f k) p) (among k (λ i. samePoint (f i) p)) (P p)) in
         omega arith
 
 -- different points, none of which passed
@@ -156,21 +161,22 @@ count-base rs cs (suc n) h =
     let more : (p : Point) → joined (hexagonPoint c) 7 (inFirst cs n) p ≡ true → inFirst cs (suc n) p ≡ true = λ p t. sym (first-more cs n p) ∙ t in
     let a = count-base rs cs n (λ p t. h p (more p (or-after (among 7 (λ i. samePoint (hexagonPoint c i) p)) (inFirst cs n p) t))) in
     let b = new-fresh (inFirst cs n) c 7 in
-    let d = count-fresh rs (hexagonPoint c) (inFirst cs n) 7 (λ k l. h (hexagonPoint c k) (more (hexagonPoint c k) (joined-at (hexagonPoint c) (inFirst cs n) 7 k l))) in
+    let d = count-fresh rs (hexagonPoint c) (inFirst cs n) 7
+    (λ k l. h (hexagonPoint c k) (more (hexagonPoint c k) (joined-at (hexagonPoint c) (inFirst cs n) 7 k l))) in
     let e = count-less rs (joined (hexagonPoint c) 7 (inFirst cs n)) (inFirst cs (suc n)) more in
     omega arith
 
 -- ---- the points of a sheet
 
 -- the list has the points of the sheet
-abbrev pub Within : Sheet → List Record → Type 0
-Within R rs = (p : Point) (r : Record) → R p ≡ some r → Among rs p
+abbrev pub Covered : Sheet → List Record → Type 0
+Covered R rs = (p : Point) (r : Record) → R p ≡ some r → Among rs p
 
 none-there : (R : Sheet) (p : Point) → R p ≡ none → there R p ≡ false
 unfolding there
 none-there R p e = ap isThere e
 
-module _ (R : Sheet) (v : Record) (R′ : Sheet) (w : Whole R v) (s : Step R v R′) where
+module _ (R : Sheet) (v : Record) (R′ : Sheet) (w : UntornAt R v) (s : Step R v R′) where
   -- a subdivision keeps every point
   pub step-keeps : (p : Point) (r : Record) → R p ≡ some r → (u : Record) × (R′ p ≡ some u)
   step-keeps p r x = go (point? p (v .at)) (growth.among (λ j. newOf v j .at) p 6) (growth.among (adjacentAt v) p 6)
@@ -181,11 +187,11 @@ module _ (R : Sheet) (v : Record) (R′ : Sheet) (w : Whole R v) (s : Step R v R
       go (no e) (no b) (yes (j, l, f)) = (updateOf (backOf (v .k) j) r, ap R′ f ∙ s .old j l r (ap R (sym f) ∙ x))
       go (no e) (no b) (no c) = (r, s .rest p e (λ j l f. b (j, l, f)) (λ j l f. c (j, l, f)) ∙ x)
 
-  pub within-before : (rs : List Record) → Within R′ rs → Within R rs
-  within-before rs h p r x = let (u, y) = step-keeps p r x in h p u y
+  pub covered-before : (rs : List Record) → Covered R′ rs → Covered R rs
+  covered-before rs h p r x = let (u, y) = step-keeps p r x in h p u y
 
   -- and six points are new
-  pub count-step : v .d ≡ 6 → (rs : List Record) → Within R′ rs → count rs (there R) + 6 ≤ count rs (there R′)
+  pub count-step : v .d ≡ 6 → (rs : List Record) → Covered R′ rs → count rs (there R) + 6 ≤ count rs (there R′)
   count-step six rs h =
       let f : ℕ → Point = λ j. newOf v j .at in
       let a = all-fresh f (there R) 6 apart (λ j l. none-there R (newOf v j .at) (w .free j l)) in

@@ -1,29 +1,27 @@
 -- A subdivision that document 01's call accepts is a step of the model, and a step of the model is accepted wherever six slots are free.
--- `Accepted`, `accepted` what an accepted subdivision was and what it left · `point-own` the point of a record is normalised already · `vertex-accepted`, `vertex-short` a whole subdivision is
+-- `Accepted`, `accepted` what an accepted subdivision was and what it left · `vertex-accepted`, `vertex-short` a whole subdivision is
 -- accepted, or wants slots · `whole-accepted`, `whole-step` the same, asked by the record's own point.
 -- Assumes nothing.
 use mathlib.Core.Path.{_≡_, refl, sym, _∙_, ap, subst}
-use mathlib.Core.Logic.{_⊎_, inl, inr}
-use mathlib.Core.Bool.{Bool, true, false, _&&_, not}
+use mathlib.Core.Bool.{true, not}
 use mathlib.Core.List.{List}
 use mathlib.Core.Option.{none, some}
 use Prim.Native.Nat.{ℕ, _+_, _≤_, _<_}
 use native.Mathlib.Omega.{arith}
 use borrow.Author.Tests.{le-leb}
-use lib.Dec.{T, eqb, leb, eqb→eq}
+use lib.Dec.{T, leb}
 use lib.IntN.{ℤ}
 use Rattle.laws.specs.Each.{each-upto}
 use Rattle.laws.specs.Rules.{upto}
-use Rattle.laws.specs.Choices.{or-split, is-true, of-true}
-use Rattle.lattice.specs.Points.{pt, by3, isNormal, normalOf}
-use Rattle.lattice.specs.PointLaws.{normal-zero, normal-stop}
+use Rattle.laws.specs.Choices.{is-true, of-true}
+use Rattle.lattice.specs.Points.{normalOf}
 use Rattle.lattice.specs.Records.{validOf}
 use Rattle.lattice.specs.Stars.{adjacentAt}
 use Rattle.lattice.specs.Subdivision.{newOf, backOf, acceptsOf}
-use Rattle.lattice.specs.declared.points.Point.{Point}
 use Rattle.lattice.specs.declared.records.Record.{Record}
 use Rattle.geometry.specs.SubdivisionLaws.{sited, new-depth}
-use Rattle.growth.specs.Sheets.{Whole, Step}
+use Rattle.geometry.specs.Forms.{point-own}
+use Rattle.growth.specs.Sheets.{UntornAt, Step}
 use Rattle.table.specs.Entries.{lookUp, isHeld}
 use Rattle.table.specs.MapLaws.{lookup-valid, order-test}
 use Rattle.table.specs.Order.{InOrder}
@@ -48,7 +46,7 @@ sheet-absent (Held q) e = absurd (let z : _≡_ {A = ℕ} 0 1 = cc in omega arit
 
 -- ---- a table's subdivision as the model's
 module _ (t : List ℕ) (v : Record) (w : table.Whole t v) where
-  whole-sheet : Whole (sheetOf t) v
+  whole-sheet : UntornAt (sheetOf t) v
   whole-sheet =
       record {
         there = λ j h. (let (u, l, a) = old t v w j h in (u, ap asOption l, of-true a));
@@ -72,7 +70,7 @@ pub record Accepted (t : List ℕ) (a b : ℤ) (m : ℕ) : Type 0 where
   pub held : lookUp t (vertex .at) ≡ Held vertex
   pub six : vertex .d ≡ 6
   pub below : vertex .n .0 < 12
-  pub whole : Whole (sheetOf t) vertex
+  pub whole : UntornAt (sheetOf t) vertex
   pub room : 6 ≤ freeSlots t
   -- and the table after it
   pub step : Step (sheetOf t) vertex (sheetOf (subdivideOf t a b m .bytes))
@@ -101,7 +99,8 @@ accepted t a b m z = go (subdivision t a b m)
         }
 
 -- ---- back: a whole one is accepted
-module _ (t : List ℕ) (o : InOrder t) (a b : ℤ) (m : ℕ) (v : Record) (e : lookUp t (normalOf a b m) ≡ Held v) (six : v .d ≡ 6) (low : v .n .0 < 12) (w : Whole (sheetOf t) v) where
+module _ (t : List ℕ) (o : InOrder t) (a b : ℤ) (m : ℕ) (v : Record)
+    (e : lookUp t (normalOf a b m) ≡ Held v) (six : v .d ≡ 6) (low : v .n .0 < 12) (w : UntornAt (sheetOf t) v) where
   valid : T (validOf v)
   valid = of-true (lookup-valid t o (normalOf a b m) v e)
 
@@ -133,22 +132,11 @@ module _ (t : List ℕ) (o : InOrder t) (a b : ℤ) (m : ℕ) (v : Record) (e : 
   vertex-short few = sym (ends (vertex-8 t v six not-top shallow fits fresh few))
 
 -- ---- asked by its own point
-pub point-own : (p : Point) → T (isNormal p) → normalOf (p .a) (p .b) (p .m .0) ≡ p
-point-own p h = go (or-split (eqb (p .m .0) 0) (not (by3 (p .a) && by3 (p .b))) h)
-  where
-    not-false : (b : Bool) → T (not b) → b ≡ false
-    not-false true h = absurd h
-    not-false false h = refl
-
-    go : T (eqb (p .m .0) 0) ⊎ T (not (by3 (p .a) && by3 (p .b))) → normalOf (p .a) (p .b) (p .m .0) ≡ p
-    go (inl z) = let m = eqb→eq (p .m .0) 0 z in ap (normalOf (p .a) (p .b)) m ∙ sym (normal-zero (p .a) (p .b)) ∙ (λ i. pt (p .a) (p .b) (sym m i))
-    go (inr n) = sym (normal-stop (p .a) (p .b) (p .m .0) (not-false (by3 (p .a) && by3 (p .b)) n))
-
 module _ (t : List ℕ) (o : InOrder t) (v : Record) (e : lookUp t (v .at) ≡ Held v) where
   pub own-looked : lookUp t (normalOf (v .at .a) (v .at .b) (v .at .m .0)) ≡ Held v
   own-looked = ap (lookUp t) (point-own (v .at) (sited v (of-true (lookup-valid t o (v .at) v e)) .normal)) ∙ e
 
-  module _ (six : v .d ≡ 6) (low : v .n .0 < 12) (w : Whole (sheetOf t) v) (room : 6 ≤ freeSlots t) where
+  module _ (six : v .d ≡ 6) (low : v .n .0 < 12) (w : UntornAt (sheetOf t) v) (room : 6 ≤ freeSlots t) where
     pub whole-accepted : subdivideOf t (v .at .a) (v .at .b) (v .at .m .0) .number ≡ 0
     whole-accepted = vertex-accepted t o (v .at .a) (v .at .b) (v .at .m .0) v own-looked six low w room
 

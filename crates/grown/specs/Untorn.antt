@@ -20,7 +20,7 @@ use Rattle.lattice.specs.Stars.{adjacentAt, given, refused}
 use Rattle.lattice.specs.declared.records.Record.{Record}
 use Rattle.lattice.specs.declared.stars.Answer.{Answer}
 use Rattle.growth.specs.Growth.{grown-whole, grown-neighbours}
-use Rattle.growth.specs.Sheets.{grow}
+use Rattle.growth.specs.Sheets.{grow, GrownSheet}
 use Rattle.table.specs.Entries.{lookUp, isHeld, holds}
 use Rattle.table.specs.MapLaws.{lookup-point, lookup-valid, order-test}
 use Rattle.table.specs.Order.{InOrder}
@@ -39,7 +39,6 @@ use Rattle.local.specs.Sheet.{asOption, sheetOf}
 use Rattle.grown.specs.Steps.{sheet-held, accepted, vertex-accepted, vertex-short}
 use Rattle.grown.specs.Reach.{sheet-reached}
 use Rattle.grown.specs.Tables.{reached-order, grown-sheet}
-use Rattle.growth.specs.Sheets as model
 
 -- ---- how a subdivision of a grown table ends
 pub data End (t : List ℕ) (a b : ℤ) (m : ℕ) : Type 0 where
@@ -50,7 +49,7 @@ pub data End (t : List ℕ) (a b : ℤ) (m : ℕ) : Type 0 where
   done : (v : Record) → lookUp t (normalOf a b m) ≡ Held v → v .d ≡ 6 → v .n .0 < 12 → 6 ≤ freeSlots t → subdivideOf t a b m .number ≡ 0 → End t a b m
 
 -- t is in order, and its sheet is grown
-module _ (t : List ℕ) (o : InOrder t) (g : model.Grown (sheetOf t)) (a b : ℤ) (m : ℕ) where
+module _ (t : List ℕ) (o : InOrder t) (g : GrownSheet (sheetOf t)) (a b : ℤ) (m : ℕ) where
   -- the record at the point, by its own point
   own : (v : Record) → lookUp t (normalOf a b m) ≡ Held v → sheetOf t (v .at) ≡ some v
   own v e = ap asOption (ap (lookUp t) (lookup-point t o (normalOf a b m) v e) ∙ e)

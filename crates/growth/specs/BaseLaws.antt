@@ -1,6 +1,8 @@
 -- The base's laws: round a point that is inside the base everything is in the base.
--- `base-out` a point of rank 0 inside the base has its six unit neighbours there · `base-in` so have the points of rank 1 their three parents · `inside-in` what is inside is in it.
--- Why: two unit neighbours of a corner that are a twelfth of a turn and a sixth apart are neighbours themselves (`fan`), so a hexagon round one corner is round the next.
+-- `base-out` a point of rank 0 inside the base has its six unit neighbours there · `base-in` so have the points of rank 1 their three parents ·
+-- `inside-in` what is inside is in it.
+-- Why: two unit neighbours of a corner that are a twelfth of a turn and a sixth apart are neighbours themselves (`fan`), so a hexagon round one corner
+-- is round the next.
 -- Assumes nothing.
 use mathlib.Core.Path.{_≡_, sym, _∙_, subst}
 use mathlib.Core.Bool.{Bool, true, false, cond, _&&_, _||_}
@@ -15,7 +17,7 @@ use Rattle.lattice.specs.Points.{classOf}
 use Rattle.geometry.specs.RankLaws.{ground-first, ground-base}
 use Rattle.lattice.specs.declared.points.Point.{Point}
 use Rattle.growth.specs.Normal.{Pt, rank, birth, move, back, fan, birth-lt, birth-par, out-rank, out-birth, in-rank}
-use Rattle.growth.specs.Sheets.{hexagonOf, inBase, insideBase}
+use Rattle.growth.specs.Sheets.{hexagonRound, givenBy, insideBase}
 use Rattle.growth.specs.Directions.{mod4}
 
 -- ---- three tests in every fourth direction from g
@@ -36,7 +38,8 @@ any3 f g e hg he h a = go (ℕ-discrete e g) (ℕ-discrete e (g + 4))
     go : Dec (e ≡ g) → Dec (e ≡ g + 4) → T (f g || (f (g + 4) || f (g + 8)))
     go (yes x) y = or-left (f g) (f (g + 4) || f (g + 8)) (subst (λ (n : ℕ). T (f n)) x a)
     go (no x) (yes y) = or-right (f g) (f (g + 4) || f (g + 8)) (or-left (f (g + 4)) (f (g + 8)) (subst (λ (n : ℕ). T (f n)) y a))
-    go (no x) (no y) = let w : e ≡ g + 8 = omega arith in or-right (f g) (f (g + 4) || f (g + 8)) (or-right (f (g + 4)) (f (g + 8)) (subst (λ (n : ℕ). T (f n)) w a))
+    go (no x) (no y) = let w : e ≡ g + 8 = omega arith in or-right (f g) (f (g + 4) || f (g + 8))
+        (or-right (f (g + 4)) (f (g + 8)) (subst (λ (n : ℕ). T (f n)) w a))
 
 -- ---- classes of points of rank 0 and 1
 pub class-zero : (p : Pt) → rank p ≡ 0 → classOf (p .at) ≡ 1
@@ -53,15 +56,15 @@ module _ (H : Point → Bool) where
   round p e = H (move p e 0 .at)
 
   -- what the base says of a corner, at its class
-  in-one : (p : Pt) → classOf (p .at) ≡ 1 → T (round p 2 || (round p 6 || round p 10)) → T (inBase H (p .at))
+  in-one : (p : Pt) → classOf (p .at) ≡ 1 → T (round p 2 || (round p 6 || round p 10)) → T (givenBy H (p .at))
   unfolding move
   in-one p c t = rw c t
 
-  in-two : (p : Pt) → classOf (p .at) ≡ 2 → T (round p 0 || (round p 4 || round p 8)) → T (inBase H (p .at))
+  in-two : (p : Pt) → classOf (p .at) ≡ 2 → T (round p 0 || (round p 4 || round p 8)) → T (givenBy H (p .at))
   unfolding move
   in-two p c t = rw c t
 
-  in-centre : (p : Pt) → classOf (p .at) ≡ 0 → T (H (p .at)) → T (inBase H (p .at))
+  in-centre : (p : Pt) → classOf (p .at) ≡ 0 → T (H (p .at)) → T (givenBy H (p .at))
   in-centre p c t = rw c t
 
   inside-one : (p : Pt) → classOf (p .at) ≡ 1 → T (insideBase H (p .at)) → T (round p 2 && (round p 6 && round p 10))
@@ -75,7 +78,7 @@ module _ (H : Point → Bool) where
   inside-centre : (p : Pt) → classOf (p .at) ≡ 0 → T (insideBase H (p .at)) → T (H (p .at))
   inside-centre p c t = rw c at t
 
-  pub base-out : (q : Pt) (e : ℕ) → rank q ≡ 0 → T (insideBase H (q .at)) → Dir e 0 → T (inBase H (move q e 0 .at))
+  pub base-out : (q : Pt) (e : ℕ) → rank q ≡ 0 → T (insideBase H (q .at)) → Dir e 0 → T (givenBy H (move q e 0 .at))
   base-out q e f h he = go (ℕ-discrete (e % 4) 2)
     where
       p : Pt
@@ -87,7 +90,7 @@ module _ (H : Point → Bool) where
       a : T (round q 2 && (round q 6 && round q 10))
       a = inside-one q (class-zero q f) h
 
-      go : Dec (e % 4 ≡ 2) → T (inBase H (p .at))
+      go : Dec (e % 4 ≡ 2) → T (givenBy H (p .at))
       go (yes x) = in-centre p (k ∙ omega arith) (all3 (round q) 2 e (omega arith) (he .0) x a)
       go (no x) =
           let z : e % 4 ≡ 0 = zero4 e (he .1) x in
@@ -104,7 +107,7 @@ module _ (H : Point → Bool) where
           m4 : (e : ℕ) → e % 4 ≡ 0 → (e + 4) % 12 % 4 ≡ 0
           m4 e h = omega arith
 
-  pub base-in : (p : Pt) (t : ℕ) → rank p ≡ 1 → T (insideBase H (p .at)) → t < 3 → T (inBase H (move p (birth p + 4 * t) 0 .at))
+  pub base-in : (p : Pt) (t : ℕ) → rank p ≡ 1 → T (insideBase H (p .at)) → t < 3 → T (givenBy H (move p (birth p + 4 * t) 0 .at))
   base-in p t f h ht = in-one q (class-zero q (omega (arith, fq))) (go (ℕ-discrete (birth p) 0))
     where
       g : ℕ
@@ -136,7 +139,8 @@ module _ (H : Point → Bool) where
           let l = birth-lt p in
           let k = birth-par p 0 f in
           let two : birth p ≡ 2 = omega arith in
-          let b : T (round q ((g + 4) % 12)) = subst (λ (y : Pt). T (H (y .at))) (sym (fan p g 0 hg)) (all3 (round p) 0 ((g + 2) % 12) (omega arith) (omega arith) (m0 (birth p) t two) (inside-two p (sym c ∙ two) h)) in
+          let b : T (round q ((g + 4) % 12)) = subst (λ (y : Pt). T (H (y .at))) (sym (fan p g 0 hg))
+          (all3 (round p) 0 ((g + 2) % 12) (omega arith) (omega arith) (m0 (birth p) t two) (inside-two p (sym c ∙ two) h)) in
           any3 (round q) 2 ((g + 4) % 12) (omega arith) (omega arith) (m2 (birth p) t two) b
         where
           m0 : (k t : ℕ) → k ≡ 2 → (k + 4 * t + 2) % 12 % 4 ≡ 0
@@ -145,13 +149,14 @@ module _ (H : Point → Bool) where
           m2 : (k t : ℕ) → k ≡ 2 → (k + 4 * t + 4) % 12 % 4 ≡ 2
           m2 k t h = omega arith
 
-  pub inside-in : (p : Point) → T (insideBase H p) → T (inBase H p)
+  pub inside-in : (p : Point) → T (insideBase H p) → T (givenBy H p)
   inside-in p h = go (eqb (classOf p) 0) h
     where
       some : (x y z : Bool) → T (x && (y && z)) → T (x || (y || z))
       some true y z h = tt
       some false y z h = absurd h
 
-      go : (b : Bool) → T (cond b (H p) (H (hexagonOf p 0) && (H (hexagonOf p 1) && H (hexagonOf p 2)))) → T (cond b (H p) (H (hexagonOf p 0) || (H (hexagonOf p 1) || H (hexagonOf p 2))))
+      go : (b : Bool) → T (cond b (H p) (H (hexagonRound p 0) && (H (hexagonRound p 1) && H (hexagonRound p 2))))
+          → T (cond b (H p) (H (hexagonRound p 0) || (H (hexagonRound p 1) || H (hexagonRound p 2))))
       go true h = h
-      go false h = some (H (hexagonOf p 0)) (H (hexagonOf p 1)) (H (hexagonOf p 2)) h
+      go false h = some (H (hexagonRound p 0)) (H (hexagonRound p 1)) (H (hexagonRound p 2)) h

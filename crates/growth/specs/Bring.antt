@@ -1,5 +1,6 @@
--- M6, for ticket 4: what has to be subdivided so that p gets degree 6. There is a least set of subdivisions above c in which p has degree 6, or none at all (`bring`). It is found parent by parent: p asks that its
--- three parents be subdivided at its birth level (`six-suc`); a parent that has not been is first brought to degree 6, and then subdivided, which its level then allows (`raise`). The rank falls at each turn.
+-- M6, for ticket 4: what has to be subdivided so that p gets degree 6. There is a least set of subdivisions above c in which p has degree 6, or none at
+-- all (`bring`). It is found parent by parent: p asks that its three parents be subdivided at its birth level (`six-suc`); a parent that has not been is
+-- first brought to degree 6, and then subdivided, which its level then allows (`raise`). The rank falls at each turn.
 -- `Least`, `Never`, `Found` · `raise` · `bring`.
 -- Assumes nothing.
 use mathlib.Core.Path.{_≡_, refl, sym, _∙_, ap}
@@ -102,7 +103,16 @@ module _ (H : Point → Bool) where
 
       go : (v : Bool) → T d q b ≡ v → (d : Pt → ℕ) × Least c (λ d. T d q b ≡ true) d
       go true v = (d, record { good = L .good; above = L .above; has = v; least = λ e ge le on. L .least e ge le (on-six e q b ge lq on) })
-      go false v = (bump q d, record { good = good-bump H d q (L .good) (L .has); above = λ x. up x (L .above x); has = now; least = λ e ge le on x. small e on (L .least e ge le (on-six e q b ge lq on)) x })
+      go false v = (
+        bump q d,
+        record {
+          good = good-bump H d q (L .good) (L .has);
+          above = λ x. up x (L .above x);
+          has = now;
+          least =
+              λ e ge le on x. small e on (L .least e ge le (on-six e q b ge lq on)) x;
+        },
+      )
         where
           lev : b ≡ rank q + d q
           lev = six-level d p b t (L .good) f ht (pres-le c d p (suc b) (L .above) pr) (L .has) v
@@ -117,7 +127,8 @@ module _ (H : Point → Bool) where
           small e on le x = bump-le d e q b x lev on le
 
   -- one property, then another
-  and-then : (c : Pt → ℕ) (P Q : (Pt → ℕ) → Type 0) → ((d e : Pt → ℕ) → Le d e → P d → P e) → Found c P → ((d : Pt → ℕ) → Least c P d → Found d Q) → Found c (λ d. P d × Q d)
+  and-then : (c : Pt → ℕ) (P Q : (Pt → ℕ) → Type 0) → ((d e : Pt → ℕ) → Le d e → P d → P e) → Found c P → ((d : Pt → ℕ) → Least c P d → Found d Q)
+      → Found c (λ d. P d × Q d)
   and-then c P Q mono (inr never) k = inr (λ e ge le h. never e ge le (h .0))
   and-then c P Q mono (inl (d, L)) k = go (k d L)
     where
@@ -172,7 +183,8 @@ module _ (H : Point → Bool) where
     three : (c : Pt → ℕ) → Good H c → presAt H c p (suc b) ≡ true → Found c (λ d. (On 0 d × On 1 d) × On 2 d)
     three c good pr =
         and-then c (λ d. On 0 d × On 1 d) (On 2) (λ d e l h. (mono 0 d e l (h .0), mono 1 d e l (h .1)))
-        (and-then c (On 0) (On 1) (mono 0) (one-parent c 0 (omega arith) good pr) (λ d L. one-parent d 1 (omega arith) (L .good) (pres-le c d p (suc b) (L .above) pr)))
+        (and-then c (On 0) (On 1) (mono 0) (one-parent c 0 (omega arith) good pr)
+        (λ d L. one-parent d 1 (omega arith) (L .good) (pres-le c d p (suc b) (L .above) pr)))
         (λ d L. one-parent d 2 (omega arith) (L .good) (pres-le c d p (suc b) (L .above) pr))
 
     to-six : (d : Pt → ℕ) → (On 0 d × On 1 d) × On 2 d → Six d p
@@ -191,7 +203,8 @@ module _ (H : Point → Bool) where
   bring zero c p good l pr = six-zero c p good (omega arith)
   bring (suc f) c p good l pr = go (rank p) refl (bring f)
     where
-      go : (r : ℕ) → rank p ≡ r → ((d : Pt → ℕ) (q : Pt) → Good H d → rank q ≤ f → presAt H d q (rank q) ≡ true → Found d (λ e. Six e q)) → Found c (λ d. Six d p)
+      go : (r : ℕ) → rank p ≡ r → ((d : Pt → ℕ) (q : Pt) → Good H d → rank q ≤ f → presAt H d q (rank q) ≡ true → Found d (λ e. Six e q))
+          → Found c (λ d. Six d p)
       go zero e ih = six-zero c p good e
       go (suc b) e ih = by (intAt H p (suc b)) refl
         where

@@ -1,8 +1,10 @@
 -- M3, one half: a sheet whose records all pass the local test is the mesh of some H and c, which are read off it.
--- H are the points of depth 0 there with a-b divisible by 3; c p is the level of p less its rank where p has degree 6, else 0. Then the sheet and the model agree point by point: no
--- induction is needed, but for one thing. A point whose creator q has a level above its birth must be there (`kids`). The test only says that the six adjacents of q's present star are there. But an
--- adjacent of q of level i + 1 has three parents there, two of which are adjacents of q of level i (the side laws): so the stars of q at all levels from its rank on are there.
--- `Sound` what a table's sheet has · `centres`, `countsOf` H and c · `kids` · `closed-at` the sheet and the model agree (the rest of M3 is in specs/LocalGrown).
+-- H are the points of depth 0 there with a-b divisible by 3; c p is the level of p less its rank where p has degree 6, else 0. Then the sheet and the
+-- model agree point by point: no induction is needed, but for one thing. A point whose creator q has a level above its birth must be there (`kids`). The
+-- test only says that the six adjacents of q's present star are there. But an adjacent of q of level i + 1 has three parents there, two of which are
+-- adjacents of q of level i (the side laws): so the stars of q at all levels from its rank on are there.
+-- `Sound` what a table's sheet has · `centres`, `countsOf` H and c · `kids` ·
+-- `closed-at` the sheet and the model agree (the rest of M3 is in specs/LocalGrown).
 -- Assumes nothing.
 use mathlib.Core.Path.{_≡_, refl, sym, _∙_, ap, subst}
 use mathlib.Core.Logic.{_≢_}
@@ -25,7 +27,7 @@ use Rattle.geometry.specs.SubdivisionLaws.{six-place}
 use Rattle.lattice.specs.RecordLaws.{inner}
 use Rattle.lattice.specs.declared.points.Point.{Point}
 use Rattle.lattice.specs.declared.records.Record.{Record}
-use Rattle.growth.specs.Sheets.{Sheet, vertex, hexagonOf, inBase, insideBase}
+use Rattle.growth.specs.Sheets.{Sheet, vertex, hexagonRound, givenBy, insideBase}
 use Rattle.growth.specs.Model.{Counts, bySplits}
 use Rattle.growth.specs.Normal.{Pt, rank, birth, move, side-l, out-rank, out-birth}
 use Rattle.growth.specs.Directions.{mod-12-4}
@@ -58,7 +60,8 @@ boundary r v d =
         let s = suitsOf (r .d) (r .k) (r .n .0) in
         and-right (within (r .at .b) m) s
         (and-right (within (r .at .a) m) (within (r .at .b) m && s)
-        (and-right (leb m 6) (within (r .at .a) m && (within (r .at .b) m && s)) (and-right (isNormal (r .at)) (leb m 6 && (within (r .at .a) m && (within (r .at .b) m && s))) v)))
+        (and-right (leb m 6) (within (r .at .a) m && (within (r .at .b) m && s))
+        (and-right (isNormal (r .at)) (leb m 6 && (within (r .at .a) m && (within (r .at .b) m && s))) v)))
 
 -- a point of rank 2 or more has a depth
 pub deeper : (p : Pt) (i : ℕ) → rank p ≡ suc (suc i) → 0 < p .at .m .0
@@ -164,13 +167,18 @@ module _ (R : Sheet) (sound : Sound R) (local : (p : Point) (r : Record) → R p
   pub centre-there : (p : Point) → D.T (H p) → (p .m .0 ≡ 0) × (classOf p ≡ 0) × Here R p
   unfolding centres
   centre-there p h =
-      let u = and-right (eqb (p .m .0) 0) (eqb (classOf p) 0 && there R p) h in
-      (eqb→eq (p .m .0) 0 (and-left (eqb (p .m .0) 0) (eqb (classOf p) 0 && there R p) h), eqb→eq (classOf p) 0 (and-left (eqb (classOf p) 0) (there R p) u), and-right (eqb (classOf p) 0) (there R p) u)
+      let u = and-right (eqb (p .m .0) 0) (eqb (classOf p) 0 && there R p) h in (
+        eqb→eq (p .m .0) 0 (and-left (eqb (p .m .0) 0) (eqb (classOf p) 0 && there R p) h),
+        eqb→eq (classOf p) 0
+            (and-left (eqb (classOf p) 0) (there R p) u),
+        and-right (eqb (classOf p) 0) (there R p) u,
+      )
 
   pub there-centre : (p : Point) → p .m .0 ≡ 0 → classOf p ≡ 0 → Here R p → D.T (H p)
   unfolding centres
   there-centre p m z h =
-      and-both (eqb (p .m .0) 0) (eqb (classOf p) 0 && there R p) (of-true (eq-eqb (p .m .0) 0 m)) (and-both (eqb (classOf p) 0) (there R p) (of-true (eq-eqb (classOf p) 0 z)) h)
+      and-both (eqb (p .m .0) 0) (eqb (classOf p) 0 && there R p) (of-true (eq-eqb (p .m .0) 0 m))
+      (and-both (eqb (classOf p) 0) (there R p) (of-true (eq-eqb (classOf p) 0 z)) h)
 
   T-over : (q : Pt) (i : ℕ) → rank q ≤ i → T c q i ≡ over R (q .at) i
   unfolding T over countsOf rank
@@ -200,39 +208,40 @@ module _ (R : Sheet) (sound : Sound R) (local : (p : Point) (r : Record) → R p
 
   module _ (p : Pt) where
     -- ---- what is there is present
-    here-ground : (r : Record) → R (p .at) ≡ some r → p .at .m .0 ≡ 0 → D.T (inBase H (p .at))
+    here-ground : (r : Record) → R (p .at) ≡ some r → p .at .m .0 ≡ 0 → D.T (givenBy H (p .at))
     here-ground r x m = go (ℕ-discrete (classOf (p .at)) 0)
       where
         s : r .at ≡ p .at
         s = sound (p .at) r x .0
 
-        go : Dec (classOf (p .at) ≡ 0) → D.T (inBase H (p .at))
+        go : Dec (classOf (p .at) ≡ 0) → D.T (givenBy H (p .at))
         go (yes z) = subst D.T (sym (centre-in H (p .at) z)) (there-centre (p .at) m z (some-there R (p .at) r x))
         go (no z) =
             let ((t, ht, h), _, _) = local (p .at) r x .corner (ap (λ (q : Point). q .m .0) s ∙ m) (λ w. z (ap classOf (sym s) ∙ w)) in
             let (m′, z′) = hexagon-centre (p .at) m z t ht in
-            any-in H (p .at) z t ht (there-centre (hexagonOf (p .at) t) m′ z′ (subst (λ (q : Point). Here R (hexagonOf q t)) s h))
+            any-in H (p .at) z t ht (there-centre (hexagonRound (p .at) t) m′ z′ (subst (λ (q : Point). Here R (hexagonRound q t)) s h))
 
     here : (r : Record) (f : ℕ) → rank p ≡ f → R (p .at) ≡ some r → presAt H c p f ≡ true
     unfolding presAt rank
-    here r zero f x = is-true (inBase H (p .at)) (here-ground r x (shallower p (omega arith)))
-    here r (suc zero) f x = is-true (inBase H (p .at)) (here-ground r x (shallower p (omega arith)))
+    here r zero f x = is-true (givenBy H (p .at)) (here-ground r x (shallower p (omega arith)))
+    here r (suc zero) f x = is-true (givenBy H (p .at)) (here-ground r x (shallower p (omega arith)))
     here r (suc (suc i)) f x =
         let s = sound (p .at) r x .0 in
         let d = local (p .at) r x .deep (subst (λ (q : Point). 0 < q .m .0) (sym s) (deeper p i f)) .2 in
         let e : rankOf (r .at) - 2 ≡ i = (let g = ap rankOf s in omega arith) in
-        T-over (creatorOf p i) i (creator-rank p i f) ∙ is-true (over R (creatorOf p i .at) i) (subst D.T (λ j. over R ((ap L.creatorOf s ∙ sym (K.creator-is p i f)) j) (e j)) d)
+        T-over (creatorOf p i) i (creator-rank p i f) ∙ is-true (over R (creatorOf p i .at) i)
+        (subst D.T (λ j. over R ((ap L.creatorOf s ∙ sym (K.creator-is p i f)) j) (e j)) d)
 
     -- ---- and what is present is there
-    gone-ground : D.T (inBase H (p .at)) → p .at .m .0 ≡ 0 → Here R (p .at)
+    gone-ground : D.T (givenBy H (p .at)) → p .at .m .0 ≡ 0 → Here R (p .at)
     gone-ground h m = go (ℕ-discrete (classOf (p .at)) 0)
       where
         go : Dec (classOf (p .at) ≡ 0) → Here R (p .at)
         go (yes z) = centre-there (p .at) (subst D.T (centre-in H (p .at) z) h) .2
         go (no z) =
             let (t, ht, y) = in-any H (p .at) z h in
-            let (m′, z′, k) = centre-there (hexagonOf (p .at) t) y in
-            let (r, x, s, l) = found (hexagonOf (p .at) t) k in
+            let (m′, z′, k) = centre-there (hexagonRound (p .at) t) y in
+            let (r, x, s, l) = found (hexagonRound (p .at) t) k in
             let (j, hj, e) = hexagon-corner (p .at) m z t ht in
             subst (Here R) (ap (λ (q : Point). moveOf q (2 * j) 0) s ∙ e) (l .centre (ap (λ (q : Point). q .m .0) s ∙ m′) (ap classOf s ∙ z′) .1 j hj)
 
@@ -253,13 +262,18 @@ module _ (R : Sheet) (sound : Sound R) (local : (p : Point) (r : Record) → R p
         rm = ap (λ (q : Point). q .m .0) s ∙ m
 
         go : Dec (classOf (p .at) ≡ 0) → (D.T (insideBase H (p .at)) → r .d ≢ 0) × (r .d ≢ 0 → D.T (insideBase H (p .at)))
-        go (yes z) =
-            ((λ h. local (p .at) r x .centre rm (ap classOf s ∙ z) .0), λ n. subst D.T (sym (centre-inside H (p .at) z)) (there-centre (p .at) m z (some-there R (p .at) r x)))
+        go (yes z) = (
+          (λ h. local (p .at) r x .centre rm (ap classOf s ∙ z) .0),
+          λ n.
+              subst D.T (sym (centre-inside H (p .at) z)) (there-centre (p .at) m z (some-there R (p .at) r x)),
+        )
         go (no z) =
             let (_, f, g) = local (p .at) r x .corner rm (λ w. z (ap classOf (sym s) ∙ w)) in (
-              (λ h. g (λ t ht. subst (λ (q : Point). Here R (hexagonOf q t)) (sym s) (centre-there (hexagonOf (p .at) t) (inside-all H (p .at) z h t ht) .2))),
+              (λ h. g (λ t ht. subst (λ (q : Point). Here R (hexagonRound q t)) (sym s)
+                  (centre-there (hexagonRound (p .at) t) (inside-all H (p .at) z h t ht) .2))),
               λ n. all-inside H (p .at) z
-                  (λ t ht. there-centre (hexagonOf (p .at) t) (hexagon-centre (p .at) m z t ht .0) (hexagon-centre (p .at) m z t ht .1) (subst (λ (q : Point). Here R (hexagonOf q t)) s (f n t ht))),
+                  (λ t ht. there-centre (hexagonRound (p .at) t) (hexagon-centre (p .at) m z t ht .0) (hexagon-centre (p .at) m z t ht .1)
+                  (subst (λ (q : Point). Here R (hexagonRound q t)) s (f n t ht))),
             )
 
     inside : (r : Record) (f : ℕ) → rank p ≡ f → R (p .at) ≡ some r → (intAt H p f ≡ true → r .d ≢ 0) × (r .d ≢ 0 → intAt H p f ≡ true)
@@ -286,14 +300,16 @@ module _ (R : Sheet) (sound : Sound R) (local : (p : Point) (r : Record) → R p
     expected-suc : (r : Record) (b : ℕ) → r .at ≡ p .at → rank p ≡ suc b → expected R r ≡ saidBy R (p .at) (r .n .0)
     unfolding expected rank
     expected-suc r b s f =
-        ap (λ (w : Bool). cond w (vertex (r .at) 6 (r .n .0 % 2) (r .n .0)) (saidBy R (r .at) (r .n .0))) (ne-eqb (rankOf (r .at)) 0 (λ z. (let e = ap rankOf s in omega arith)))
+        ap (λ (w : Bool). cond w (vertex (r .at) 6 (r .n .0 % 2) (r .n .0)) (saidBy R (r .at) (r .n .0)))
+        (ne-eqb (rankOf (r .at)) 0 (λ z. (let e = ap rankOf s in omega arith)))
         ∙ ap (λ (q : Point). saidBy R q (r .n .0)) s
 
     star-suc : (b : ℕ) → rank p ≡ suc b → starAt c p (suc b) ≡ saidBy R (p .at) (rank p + c p)
     unfolding starAt rank birth
     star-suc b f =
         let e : b ≡ rankOf (p .at) - 1 = omega arith in
-        λ j. bySplits (p .at) (par-over b 0 (omega arith) f j) (par-over b 1 (omega arith) f j) (par-over b 2 (omega arith) f j) (birthOf (p .at)) (e j) (rankOf (p .at) + c p)
+        λ j. bySplits (p .at) (par-over b 0 (omega arith) f j) (par-over b 1 (omega arith) f j) (par-over b 2 (omega arith) f j) (birthOf (p .at)) (e j)
+        (rankOf (p .at) + c p)
 
     star-zero : starAt c p 0 ≡ vertex (p .at) 6 ((rank p + c p) % 2) (rank p + c p)
     unfolding starAt
@@ -317,7 +333,8 @@ module _ (R : Sheet) (sound : Sound R) (local : (p : Point) (r : Record) → R p
         go : Dec (r .d ≡ 6) → saidBy R (p .at) (rank p + c p) ≡ r
         go (yes d) = ap (saidBy R (p .at)) (level-is p r x d (rank-low r x d)) ∙ sym e
         go (no d) =
-            sym (splits-less (p .at) (over R (parentOf (p .at) 0) (rankOf (p .at) - 1)) (over R (parentOf (p .at) 1) (rankOf (p .at) - 1)) (over R (parentOf (p .at) 2) (rankOf (p .at) - 1))
+            sym (splits-less (p .at) (over R (parentOf (p .at) 0) (rankOf (p .at) - 1)) (over R (parentOf (p .at) 1) (rankOf (p .at) - 1))
+            (over R (parentOf (p .at) 2) (rankOf (p .at) - 1))
             (birthOf (p .at)) (rankOf (p .at) - 1) (r .n .0) (rank p + c p) (λ z. d (ap (λ (w : Record). w .d) e ∙ z))) ∙ sym e
 
     -- a boundary vertex has no more to it
@@ -334,7 +351,8 @@ module _ (R : Sheet) (sound : Sound R) (local : (p : Point) (r : Record) → R p
         at-rank : rec H c p ≡ look (presAt H c p (rank p)) (intAt H p (rank p)) (p .at) (starAt c p (rank p))
         at-rank = rec-at H c p (rank p) refl
 
-        inner-edge : (r : Record) → R (p .at) ≡ some r → Dec (r .d ≡ 0) → (b : Bool) → intAt H p (rank p) ≡ b → some r ≡ look true b (p .at) (starAt c p (rank p))
+        inner-edge : (r : Record) → R (p .at) ≡ some r → Dec (r .d ≡ 0) → (b : Bool) → intAt H p (rank p) ≡ b
+            → some r ≡ look true b (p .at) (starAt c p (rank p))
         inner-edge r x (yes d) true e = absurd (inside r (rank p) refl x .0 e d)
         inner-edge r x (yes d) false e = unfold look in ap some (edge r x d)
         inner-edge r x (no d) true e = unfold look in ap some (sym (star-is r (rank p) refl x d))

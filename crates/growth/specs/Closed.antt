@@ -1,5 +1,6 @@
 -- A private device: the model over normalised points, with the rank as an argument so that its cases compute; and how its parts change by one more subdivision.
--- `T` subdivided at a level · `starAt`, `presAt`, `intAt`, `fullAt` the model's parts at rank f · `rec` the record · `bump` one more subdivision · `Good` the counts there are ·
+-- `T` subdivided at a level · `starAt`, `presAt`, `intAt`, `fullAt` the model's parts at rank f · `rec` the record · `bump` one more subdivision ·
+-- `Good` the counts there are ·
 -- `T-..` laws of T · `full-..` of degree 6 · `rec-at`, `rec-look` opening a record.
 -- Assumes nothing.
 use mathlib.Core.Path.{_≡_, refl, sym}
@@ -12,7 +13,7 @@ use lib.Dec.{ltb}
 use borrow.Author.Tests.{ltb-true, ltb-false, lt-ltb, le-ltb}
 use Rattle.lattice.specs.declared.points.Point.{Point}
 use Rattle.lattice.specs.declared.records.Record.{Record}
-use Rattle.growth.specs.Sheets.{vertex, inBase, insideBase}
+use Rattle.growth.specs.Sheets.{vertex, givenBy, insideBase}
 use Rattle.growth.specs.Model.{bySplits}
 use Rattle.growth.specs.Normal.{Pt, pt-eq, rank, birth, same?, same-refl, same-ne, pt?}
 use Rattle.growth.specs.Parents.{par, creatorOf}
@@ -107,8 +108,8 @@ and4 false b c d h = absurd (true≢false (sym h))
 
 module _ (H : Point → Bool) where
   unfoldable pub presAt : (Pt → ℕ) → Pt → ℕ → Bool
-  presAt c p zero = inBase H (p .at)
-  presAt c p (suc zero) = inBase H (p .at)
+  presAt c p zero = givenBy H (p .at)
+  presAt c p (suc zero) = givenBy H (p .at)
   presAt c p (suc (suc i)) = T c (creatorOf p i) i
 
   unfoldable pub intAt : Pt → ℕ → Bool
@@ -133,7 +134,8 @@ module _ (H : Point → Bool) where
   unfolding fullAt
   full-all c p b h = and4 (intAt p (suc b)) (T c (par p 0 b) b) (T c (par p 1 b) b) (T c (par p 2 b) b) h
 
-  pub full-make : (c : Pt → ℕ) (p : Pt) (b : ℕ) → intAt p (suc b) ≡ true → T c (par p 0 b) b ≡ true → T c (par p 1 b) b ≡ true → T c (par p 2 b) b ≡ true → fullAt c p (suc b) ≡ true
+  pub full-make : (c : Pt → ℕ) (p : Pt) (b : ℕ) → intAt p (suc b) ≡ true → T c (par p 0 b) b ≡ true → T c (par p 1 b) b ≡ true → T c (par p 2 b) b ≡ true
+      → fullAt c p (suc b) ≡ true
   unfolding fullAt
   full-make c p b i x y z = rw (i, x, y, z)
 

@@ -1,5 +1,6 @@
 -- Arithmetic of the twelve directions, mod 12 and mod 4, as the theory needs it.
--- `thirds` three directions that agree mod 4 · `third-of` a direction by its third · `plus4`, `plus8`, `plus4′`, `plus8′` every fourth direction, seen from the other end.
+-- `thirds` three directions that agree mod 4 · `third-of` a direction by its third ·
+-- `plus4`, `plus8`, `plus4′`, `plus8′` every fourth direction, seen from the other end.
 -- Assumes nothing.
 use mathlib.Core.Path.{_≡_}
 use mathlib.Core.Logic.{_⊎_, inl, inr}

@@ -1,5 +1,6 @@
 -- M2: a mesh is grown exactly when it is the mesh of some H and c, H a base's and c good, finite and with no level above 12.
--- `base-is` the base is the mesh of no subdivision · `step-unique` a subdivision has one result · `Closed` to be the mesh of some H and c · `grown-closed`, `closed-grown` M2.
+-- `base-is` the base is the mesh of no subdivision · `step-unique` a subdivision has one result · `Closed` to be the mesh of some H and c ·
+-- `grown-closed`, `closed-grown` M2.
 -- Assumes nothing.
 use mathlib.Core.Path.{_≡_, refl, sym, _∙_, ap, subst, fun-ext}
 use mathlib.Core.Logic.{_≢_, _⊎_, inl, inr}
@@ -18,8 +19,8 @@ use Rattle.lattice.specs.Ranks.{rankOf}
 use Rattle.lattice.specs.Subdivision.{newOf}
 use Rattle.lattice.specs.declared.points.Point.{Point}
 use Rattle.lattice.specs.declared.records.Record.{Record}
-use Rattle.growth.specs.Sheets.{Sheet, vertex, Whole, Step, inBase, insideBase, baseVertex, baseOf, Base, Grown, start, grow}
-use Rattle.growth.specs.Model.{Counts, bySplits, recordOf, more, Good, Low, Finite}
+use Rattle.growth.specs.Sheets.{Sheet, vertex, UntornAt, Step, givenBy, insideBase, baseVertex, baseSheet, CentreSet, GrownSheet, start, grow}
+use Rattle.growth.specs.Model.{Counts, bySplits, meshOf, more, Good, Low, Finite}
 use Rattle.growth.specs.Normal.{Pt, rank, birth, birth-lt, birth-par, pt-eq, point?, same?, same-refl}
 use Rattle.growth.specs.Parents.{par, par-rank, creatorOf, creator-rank}
 use Rattle.growth.specs.BaseLaws.{class-zero, class-one}
@@ -44,7 +45,7 @@ among f p (suc n) = go (point? p (f n)) (among f p n)
     go (no e) (yes (j, l, x)) = yes (j, omega arith, x)
     go (no e) (no y) = no (λ w. y (w .0, less (w .0) (w .1) (λ z. e (w .2 ∙ ap f z)), w .2))
 
-pub step-unique : (R : Sheet) (v : Record) (R₁ R₂ : Sheet) → Whole R v → Step R v R₁ → Step R v R₂ → (p : Point) → R₁ p ≡ R₂ p
+pub step-unique : (R : Sheet) (v : Record) (R₁ R₂ : Sheet) → UntornAt R v → Step R v R₁ → Step R v R₂ → (p : Point) → R₁ p ≡ R₂ p
 step-unique R v R₁ R₂ w s t p = go (point? p (v .at)) (among (λ j. newOf v j .at) p 6) (among (adjacentAt v) p 6)
   where
     go : Dec (p ≡ v .at) → Dec ((j : ℕ) × (j < 6) × (p ≡ newOf v j .at)) → Dec ((j : ℕ) × (j < 6) × (p ≡ adjacentAt v j)) → R₁ p ≡ R₂ p
@@ -62,13 +63,13 @@ module _ (H : Point → Bool) where
   abbrev star : Point → Record
   star p = cond (eqb (classOf p) 0) (vertex p 3 0 0) (cond (eqb (classOf p) 1) (vertex p 6 0 0) (vertex p 3 2 0))
 
-  base-there : (p : Point) → eqb (p .m .0) 0 ≡ true → baseOf H p ≡ cond (inBase H p) (some (cond (insideBase H p) (star p) (vertex p 0 0 0))) none
-  unfolding baseOf
-  base-there p e = ap (λ (b : Bool). cond (b && inBase H p) (some (baseVertex H p)) none) e
+  base-there : (p : Point) → eqb (p .m .0) 0 ≡ true → baseSheet H p ≡ cond (givenBy H p) (some (cond (insideBase H p) (star p) (vertex p 0 0 0))) none
+  unfolding baseSheet
+  base-there p e = ap (λ (b : Bool). cond (b && givenBy H p) (some (baseVertex H p)) none) e
 
-  base-none : (p : Point) → eqb (p .m .0) 0 ≡ false → baseOf H p ≡ none
-  unfolding baseOf
-  base-none p e = ap (λ (b : Bool). cond (b && inBase H p) (some (baseVertex H p)) none) e
+  base-none : (p : Point) → eqb (p .m .0) 0 ≡ false → baseSheet H p ≡ none
+  unfolding baseSheet
+  base-none p e = ap (λ (b : Bool). cond (b && givenBy H p) (some (baseVertex H p)) none) e
 
   star-zero : (p : Pt) → rank p ≡ 0 → starAt nought p 0 ≡ star (p .at)
   unfolding starAt
@@ -87,22 +88,24 @@ module _ (H : Point → Bool) where
       go (suc (suc zero)) e l m = rw (sym (class-one p f) ∙ e) (unfold bySplits in refl)
       go (suc (suc (suc k))) e l m = absurd (omega arith)
 
-  base-low : (p : Pt) (f : ℕ) → rank p ≡ f → presAt H nought p f ≡ inBase H (p .at) → intAt H p f ≡ insideBase H (p .at) → rank p ≤ 1 → starAt nought p f ≡ star (p .at)
-      → rec H nought p ≡ baseOf H (p .at)
+  base-low : (p : Pt) (f : ℕ) → rank p ≡ f → presAt H nought p f ≡ givenBy H (p .at) → intAt H p f ≡ insideBase H (p .at) → rank p ≤ 1
+      → starAt nought p f ≡ star (p .at)
+      → rec H nought p ≡ baseSheet H (p .at)
   base-low p f e a b l s =
-      rec-at H nought p f e ∙ (λ i. look (a i) (b i) (p .at) (s i)) ∙ look-is (λ _. 0) H (inBase H (p .at)) (insideBase H (p .at)) (p .at) (star (p .at))
+      rec-at H nought p f e ∙ (λ i. look (a i) (b i) (p .at) (s i)) ∙ look-is (λ _. 0) H (givenBy H (p .at)) (insideBase H (p .at)) (p .at) (star (p .at))
       ∙ sym (base-there (p .at) (shallow (λ _. 0) H p l))
 
-  base-deep : (p : Pt) (i : ℕ) → rank p ≡ suc (suc i) → rec H nought p ≡ baseOf H (p .at)
+  base-deep : (p : Pt) (i : ℕ) → rank p ≡ suc (suc i) → rec H nought p ≡ baseSheet H (p .at)
   unfolding presAt look
   base-deep p i f =
-      rec-at H nought p (suc (suc i)) f ∙ rw (T-le nought (creatorOf p i) i (let l = creator-rank p i f in omega arith)) (sym (base-none (p .at) (deep (λ _. 0) H p i f)))
+      rec-at H nought p (suc (suc i)) f ∙ rw (T-le nought (creatorOf p i) i (let l = creator-rank p i f in omega arith))
+      (sym (base-none (p .at) (deep (λ _. 0) H p i f)))
 
-  pub base-is : (p : Point) → recordOf H (λ _. 0) p ≡ baseOf H p
+  pub base-is : (p : Point) → meshOf H (λ _. 0) p ≡ baseSheet H p
   unfolding presAt intAt
   base-is p = go (isNormal p) refl
     where
-      by : (q : Pt) (f : ℕ) → rank q ≡ f → rec H nought q ≡ baseOf H (q .at)
+      by : (q : Pt) (f : ℕ) → rank q ≡ f → rec H nought q ≡ baseSheet H (q .at)
       by q zero f = base-low q 0 f refl refl (omega arith) (star-zero q f)
       by q (suc zero) f = base-low q 1 f refl refl (omega arith) (star-one q f)
       by q (suc (suc i)) f = base-deep q i f
@@ -111,7 +114,7 @@ module _ (H : Point → Bool) where
       above true z e = absurd (true≢false (sym (rw z) ∙ e))
       above false z e = refl
 
-      go : (b : Bool) → isNormal p ≡ b → recordOf H (λ _. 0) p ≡ baseOf H p
+      go : (b : Bool) → isNormal p ≡ b → meshOf H (λ _. 0) p ≡ baseSheet H p
       go true e = let q : Pt = record { at = p; normal = of-true e } in record-is (λ _. 0) H q ∙ by q (rank q) refl
       go false e = record-none (λ _. 0) H p e ∙ sym (base-none p (above (eqb (p .m .0) 0) refl e))
 
@@ -120,11 +123,11 @@ module _ (H : Point → Bool) where
 pub record Closed (R : Sheet) : Type 0 where
   pub H : Point → Bool
   pub c : Counts
-  pub base : Base H
+  pub base : CentreSet H
   pub good : Good H c
   pub low : Low c
   pub finite : Finite c
-  pub is : (p : Point) → R p ≡ recordOf H c p
+  pub is : (p : Point) → R p ≡ meshOf H c p
 
 none-below : 0 < 0 → ⊥
 none-below h = omega arith
@@ -133,7 +136,7 @@ more-same : (q : Point) (c : Counts) → more q c q ≡ suc (c q)
 unfolding more same?
 more-same q c = rw (same-refl q) (omega arith)
 
-pub grown-closed : (R : Sheet) → Grown R → Closed R
+pub grown-closed : (R : Sheet) → GrownSheet R → Closed R
 grown-closed R (start H R′ b e) =
     record {
       H = H;
@@ -155,11 +158,11 @@ grown-closed R (grow R₀ v R₁ g x d n w s) = go (grown-closed R₀ g)
           good = closed-good (C .H) (C .c) (C .good) v x′ d;
           low = λ q l. low q l (point? q (v .at));
           finite = (v .at ∷ C .finite .0, λ q l. held q l (point? q (v .at)));
-          is = step-unique R₀ v R₁ (recordOf (C .H) (more (v .at) (C .c))) w s
-              (subst (λ (R : Sheet). Step R v (recordOf (C .H) (more (v .at) (C .c)))) (sym (fun-ext (C .is))) (closed-step (C .H) (C .c) (C .good) v x′ d));
+          is = step-unique R₀ v R₁ (meshOf (C .H) (more (v .at) (C .c))) w s
+              (subst (λ (R : Sheet). Step R v (meshOf (C .H) (more (v .at) (C .c)))) (sym (fun-ext (C .is))) (closed-step (C .H) (C .c) (C .good) v x′ d));
         }
       where
-        x′ : recordOf (C .H) (C .c) (v .at) ≡ some v
+        x′ : meshOf (C .H) (C .c) (v .at) ≡ some v
         x′ = sym (C .is (v .at)) ∙ x
 
         level : v .n .0 ≡ rankOf (v .at) + C .c (v .at)
@@ -185,10 +188,10 @@ counts-is [] = refl
 counts-is (q ∷ l) = more-is q (counts l) ∙ ap (C.bump q) (counts-is l)
 
 -- two counts that agree at normalised points have one mesh
-pub same-mesh : (H : Point → Bool) (c c′ : Counts) → at c ≡ at c′ → (p : Point) → recordOf H c p ≡ recordOf H c′ p
+pub same-mesh : (H : Point → Bool) (c c′ : Counts) → at c ≡ at c′ → (p : Point) → meshOf H c p ≡ meshOf H c′ p
 same-mesh H c c′ e p = go (isNormal p) refl
   where
-    go : (b : Bool) → isNormal p ≡ b → recordOf H c p ≡ recordOf H c′ p
+    go : (b : Bool) → isNormal p ≡ b → meshOf H c p ≡ meshOf H c′ p
     go true n = let q : Pt = record { at = p; normal = of-true n } in record-is c H q ∙ ap (λ (x : Pt → ℕ). rec H x q) e ∙ sym (record-is c′ H q)
     go false n = record-none c H p n ∙ sym (record-none c′ H p n)
 
@@ -207,15 +210,16 @@ good-out H l good q h =
     let g : C.Good H (at (counts l)) = subst (C.Good H) (sym (counts-is l)) good in
     of-true (sym (full-is (counts l) H p) ∙ g p h)
 
-module _ (H : Point → Bool) (b : Base H) where
-  seq-grown : (l : List Pt) → Seq H l → Grown (recordOf H (counts l))
+module _ (H : Point → Bool) (b : CentreSet H) where
+  seq-grown : (l : List Pt) → Seq H l → GrownSheet (meshOf H (counts l))
   unfolding counts
-  seq-grown l nil = start H (recordOf H (λ _. 0)) b (base-is H)
+  seq-grown l nil = start H (meshOf H (λ _. 0)) b (base-is H)
   seq-grown l (next {l = k} q s f n) =
       let v : Record = vertex (q .at) 6 ((rank q + cnt k q) % 2) (rank q + cnt k q) in
-      let x : recordOf H (counts k) (q .at) ≡ some v = record-is (counts k) H q ∙ ap (λ (c : Pt → ℕ). rec H c q) (counts-is k) ∙ One.rec-full H (cnt k) q f in
+      let x : meshOf H (counts k) (q .at) ≡ some v = record-is (counts k) H q ∙ ap (λ (c : Pt → ℕ). rec H c q) (counts-is k) ∙ One.rec-full H (cnt k) q f in
       let good = good-out H k (O.seq-good H k s) in
-      grow (recordOf H (counts k)) v (recordOf H (more (q .at) (counts k))) (seq-grown k s) x refl n (closed-whole H (counts k) good v x refl) (closed-step H (counts k) good v x refl)
+      grow (meshOf H (counts k)) v (meshOf H (more (q .at) (counts k))) (seq-grown k s) x refl n (closed-whole H (counts k) good v x refl)
+      (closed-step H (counts k) good v x refl)
 
 -- the normalised points of a list
 keep : (x : Point) (b : Bool) → isNormal x ≡ b → List Pt → List Pt
@@ -235,7 +239,8 @@ normals-in q (x ∷ l) h = go (List·Memᴰ·cases-cons h) (isNormal x) refl (no
     kept true e m = List·Memᴰ·tail m
     kept false e m = m
 
-    go : (q .at ≡ x) ⊎ List·Memᴰ (q .at) l → (b : Bool) (e : isNormal x ≡ b) → (List·Memᴰ (q .at) l → List·Memᴰ q (normals l)) → List·Memᴰ q (keep x b e (normals l))
+    go : (q .at ≡ x) ⊎ List·Memᴰ (q .at) l → (b : Bool) (e : isNormal x ≡ b) → (List·Memᴰ (q .at) l → List·Memᴰ q (normals l))
+        → List·Memᴰ q (keep x b e (normals l))
     go (inr m) b e ih = kept b e (ih m)
     go (inl z) true e ih = List·Memᴰ·head (pt-eq q (record { at = x; normal = of-true e }) z)
     go (inl z) false e ih = absurd (true≢false (sym (is-true (isNormal (q .at)) (q .normal)) ∙ ap isNormal z ∙ e))
@@ -244,10 +249,10 @@ low-in : (c : Counts) → Low c → O.Low (at c)
 unfolding rank
 low-in c low q h = low (q .at) h
 
-pub closed-grown : (R : Sheet) → Closed R → Grown R
+pub closed-grown : (R : Sheet) → Closed R → GrownSheet R
 closed-grown R m =
     let (l, e) = O.support (normals (m .finite .0)) (at (m .c)) (λ q h. normals-in q (m .finite .0) (m .finite .1 (q .at) h)) in
     let good : C.Good (m .H) (cnt l) = subst (C.Good (m .H)) (sym e) (good-in (m .c) (m .H) (m .good)) in
     let low : O.Low (cnt l) = subst O.Low (sym e) (low-in (m .c) (m .low)) in
     let (k, s, f) = O.order (m .H) (length l) l refl good low in
-    subst Grown (fun-ext (λ p. same-mesh (m .H) (counts k) (m .c) (counts-is k ∙ f ∙ e) p ∙ sym (m .is p))) (seq-grown (m .H) (m .base) k s)
+    subst GrownSheet (fun-ext (λ p. same-mesh (m .H) (counts k) (m .c) (counts-is k ∙ f ∙ e) p ∙ sym (m .is p))) (seq-grown (m .H) (m .base) k s)

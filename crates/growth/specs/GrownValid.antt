@@ -1,4 +1,5 @@
--- The records of a grown mesh are valid, each at its point (`grown-sound`), and there is one (`grown-some`). So number 9's validity is no obstacle to what has grown, and no new record is out of range.
+-- The records of a grown mesh are valid, each at its point (`grown-sound`), and there is one (`grown-some`). So number 9's validity is no obstacle to
+-- what has grown, and no new record is out of range.
 -- Why: the corners of a centre within 250 are within 251, and a subdivision makes valid records (the lattice's SubdivisionLaws).
 -- Assumes nothing.
 use mathlib.Core.Path.{_≡_, refl, sym, _∙_, ap, subst}
@@ -23,7 +24,8 @@ use Rattle.lattice.specs.Subdivision.{centreOf, newOf, backOf, fourTurn, update
 use Rattle.geometry.specs.SubdivisionLaws.{Sited, sited, valid-made, centre-valid, update-valid, new-valid}
 use Rattle.lattice.specs.declared.points.Point.{Point}
 use Rattle.lattice.specs.declared.records.Record.{Record}
-use Rattle.growth.specs.Sheets.{Sheet, vertex, Whole, Step, hexagonOf, inBase, insideBase, baseVertex, baseOf, isCentre, Base, Grown, start, grow}
+use Rattle.growth.specs.Sheets.{Sheet, vertex, UntornAt, Step, hexagonRound, givenBy, insideBase, baseVertex, baseSheet, centreTest, CentreSet}
+use Rattle.growth.specs.Sheets.{GrownSheet, start, grow}
 use Rattle.growth.specs.Normal.{point?}
 use Rattle.growth.specs.Hexagons.{in-any, centre-in, hexagon-corner}
 use Rattle.growth.specs.GrownLaws.{among}
@@ -36,7 +38,7 @@ unfolding orient
 small-unit j h = rule 6 (λ j. natAbs (one (2 * j) .a) ≤? 1 & natAbs (one (2 * j) .b) ≤? 1) tt j h
 
 -- a centre's parts
-centre-parts : (c : Point) → T (isCentre c) → (c .m .0 ≡ 0) × (natAbs (c .a) ≤ 250) × (natAbs (c .b) ≤ 250) × (classOf c ≡ 0)
+centre-parts : (c : Point) → T (centreTest c) → (c .m .0 ≡ 0) × (natAbs (c .a) ≤ 250) × (natAbs (c .b) ≤ 250) × (classOf c ≡ 0)
 centre-parts c t =
     let u = and-right (eqb (c .m .0) 0) (leb (natAbs (c .a)) 250 && (leb (natAbs (c .b)) 250 && eqb (classOf c) 0)) t in
     let v = and-right (leb (natAbs (c .a)) 250) (leb (natAbs (c .b)) 250 && eqb (classOf c) 0) u in (
@@ -56,15 +58,15 @@ ground-sited p m a b =
       high = subst (λ (k : ℕ). natAbs (p .b) ≤ k) t b;
     }
 
-module _ (H : Point → Bool) (b : Base H) where
-  base-sited : (p : Point) → p .m .0 ≡ 0 → T (inBase H p) → Sited p
+module _ (H : Point → Bool) (b : CentreSet H) where
+  base-sited : (p : Point) → p .m .0 ≡ 0 → T (givenBy H p) → Sited p
   base-sited p m h = go (ℕ-discrete (classOf p) 0)
     where
       go : Dec (classOf p ≡ 0) → Sited p
       go (yes z) = let (_, x, y, _) = centre-parts p (b .ranges p (subst T (centre-in H p z) h)) in ground-sited p m (omega arith) (omega arith)
       go (no z) =
           let (t, ht, k) = in-any H p z h in
-          let c = hexagonOf p t in
+          let c = hexagonRound p t in
           let (mc, x, y, _) = centre-parts c (b .ranges c k) in
           let (j, hj, e) = hexagon-corner p m z t ht in
           let (u, v) = small-unit j hj in
@@ -76,35 +78,36 @@ module _ (H : Point → Bool) (b : Base H) where
   base-vertex : (p : Point) → (baseVertex H p .at ≡ p) × T (suitsOf (baseVertex H p .d) (baseVertex H p .k) (baseVertex H p .n .0))
   base-vertex p = go (insideBase H p) (eqb (classOf p) 0) (eqb (classOf p) 1)
     where
-      go : (x y z : Bool) → let w = cond x (cond y (vertex p 3 0 0) (cond z (vertex p 6 0 0) (vertex p 3 2 0))) (vertex p 0 0 0) in (w .at ≡ p) × T (suitsOf (w .d) (w .k) (w .n .0))
+      go : (x y z : Bool) → let w = cond x (cond y (vertex p 3 0 0) (cond z (vertex p 6 0 0) (vertex p 3 2 0))) (vertex p 0 0 0) in
+          (w .at ≡ p) × T (suitsOf (w .d) (w .k) (w .n .0))
       go false y z = (refl, tt)
       go true true z = (refl, tt)
       go true false true = (refl, tt)
       go true false false = (refl, tt)
 
-  pub base-sound : Sound (baseOf H)
-  unfolding baseOf
-  base-sound p r x = go (eqb (p .m .0) 0 && inBase H p) refl x
+  pub base-sound : Sound (baseSheet H)
+  unfolding baseSheet
+  base-sound p r x = go (eqb (p .m .0) 0 && givenBy H p) refl x
     where
-      go : (t : Bool) → (eqb (p .m .0) 0 && inBase H p) ≡ t → cond t (some (baseVertex H p)) none ≡ some r → (r .at ≡ p) × T (validOf r)
+      go : (t : Bool) → (eqb (p .m .0) 0 && givenBy H p) ≡ t → cond t (some (baseVertex H p)) none ≡ some r → (r .at ≡ p) × T (validOf r)
       go false e y = absurd (Option·none-ne-some r y)
       go true e y =
           let z : baseVertex H p ≡ r = Option·some-injective (baseVertex H p) r y in
           let (a, s) = base-vertex p in
-          let m = eqb→eq (p .m .0) 0 (and-left (eqb (p .m .0) 0) (inBase H p) (of-true e)) in
-          let g = base-sited p m (and-right (eqb (p .m .0) 0) (inBase H p) (of-true e)) in
+          let m = eqb→eq (p .m .0) 0 (and-left (eqb (p .m .0) 0) (givenBy H p) (of-true e)) in
+          let g = base-sited p m (and-right (eqb (p .m .0) 0) (givenBy H p) (of-true e)) in
           (ap (λ (w : Record). w .at) (sym z) ∙ a, subst (λ (w : Record). T (validOf w)) z (valid-made (baseVertex H p) (subst Sited (sym a) g) s))
 
-  pub base-some : (p : Point) × ((r : Record) × (baseOf H p ≡ some r))
-  unfolding baseOf
+  pub base-some : (p : Point) × ((r : Record) × (baseSheet H p ≡ some r))
+  unfolding baseSheet
   base-some =
       let (p, h) = b .some-centre in
       let (m, _, _, z) = centre-parts p (b .ranges p h) in (
         p,
         (
           baseVertex H p,
-          ap (λ (t : Bool). cond t (some (baseVertex H p)) none) (is-true (eqb (p .m .0) 0 && inBase H p)
-              (and-both (eqb (p .m .0) 0) (inBase H p) (of-true (eq-eqb (p .m .0) 0 m)) (subst T (sym (centre-in H p z)) h))),
+          ap (λ (t : Bool). cond t (some (baseVertex H p)) none) (is-true (eqb (p .m .0) 0 && givenBy H p)
+              (and-both (eqb (p .m .0) 0) (givenBy H p) (of-true (eq-eqb (p .m .0) 0 m)) (subst T (sym (centre-in H p z)) h))),
         ),
       )
 
@@ -114,13 +117,15 @@ unfolding updateOf
 update-at k′ u = go (eqb (u .d) 3) (eqb (u .d) 4) (eqb (u .d) 5)
   where
     go : (x y z : Bool)
-        → cond x (vertex (u .at) 4 ((k′ + 4) % 12) (u .n .0)) (cond y (vertex (u .at) 5 (fourTurn k′ (u .k)) (u .n .0)) (cond z (vertex (u .at) 6 ((k′ + 1) % 2) (u .n .0 + 1)) u)) .at ≡ u .at
+        → cond x (vertex (u .at) 4 ((k′ + 4) % 12) (u .n .0))
+        (cond y (vertex (u .at) 5 (fourTurn k′ (u .k)) (u .n .0)) (cond z (vertex (u .at) 6 ((k′ + 1) % 2) (u .n .0 + 1)) u)) .at ≡ u .at
     go true y z = refl
     go false true z = refl
     go false false true = refl
     go false false false = refl
 
-module _ (R R′ : Sheet) (v : Record) (sound : Sound R) (x : R (v .at) ≡ some v) (six : v .d ≡ 6) (below : v .n .0 < 12) (w : Whole R v) (s : Step R v R′) where
+module _ (R R′ : Sheet) (v : Record) (sound : Sound R) (x : R (v .at) ≡ some v) (six : v .d ≡ 6) (below : v .n .0 < 12) (w : UntornAt R v)
+    (s : Step R v R′) where
   valid : T (validOf v)
   valid = sound (v .at) v x .1
 
@@ -140,13 +145,14 @@ module _ (R R′ : Sheet) (v : Record) (sound : Sound R) (x : R (v .at) ≡ some
       go (no e) (no b) (yes (j, h, f)) =
           let (u, z, a) = w .there j h in
           let (m, t) = sound (adjacentAt v j) u z in
-          is (updateOf (backOf (v .k) j) u) (ap R′ f ∙ s .old j h u z) (update-at (backOf (v .k) j) u ∙ m ∙ sym f) (update-valid (backOf (v .k) j) (v .n .0) u below t a)
+          is (updateOf (backOf (v .k) j) u) (ap R′ f ∙ s .old j h u z) (update-at (backOf (v .k) j) u ∙ m ∙ sym f)
+          (update-valid (backOf (v .k) j) (v .n .0) u below t a)
       go (no e) (no b) (no c) = sound p r (sym (s .rest p e (λ j h f. b (j, h, f)) (λ j h f. c (j, h, f))) ∙ y)
 
-pub grown-sound : (R : Sheet) → Grown R → Sound R
+pub grown-sound : (R : Sheet) → GrownSheet R → Sound R
 grown-sound R (start H R′ b e) = λ p r x. base-sound H b p r (sym (e p) ∙ x)
 grown-sound R (grow R₀ v R₁ g x d n w s) = step-sound R₀ R₁ v (grown-sound R₀ g) x d n w s
 
-pub grown-some : (R : Sheet) → Grown R → (p : Point) × ((r : Record) × (R p ≡ some r))
+pub grown-some : (R : Sheet) → GrownSheet R → (p : Point) × ((r : Record) × (R p ≡ some r))
 grown-some R (start H R′ b e) = let (p, (r, x)) = base-some H b in (p, (r, e p ∙ x))
 grown-some R (grow R₀ v R₁ g x d n w s) = (v .at, (centreOf v, s .centre))

@@ -1,6 +1,7 @@
--- Centres and corners of the base's hexagons. A unit step from a point of depth 0 changes what a - b leaves by 1 or 2 (`unit-step`); so the three hexagons round a corner are centres
--- (`hexagon-centre`), each of which has that corner among its six (`hexagon-corner`), and each of the six corners of a centre has it among its three (`corner-hexagon`).
--- `in-any`, `any-in`, `inside-all`, `all-inside` what `inBase` and `insideBase` say of a corner.
+-- Centres and corners of the base's hexagons. A unit step from a point of depth 0 changes what a - b leaves by 1 or 2 (`unit-step`); so the three
+-- hexagons round a corner are centres (`hexagon-centre`), each of which has that corner among its six (`hexagon-corner`), and each of the six corners of
+-- a centre has it among its three (`corner-hexagon`).
+-- `in-any`, `any-in`, `inside-all`, `all-inside` what `givenBy` and `insideBase` say of a corner.
 -- Assumes nothing.
 use mathlib.Core.Path.{_≡_, sym, _∙_, ap, subst}
 use mathlib.Core.Logic.{_≢_, _⊎_, inl, inr}
@@ -23,7 +24,7 @@ use Rattle.geometry.specs.GeometryLaws.{move-back}
 use Rattle.geometry.specs.SideLaws.{Dir}
 use Rattle.geometry.specs.RankLaws.{class-own, step-c, step-depth, even-row, one}
 use Rattle.lattice.specs.declared.points.Point.{Point}
-use Rattle.growth.specs.Sheets.{hexagonOf, inBase, insideBase}
+use Rattle.growth.specs.Sheets.{hexagonRound, givenBy, insideBase}
 
 ground-normal : (p : Point) → p .m .0 ≡ 0 → T (isNormal p)
 ground-normal p m = or-left (eqb (p .m .0) 0) _ (of-true (eq-eqb (p .m .0) 0 m))
@@ -34,7 +35,8 @@ unit-step p e m d =
     let z : moveOf p e 0 .m .0 ≡ 0 = omega arith in
     (z, sym (class-own (moveOf p e 0) 0 z) ∙ step-c p e 0 d (omega arith) ∙ (λ i. (class-own p 0 m i + turn (even-row e (d .0) (d .1)) i) % 3))
   where
-    turn : ((e % 4 ≡ 0) × (modZ (one e .a -ℤ one e .b) 3 ≡ 1)) ⊎ ((e % 4 ≡ 2) × (modZ (one e .a -ℤ one e .b) 3 ≡ 2)) → modZ (one e .a -ℤ one e .b) 3 ≡ e % 4 / 2 + 1
+    turn : ((e % 4 ≡ 0) × (modZ (one e .a -ℤ one e .b) 3 ≡ 1)) ⊎ ((e % 4 ≡ 2) × (modZ (one e .a -ℤ one e .b) 3 ≡ 2))
+        → modZ (one e .a -ℤ one e .b) 3 ≡ e % 4 / 2 + 1
     turn (inl (k, v)) = omega arith
     turn (inr (k, v)) = omega arith
 
@@ -73,15 +75,15 @@ way-is p t n h = go (class-two p n)
         four0 t = omega arith
 
 module _ (p : Point) (m : p .m .0 ≡ 0) (n : classOf p ≢ 0) (t : ℕ) (h : t < 3) where
-  pub hexagon-centre : (hexagonOf p t .m .0 ≡ 0) × (classOf (hexagonOf p t) ≡ 0)
+  pub hexagon-centre : (hexagonRound p t .m .0 ≡ 0) × (classOf (hexagonRound p t) ≡ 0)
   hexagon-centre = let (d, c) = way-is p t n h in let (z, e) = unit-step p (way p t) m d in (z, e ∙ c)
 
-  pub hexagon-corner : (j : ℕ) × (j < 6) × (moveOf (hexagonOf p t) (2 * j) 0 ≡ p)
+  pub hexagon-corner : (j : ℕ) × (j < 6) × (moveOf (hexagonRound p t) (2 * j) 0 ≡ p)
   hexagon-corner =
       let (d, c) = way-is p t n h in
       let e = way p t in
       let s : 2 * ((e + 6) % 12 / 2) ≡ (e + 6) % 12 = twice e (d .1) in
-      ((e + 6) % 12 / 2, omega arith, ap (λ (x : ℕ). moveOf (hexagonOf p t) x 0) s ∙ move-back p e 0 (ground-normal p m) (d .0))
+      ((e + 6) % 12 / 2, omega arith, ap (λ (x : ℕ). moveOf (hexagonRound p t) x 0) s ∙ move-back p e 0 (ground-normal p m) (d .0))
     where
       twice : (e : ℕ) → e % 2 ≡ 0 % 2 → 2 * ((e + 6) % 12 / 2) ≡ (e + 6) % 12
       twice e h = omega arith
@@ -101,7 +103,7 @@ module _ (c : Point) (m : c .m .0 ≡ 0) (z : classOf c ≡ 0) (j : ℕ) (h : j 
   corner-not e = let x = corner-class in omega arith
 
   -- the way back is one of its three
-  pub corner-hexagon : (t : ℕ) × (t < 3) × (hexagonOf (moveOf c (2 * j) 0) t ≡ c)
+  pub corner-hexagon : (t : ℕ) × (t < 3) × (hexagonRound (moveOf c (2 * j) 0) t ≡ c)
   corner-hexagon = go (ℕ-discrete (2 * j % 4) 0)
     where
       s : Point
@@ -113,7 +115,7 @@ module _ (c : Point) (m : c .m .0 ≡ 0) (z : classOf c ≡ 0) (j : ℕ) (h : j 
       home : moveOf s b 0 ≡ c
       home = move-back c (2 * j) 0 (ground-normal c m) (corner-dir .0)
 
-      go : Dec (2 * j % 4 ≡ 0) → (t : ℕ) × (t < 3) × (hexagonOf s t ≡ c)
+      go : Dec (2 * j % 4 ≡ 0) → (t : ℕ) × (t < 3) × (hexagonRound s t ≡ c)
       go (yes e) =
           let k : classOf s ≡ 1 = corner-class ∙ omega arith in
           let x : 2 + 4 * (b / 4) ≡ b = rule 6 (λ j. (2 * j % 4) ≡? 0 ⇒ (2 + 4 * ((2 * j + 6) % 12 / 4)) ≡? ((2 * j + 6) % 12)) tt j h e in
@@ -126,12 +128,12 @@ module _ (c : Point) (m : c .m .0 ≡ 0) (z : classOf c ≡ 0) (j : ℕ) (h : j 
 -- ---- what the base says of a corner
 module _ (H : Point → Bool) (p : Point) (n : classOf p ≢ 0) where
   abbrev near : ℕ → Bool
-  near t = H (hexagonOf p t)
+  near t = H (hexagonRound p t)
 
   not-centre : T (eqb (classOf p) 0) → ⊥
   not-centre t = n (eqb→eq (classOf p) 0 t)
 
-  pub in-any : T (inBase H p) → (t : ℕ) × (t < 3) × T (H (hexagonOf p t))
+  pub in-any : T (givenBy H p) → (t : ℕ) × (t < 3) × T (H (hexagonRound p t))
   in-any h = go (or-split (near 0) (near 1 || near 2) (subst T (when-false (eqb (classOf p) 0) (H p) (near 0 || (near 1 || near 2)) not-centre) h))
     where
       go : T (near 0) ⊎ T (near 1 || near 2) → (t : ℕ) × (t < 3) × T (near t)
@@ -142,7 +144,7 @@ module _ (H : Point → Bool) (p : Point) (n : classOf p ≢ 0) where
           by (inl x) = (1, omega arith, x)
           by (inr x) = (2, omega arith, x)
 
-  pub any-in : (t : ℕ) → t < 3 → T (H (hexagonOf p t)) → T (inBase H p)
+  pub any-in : (t : ℕ) → t < 3 → T (H (hexagonRound p t)) → T (givenBy H p)
   any-in t l h = subst T (sym (when-false (eqb (classOf p) 0) (H p) (near 0 || (near 1 || near 2)) not-centre)) (go t l h)
     where
       go : (t : ℕ) → t < 3 → T (near t) → T (near 0 || (near 1 || near 2))
@@ -151,7 +153,7 @@ module _ (H : Point → Bool) (p : Point) (n : classOf p ≢ 0) where
       go (suc (suc zero)) l h = or-right (near 0) (near 1 || near 2) (or-right (near 1) (near 2) h)
       go (suc (suc (suc t))) l h = absurd (omega arith)
 
-  pub inside-all : T (insideBase H p) → (t : ℕ) → t < 3 → T (H (hexagonOf p t))
+  pub inside-all : T (insideBase H p) → (t : ℕ) → t < 3 → T (H (hexagonRound p t))
   inside-all h = λ t l. go t l (subst T (when-false (eqb (classOf p) 0) (H p) (near 0 && (near 1 && near 2)) not-centre) h)
     where
       go : (t : ℕ) → t < 3 → T (near 0 && (near 1 && near 2)) → T (near t)
@@ -160,13 +162,13 @@ module _ (H : Point → Bool) (p : Point) (n : classOf p ≢ 0) where
       go (suc (suc zero)) l a = and-right (near 1) (near 2) (and-right (near 0) (near 1 && near 2) a)
       go (suc (suc (suc t))) l a = absurd (omega arith)
 
-  pub all-inside : ((t : ℕ) → t < 3 → T (H (hexagonOf p t))) → T (insideBase H p)
+  pub all-inside : ((t : ℕ) → t < 3 → T (H (hexagonRound p t))) → T (insideBase H p)
   all-inside h =
       subst T (sym (when-false (eqb (classOf p) 0) (H p) (near 0 && (near 1 && near 2)) not-centre))
       (and-both (near 0) (near 1 && near 2) (h 0 (omega arith)) (and-both (near 1) (near 2) (h 1 (omega arith)) (h 2 (omega arith))))
 
 -- and of a centre
-pub centre-in : (H : Point → Bool) (p : Point) → classOf p ≡ 0 → inBase H p ≡ H p
+pub centre-in : (H : Point → Bool) (p : Point) → classOf p ≡ 0 → givenBy H p ≡ H p
 centre-in H p c = when-true (eqb (classOf p) 0) (H p) _ (of-true (eq-eqb (classOf p) 0 c))
 
 pub centre-inside : (H : Point → Bool) (p : Point) → classOf p ≡ 0 → insideBase H p ≡ H p

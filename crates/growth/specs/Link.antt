@@ -1,4 +1,5 @@
--- A private device: the model (specs/Model), at a normalised point, is the closed form that the proofs compute with (specs/Closed); at any other point there is no record.
+-- A private device: the model (specs/Model), at a normalised point, is the closed form that the proofs compute with (specs/Closed); at any other point
+-- there is no record.
 -- `record-is`, `full-is`, `record-none` · `good-in` counts that are good, in the closed form · `more-is` one more subdivision.
 -- Assumes nothing.
 use mathlib.Core.Path.{_≡_, refl, sym, _∙_, ap}
@@ -15,8 +16,8 @@ use Rattle.lattice.specs.Ranks.{rankOf, birthOf, parentOf}
 use Rattle.geometry.specs.RankLaws.{rank-between}
 use Rattle.lattice.specs.declared.points.Point.{Point}
 use Rattle.lattice.specs.declared.records.Record.{Record}
-use Rattle.growth.specs.Sheets.{vertex, inBase}
-use Rattle.growth.specs.Model.{Counts, subdivided, presentOf, internalOf, bySplits, starRecord, recordOf, fullOf, more}
+use Rattle.growth.specs.Sheets.{vertex, givenBy}
+use Rattle.growth.specs.Model.{Counts, subdivided, presentOf, internalOf, bySplits, starRecord, meshOf, fullOf, more}
 use Rattle.growth.specs.Normal.{Pt, rank, birth, move, same?}
 use Rattle.growth.specs.Parents.{par, creatorOf}
 use Rattle.growth.specs.Closed.{look, T, starAt, bump, presAt, intAt, fullAt, rec, Good, rec-at}
@@ -40,7 +41,8 @@ creator-is p i f = rw (r 0, r 1) (go (ltb (rankOf (parentOf (p .at) 0)) (rankOf 
     r : (t : ℕ) → ltb (rankOf (par p t (suc i) .at)) (suc i) ≡ ltb (rankOf (parentOf (p .at) t)) (rankOf (p .at) - 1)
     r t = let e : suc i ≡ rankOf (p .at) - 1 = omega arith in (λ j. ltb (rankOf (par-is p t (suc i) f j)) (e j))
 
-    go : (x y : Bool) → cond x (par p 0 (suc i)) (cond y (par p 1 (suc i)) (par p 2 (suc i))) .at ≡ cond x (parentOf (p .at) 0) (cond y (parentOf (p .at) 1) (parentOf (p .at) 2))
+    go : (x y : Bool) → cond x (par p 0 (suc i)) (cond y (par p 1 (suc i)) (par p 2 (suc i))) .at ≡ cond x (parentOf (p .at) 0)
+        (cond y (parentOf (p .at) 1) (parentOf (p .at) 2))
     go true y = par-is p 0 (suc i) f
     go false true = par-is p 1 (suc i) f
     go false false = par-is p 2 (suc i) f
@@ -77,7 +79,7 @@ module _ (c : Counts) where
     pres-is p (suc zero) f = rw (shallow p (omega arith))
     pres-is p (suc (suc i)) f =
         T-is (creatorOf p i) i ∙ (λ j. subdivided c (creator-is p i f j) (less j)) ∙ ap (λ (b : Bool). b && was) (sym (is-true (isNormal (p .at)) (p .normal)))
-        ∙ ap (λ (b : Bool). cond b (inBase H (p .at)) (isNormal (p .at) && was)) (sym (deep p i f))
+        ∙ ap (λ (b : Bool). cond b (givenBy H (p .at)) (isNormal (p .at) && was)) (sym (deep p i f))
       where
         was : Bool
         was = subdivided c (L.creatorOf (p .at)) (rankOf (p .at) - 2)
@@ -100,21 +102,23 @@ module _ (c : Counts) where
     look-is true false p r = refl
     look-is true true p r = refl
 
-    pub record-is : (p : Pt) → recordOf H c (p .at) ≡ rec H (at c) p
-    unfolding recordOf
+    pub record-is : (p : Pt) → meshOf H c (p .at) ≡ rec H (at c) p
+    unfolding meshOf
     record-is p =
         sym (rec-at H (at c) p (rank p) refl ∙ (λ j. look (pres-is p (rank p) refl j) (int-is p (rank p) refl j) (p .at) (star-is p (rank p) refl j))
         ∙ look-is (presentOf H c (p .at)) (internalOf H (p .at)) (p .at) (starRecord c (p .at) (rankOf (p .at) - 1) (rankOf (p .at) + c (p .at))))
 
-    pub record-none : (p : Point) → isNormal p ≡ false → recordOf H c p ≡ none
-    unfolding recordOf presentOf
+    pub record-none : (p : Point) → isNormal p ≡ false → meshOf H c p ≡ none
+    unfolding meshOf presentOf
     record-none p e =
-        ap (λ (b : Bool). cond b (some (cond (internalOf H p) (starRecord c p (rankOf p - 1) (rankOf p + c p)) (vertex p 0 0 0))) none) (gone (eqb (p .m .0) 0) refl)
+        ap (λ (b : Bool). cond b (some (cond (internalOf H p) (starRecord c p (rankOf p - 1) (rankOf p + c p)) (vertex p 0 0 0))) none)
+        (gone (eqb (p .m .0) 0) refl)
       where
         gone : (b : Bool) → eqb (p .m .0) 0 ≡ b → presentOf H c p ≡ false
         gone true z = absurd (true≢false (sym (rw z) ∙ e))
         gone false z =
-            ap (λ (b : Bool). cond b (inBase H p) (isNormal p && subdivided c (L.creatorOf p) (rankOf p - 2))) z ∙ ap (λ (b : Bool). b && subdivided c (L.creatorOf p) (rankOf p - 2)) e
+            ap (λ (b : Bool). cond b (givenBy H p) (isNormal p && subdivided c (L.creatorOf p) (rankOf p - 2))) z
+            ∙ ap (λ (b : Bool). b && subdivided c (L.creatorOf p) (rankOf p - 2)) e
 
     -- ---- degree 6
     abbrev three : Point → Bool
@@ -122,7 +126,8 @@ module _ (c : Counts) where
 
     full-opened : (p : Pt) → fullOf H c (p .at) ≡ (internalOf H (p .at) && cond (eqb (rankOf (p .at)) 0) true (three (p .at)))
     unfolding fullOf
-    full-opened p = ap (λ (b : Bool). b && (internalOf H (p .at) && cond (eqb (rankOf (p .at)) 0) true (three (p .at)))) (is-true (isNormal (p .at)) (p .normal))
+    full-opened p = ap (λ (b : Bool). b && (internalOf H (p .at) && cond (eqb (rankOf (p .at)) 0) true (three (p .at))))
+        (is-true (isNormal (p .at)) (p .normal))
 
     and-true : (b : Bool) → (b && true) ≡ b
     and-true true = refl
@@ -137,7 +142,8 @@ module _ (c : Counts) where
     unfolding fullAt rank
     full-at p zero f =
         unfold intAt in (int-is p zero f)
-        ∙ sym (full-opened p ∙ ap (λ (b : Bool). internalOf H (p .at) && cond b true (three (p .at))) (eq-eqb (rankOf (p .at)) 0 f) ∙ and-true (internalOf H (p .at)))
+        ∙ sym (full-opened p ∙ ap (λ (b : Bool). internalOf H (p .at) && cond b true (three (p .at))) (eq-eqb (rankOf (p .at)) 0 f)
+        ∙ and-true (internalOf H (p .at)))
     full-at p (suc b) f =
         assoc4 (intAt H p (suc b)) (T (at c) (par p 0 b) b) (T (at c) (par p 1 b) b) (T (at c) (par p 2 b) b)
         ∙ (λ j. int-is p (suc b) f j && (par-split p 0 b f j && (par-split p 1 b f j && par-split p 2 b f j)))

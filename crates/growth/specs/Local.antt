@@ -1,5 +1,6 @@
--- M3's test: what one record has to pass for the mesh to be grown. It makes at most 15 lookups, so a table is judged in one pass.
--- `there`, `over` what looking a point up tells · `localTest` the test, as code computes it · `Local` what it says, in the words of the model (specs/LocalTests has that it does).
+-- M3's test: what one record has to pass for the mesh to be grown. It asks at most 12 other points, so a table is judged in one pass.
+-- `there`, `over` what looking a point up tells · `localTest` the test, as code computes it ·
+-- `Local` what it says, in the words of the model (specs/LocalTests has that it does).
 -- Assumes nothing.
 use mathlib.Core.Path.{_≡_}
 use mathlib.Core.Logic.{_≢_}
@@ -13,7 +14,7 @@ use Rattle.lattice.specs.Points.{classOf}
 use Rattle.lattice.specs.Ranks.{rankOf, birthOf, moveOf, parentOf, creatorOf}
 use Rattle.lattice.specs.declared.points.Point.{Point}
 use Rattle.lattice.specs.declared.records.Record.{Record}
-use Rattle.growth.specs.Sheets.{Sheet, vertex, hexagonOf}
+use Rattle.growth.specs.Sheets.{Sheet, vertex, hexagonRound}
 use Rattle.growth.specs.Model.{bySplits}
 
 -- ---- what looking a point up tells
@@ -41,8 +42,8 @@ centreTest R r = not (eqb (r .d) 0) && upto 6 (λ j. there R (moveOf (r .at) (2 
 -- other depth 0: a corner, at least one hexagon round it is there; degree 0 exactly where not all three are
 abbrev pub cornerTest : Sheet → Record → Bool
 cornerTest R r =
-    (there R (hexagonOf (r .at) 0) || (there R (hexagonOf (r .at) 1) || there R (hexagonOf (r .at) 2)))
-    && cond (upto 3 (λ t. there R (hexagonOf (r .at) t))) (not (eqb (r .d) 0)) (eqb (r .d) 0)
+    (there R (hexagonRound (r .at) 0) || (there R (hexagonRound (r .at) 1) || there R (hexagonRound (r .at) 2)))
+    && cond (upto 3 (λ t. there R (hexagonRound (r .at) t))) (not (eqb (r .d) 0)) (eqb (r .d) 0)
 
 -- depth > 0: degree is not 0, all three parents are there, its creator has degree 6 and a level of at least rank - 1
 abbrev pub deepTest : Sheet → Record → Bool
@@ -78,7 +79,8 @@ Here R p = T (there R p)
 pub record Local (R : Sheet) (r : Record) : Type 0 where
   pub centre : r .at .m .0 ≡ 0 → classOf (r .at) ≡ 0 → (r .d ≢ 0) × ((j : ℕ) → j < 6 → Here R (moveOf (r .at) (2 * j) 0))
   pub corner : r .at .m .0 ≡ 0 → classOf (r .at) ≢ 0
-      → ((t : ℕ) × (t < 3) × Here R (hexagonOf (r .at) t)) × (r .d ≢ 0 → (t : ℕ) → t < 3 → Here R (hexagonOf (r .at) t)) × (((t : ℕ) → t < 3 → Here R (hexagonOf (r .at) t)) → r .d ≢ 0)
+      → ((t : ℕ) × (t < 3) × Here R (hexagonRound (r .at) t)) × (r .d ≢ 0 → (t : ℕ) → t < 3 → Here R (hexagonRound (r .at) t))
+      × (((t : ℕ) → t < 3 → Here R (hexagonRound (r .at) t)) → r .d ≢ 0)
   pub deep : 0 < r .at .m .0 → (r .d ≢ 0) × ((t : ℕ) → t < 3 → Here R (parentOf (r .at) t)) × T (over R (creatorOf (r .at)) (rankOf (r .at) - 2))
   pub star : r .d ≢ 0 → r ≡ expected R r
   pub six : r .d ≡ 6 → (rankOf (r .at) ≤ r .n .0) × ((j : ℕ) → j < 6 → Here R (adjacentAt r j))

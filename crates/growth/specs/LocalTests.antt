@@ -1,4 +1,5 @@
--- The test of one record and what it says are one: `tested`, `local-tested`. `there-some`, `some-there` what `there` says; `over-six`, `six-over` what `over` says.
+-- The test of one record and what it says are one: `tested`, `local-tested`. `there-some`, `some-there` what `there` says; `over-six`, `six-over` what
+-- `over` says.
 -- Assumes nothing.
 use mathlib.Core.Path.{_≡_, refl, sym, _∙_, ap, subst}
 use mathlib.Core.Logic.{_≢_, _⊎_, inl, inr}
@@ -17,9 +18,10 @@ use Rattle.lattice.specs.Points.{classOf}
 use Rattle.lattice.specs.Ranks.{rankOf, birthOf, moveOf, parentOf, creatorOf}
 use Rattle.lattice.specs.declared.points.Point.{Point}
 use Rattle.lattice.specs.declared.records.Record.{Record}
-use Rattle.growth.specs.Sheets.{Sheet, vertex, hexagonOf}
+use Rattle.growth.specs.Sheets.{Sheet, vertex, hexagonRound}
 use Rattle.growth.specs.Updates.{splits-at}
-use Rattle.growth.specs.Local.{isThere, isOver, there, over, centreTest, cornerTest, deepTest, saidBy, expected, starTest, sixTest, localTest, Here, Local}
+use Rattle.growth.specs.Local.{isThere, isOver, there, over, centreTest, cornerTest, deepTest, saidBy, expected, starTest, sixTest, localTest}
+use Rattle.growth.specs.Local.{Here, Local}
 
 -- ---- lookups
 pub there-some : (R : Sheet) (p : Point) → Here R p → (r : Record) × (R p ≡ some r)
@@ -44,7 +46,8 @@ over-six R q b t = go (R q) refl t
 
 pub six-over : (R : Sheet) (q : Point) (b : ℕ) (u : Record) → R q ≡ some u → u .d ≡ 6 → b < u .n .0 → T (over R q b)
 unfolding over
-six-over R q b u e d l = subst (λ (o : Option Record). T (isOver b o)) (sym e) (and-both (eqb (u .d) 6) (ltb b (u .n .0)) (of-true (eq-eqb (u .d) 6 d)) (lt→ltb b (u .n .0) l))
+six-over R q b u e d l = subst (λ (o : Option Record). T (isOver b o)) (sym e)
+    (and-both (eqb (u .d) 6) (ltb b (u .n .0)) (of-true (eq-eqb (u .d) 6 d)) (lt→ltb b (u .n .0) l))
 
 -- a record is its point, degree, orientation and level
 record-eq : (r s : Record) → r .at ≡ s .at → r .d ≡ s .d → r .k ≡ s .k → r .n .0 ≡ s .n .0 → r ≡ s
@@ -109,7 +112,7 @@ module _ (R : Sheet) (r : Record) where
       when-false (eqb (r .at .m .0) 0) (cond (eqb (classOf (r .at)) 0) (centreTest R r) (cornerTest R r)) (deepTest R r) (λ t. m (eqb→eq (r .at .m .0) 0 t))
 
   abbrev round : ℕ → Bool
-  round t = there R (hexagonOf (r .at) t)
+  round t = there R (hexagonRound (r .at) t)
 
   -- ---- from the test to what it says
   pub tested : T (localTest R r) → Local R r
@@ -117,8 +120,11 @@ module _ (R : Sheet) (r : Record) where
   tested t =
       record {
         centre = λ m c.
-            let u = subst T (pick-centre m c) a in
-            (not-zero (r .d) (and-left (not (eqb (r .d) 0)) corners u), upto-at 6 (λ j. there R (moveOf (r .at) (2 * j) 0)) (and-right (not (eqb (r .d) 0)) corners u));
+            let u = subst T (pick-centre m c) a in (
+              not-zero (r .d) (and-left (not (eqb (r .d) 0)) corners u),
+              upto-at 6 (λ j. there R (moveOf (r .at) (2 * j) 0))
+                  (and-right (not (eqb (r .d) 0)) corners u),
+            );
         corner = λ m c.
             let u = subst T (pick-corner m c) a in
             let v = and-right (round 0 || (round 1 || round 2)) whole u in (
@@ -164,7 +170,8 @@ module _ (R : Sheet) (r : Record) where
       says (inl z) n = absurd (n (eqb→eq (r .d) 0 z))
       says (inr z) n =
           let w = and-right (eqb (r .d) (expected R r .d)) (eqb (r .k) (expected R r .k) && eqb (r .n .0) (expected R r .n .0)) z in
-          record-eq r (expected R r) (sym expected-at) (eqb→eq (r .d) (expected R r .d) (and-left (eqb (r .d) (expected R r .d)) (eqb (r .k) (expected R r .k) && eqb (r .n .0) (expected R r .n .0)) z))
+          record-eq r (expected R r) (sym expected-at) (eqb→eq (r .d) (expected R r .d)
+          (and-left (eqb (r .d) (expected R r .d)) (eqb (r .k) (expected R r .k) && eqb (r .n .0) (expected R r .n .0)) z))
           (eqb→eq (r .k) (expected R r .k) (and-left (eqb (r .k) (expected R r .k)) (eqb (r .n .0) (expected R r .n .0)) w))
           (eqb→eq (r .n .0) (expected R r .n .0) (and-right (eqb (r .k) (expected R r .k)) (eqb (r .n .0) (expected R r .n .0)) w))
 
@@ -179,7 +186,8 @@ module _ (R : Sheet) (r : Record) where
   pub local-tested : Local R r → T (localTest R r)
   unfolding localTest
   local-tested l =
-      and-both place ((eqb (r .d) 0 || starTest R r) && (not (eqb (r .d) 6) || sixTest R r)) (kind (ℕ-discrete (r .at .m .0) 0) (ℕ-discrete (classOf (r .at)) 0))
+      and-both place ((eqb (r .d) 0 || starTest R r) && (not (eqb (r .d) 6) || sixTest R r))
+      (kind (ℕ-discrete (r .at .m .0) 0) (ℕ-discrete (classOf (r .at)) 0))
       (and-both (eqb (r .d) 0 || starTest R r) (not (eqb (r .d) 6) || sixTest R r) (says (ℕ-discrete (r .d) 0)) (high (ℕ-discrete (r .d) 6)))
     where
       corners : Bool
@@ -219,12 +227,15 @@ module _ (R : Sheet) (r : Record) where
       says (no n) =
           let e = l .star n in
           or-right (eqb (r .d) 0) (starTest R r)
-          (and-both (eqb (r .d) (expected R r .d)) (eqb (r .k) (expected R r .k) && eqb (r .n .0) (expected R r .n .0)) (same (r .d) (expected R r .d) (ap (λ (x : Record). x .d) e))
-          (and-both (eqb (r .k) (expected R r .k)) (eqb (r .n .0) (expected R r .n .0)) (same (r .k) (expected R r .k) (ap (λ (x : Record). x .k) e)) (same (r .n .0) (expected R r .n .0) (ap (λ (x : Record). x .n .0) e))))
+          (and-both (eqb (r .d) (expected R r .d)) (eqb (r .k) (expected R r .k) && eqb (r .n .0) (expected R r .n .0))
+          (same (r .d) (expected R r .d) (ap (λ (x : Record). x .d) e))
+          (and-both (eqb (r .k) (expected R r .k)) (eqb (r .n .0) (expected R r .n .0)) (same (r .k) (expected R r .k) (ap (λ (x : Record). x .k) e))
+          (same (r .n .0) (expected R r .n .0) (ap (λ (x : Record). x .n .0) e))))
 
       high : Dec (r .d ≡ 6) → T (not (eqb (r .d) 6) || sixTest R r)
       high (no n) = or-left (not (eqb (r .d) 6)) (sixTest R r) (not-T (eqb (r .d) 6) (λ t. n (eqb→eq (r .d) 6 t)))
       high (yes z) =
           let (h, f) = l .six z in
           or-right (not (eqb (r .d) 6)) (sixTest R r)
-          (and-both (leb (rankOf (r .at)) (r .n .0)) (upto 6 (λ j. there R (adjacentAt r j))) (le→leb (rankOf (r .at)) (r .n .0) h) (upto-all 6 (λ j. there R (adjacentAt r j)) f))
+          (and-both (leb (rankOf (r .at)) (r .n .0)) (upto 6 (λ j. there R (adjacentAt r j))) (le→leb (rankOf (r .at)) (r .n .0) h)
+          (upto-all 6 (λ j. there R (adjacentAt r j)) f))

@@ -1,5 +1,6 @@
 -- The model: a grown mesh in closed form. A set H of hexagons, by their centres, and c, how often each point has been subdivided, tell every record.
--- `subdivided` whether q was subdivided at level i · `presentOf`, `internalOf`, `starRecord`, `recordOf` the record at a point · `fullOf` degree 6 · `more` one more subdivision · `Good`, `Low`, `Finite` which c there are.
+-- `subdivided` whether q was subdivided at level i · `presentOf`, `internalOf`, `starRecord`, `meshOf` the record at a point · `fullOf` degree 6 ·
+-- `more` one more subdivision · `Good`, `Low`, `Finite` which c there are.
 -- Ranks, birth orientations, parents and creators are the lattice's (its specs/Ranks).
 -- Assumes nothing.
 use mathlib.Core.Bool.{Bool, true, false, cond, _&&_}
@@ -13,7 +14,7 @@ use Rattle.lattice.specs.Points.{isNormal}
 use Rattle.lattice.specs.Ranks.{rankOf, birthOf, parentOf, creatorOf}
 use Rattle.lattice.specs.declared.points.Point.{Point}
 use Rattle.lattice.specs.declared.records.Record.{Record}
-use Rattle.growth.specs.Sheets.{Sheet, vertex, inBase, insideBase}
+use Rattle.growth.specs.Sheets.{Sheet, vertex, givenBy, insideBase}
 
 -- how often each point has been subdivided
 abbrev pub Counts : Type 0
@@ -26,13 +27,14 @@ subdivided c q i = ltb i (rankOf q + c q)
 -- "A point of depth 0 is present if it is a listed centre or a corner of one; .. depth > 0: its creator was subdivided at level rank p - 2."
 unfoldable pub presentOf : (Point → Bool) → Counts → Point → Bool
 unfolding subdivided
-presentOf H c p = cond (eqb (p .m .0) 0) (inBase H p) (isNormal p && subdivided c (creatorOf p) (rankOf p - 2))
+presentOf H c p = cond (eqb (p .m .0) 0) (givenBy H p) (isNormal p && subdivided c (creatorOf p) (rankOf p - 2))
 
 -- "internal if it is a centre or all three hexagons round it are listed"; of depth above 0 every point is
 unfoldable pub internalOf : (Point → Bool) → Point → Bool
 internalOf H p = cond (eqb (p .m .0) 0) (insideBase H p) true
 
--- "by which parents t were subdivided at level b: none: d 3, k, level b; one, t: d 4, k + 4t + 4; two, all but t: d 5, k + 4t; all three: d 6, level n, n mod 2 (orientations mod 12)"
+-- "by which parents t were subdivided at level b: none: d 3, k, level b; one, t: d 4, k + 4t + 4; two, all but t: d 5, k + 4t; all three: d 6, level n,
+-- n mod 2 (orientations mod 12)"
 unfoldable pub bySplits : Point → Bool → Bool → Bool → ℕ → ℕ → ℕ → Record
 bySplits p false false false k b n = vertex p 3 k b
 bySplits p true false false k b n = vertex p 4 (k + 4) b
@@ -50,9 +52,9 @@ starRecord c p b n =
     (bySplits p (subdivided c (parentOf p 0) b) (subdivided c (parentOf p 1) b) (subdivided c (parentOf p 2) b) (birthOf p) b n)
 
 -- "The records."
-unfoldable pub recordOf : (Point → Bool) → Counts → Sheet
+unfoldable pub meshOf : (Point → Bool) → Counts → Sheet
 unfolding presentOf internalOf bySplits subdivided
-recordOf H c p = cond (presentOf H c p) (some (cond (internalOf H p) (starRecord c p (rankOf p - 1) (rankOf p + c p)) (vertex p 0 0 0))) none
+meshOf H c p = cond (presentOf H c p) (some (cond (internalOf H p) (starRecord c p (rankOf p - 1) (rankOf p + c p)) (vertex p 0 0 0))) none
 
 -- ---- which c there are
 -- one more subdivision of q

@@ -1,5 +1,6 @@
 -- A private device: normalised points as a type of their own, so that the laws of steps and ranks hold of every one of them. Outside this crate nobody sees it.
--- `Pt` · `rank`, `birth`, `move` · `back`, `inj`, `out-rank`, `out-birth`, `in-rank`, `creator`, `side-l`, `side-r`, `fan` the lattice's laws · `same?` two of them are one.
+-- `Pt` · `rank`, `birth`, `move` · `back`, `inj`, `out-rank`, `out-birth`, `in-rank`, `creator`, `side-l`, `side-r`, `fan` the lattice's laws ·
+-- `same?` two of them are one.
 -- Assumes nothing.
 use mathlib.Core.Path.{_≡_, refl, sym, _∙_, ap}
 use mathlib.Core.Logic.{_≢_}

@@ -1,8 +1,10 @@
 -- One subdivision of a mesh in closed form is the closed form with one more subdivision: each of the four kinds of points.
--- q is the vertex that is subdivided, n = rank q + c q its level. Why it holds: presence and degree of a point are told by subdivisions at levels below its rank, and only (q, n) is new.
--- So a point of rank at most n + 1 stays present (`pres-low`); what q makes at level n + 1 had no creator subdivided at n before (`absent`), and all its parents are young (`new-par`); an old
--- adjacent has q among its three parents and the other two as they were (`old-star`).
--- `centre` q itself · `new` · `old` · `rest` · `absent`, `there` nothing is torn · `present-old` the adjacents of q are there · `good-bump` the counts stay good · `six` a record of degree 6.
+-- q is the vertex that is subdivided, n = rank q + c q its level. Why it holds: presence and degree of a point are told by subdivisions at levels below
+-- its rank, and only (q, n) is new.
+-- So a point of rank at most n + 1 stays present (`pres-low`); what q makes at level n + 1 had no creator subdivided at n before (`absent`), and all its
+-- parents are young (`new-par`); an old adjacent has q among its three parents and the other two as they were (`old-star`).
+-- `centre` q itself · `new` · `old` · `rest` · `absent`, `there` nothing is torn · `present-old` the adjacents of q are there ·
+-- `good-bump` the counts stay good · `six` a record of degree 6.
 -- Assumes nothing.
 use mathlib.Core.Path.{_≡_, refl, sym, _∙_, ap}
 use mathlib.Core.Logic.{_≢_, _⊎_, inl, inr}
@@ -16,18 +18,21 @@ use Rattle.geometry.specs.SideLaws.{Dir, turn1, turn6, turn11}
 use Rattle.lattice.specs.Subdivision.{updateOf, acceptsOf}
 use Rattle.lattice.specs.declared.points.Point.{Point}
 use Rattle.lattice.specs.declared.records.Record.{Record}
-use Rattle.growth.specs.Sheets.{vertex, inBase}
+use Rattle.growth.specs.Sheets.{vertex, givenBy}
 use Rattle.growth.specs.Model.{bySplits}
 use Rattle.growth.specs.Normal.{Pt, rank, birth, move, back, pt?, birth-lt, birth-par, out-rank, out-birth}
 use Rattle.growth.specs.Directions.{thirds, third-of, mod-12-4, below3, mod4, plus4′, plus8′}
-use Rattle.growth.specs.Parents.{par, creatorOf, aside-l, aside-r, par-dir, par-back, par-inj, parent-of, creator-ex, creator-is, creator-new, parents-near}
+use Rattle.growth.specs.Parents.{par, creatorOf, aside-l, aside-r, par-dir, par-back, par-inj, parent-of, creator-ex, creator-is, creator-new}
+use Rattle.growth.specs.Parents.{parents-near}
 use Rattle.growth.specs.BaseLaws.{base-out, inside-in}
-use Rattle.growth.specs.Closed.{look, T, starAt, bump, bump-same, bump-other, T-other, T-same, T-le, T-lt, T-off, T-on, T-mono, T-down, presAt, intAt, fullAt, rec, Good, full-all, full-par, full-zero, int-of-full, rec-at, rec-look}
+use Rattle.growth.specs.Closed.{look, T, starAt, bump, bump-same, bump-other, T-other, T-same, T-le, T-lt, T-off, T-on, T-mono, T-down, presAt}
+use Rattle.growth.specs.Closed.{intAt, fullAt, rec, Good, full-all, full-par, full-zero, int-of-full, rec-at, rec-look}
 use Rattle.growth.specs.Updates.{update-split, accept-split, splits-six, splits-three, look-inside, look-update, look-accept}
 
 module _ (H : Point → Bool) (c : Pt → ℕ) where
   -- ---- a record of degree 6
-  star-six : (q : Pt) (f : ℕ) → intAt H q f ≡ true → starAt c q f .d ≡ 6 → (fullAt H c q f ≡ true) × (starAt c q f ≡ vertex (q .at) 6 ((rank q + c q) % 2) (rank q + c q))
+  star-six : (q : Pt) (f : ℕ) → intAt H q f ≡ true → starAt c q f .d ≡ 6
+      → (fullAt H c q f ≡ true) × (starAt c q f ≡ vertex (q .at) 6 ((rank q + c q) % 2) (rank q + c q))
   unfolding starAt fullAt intAt
   star-six q zero i six = (i, refl)
   star-six q (suc b) i six =
@@ -37,14 +42,15 @@ module _ (H : Point → Bool) (c : Pt → ℕ) where
   pub six : (q : Pt) (r : Record) → rec H c q ≡ some r → r .d ≡ 6
       → (presAt H c q (rank q) ≡ true) × (fullAt H c q (rank q) ≡ true) × (r ≡ vertex (q .at) 6 ((rank q + c q) % 2) (rank q + c q))
   six q r h d =
-      let (a, i, e) = look-inside (presAt H c q (rank q)) (intAt H q (rank q)) (q .at) (starAt c q (rank q)) r (sym (rec-at H c q (rank q) refl) ∙ h) (omega arith) in
+      let (a, i, e) = look-inside (presAt H c q (rank q)) (intAt H q (rank q)) (q .at) (starAt c q (rank q)) r (sym (rec-at H c q (rank q) refl) ∙ h)
+      (omega arith) in
       let (f, s) = star-six q (rank q) i (ap (λ (x : Record). x .d) (sym e) ∙ d) in
       (a, f, e ∙ s)
 
   pub present-full : (q : Pt) (f : ℕ) → rank q ≡ f → fullAt H c q f ≡ true → presAt H c q f ≡ true
   unfolding presAt intAt
-  present-full q zero e h = is-true (inBase H (q .at)) (inside-in H (q .at) (of-true (sym (full-zero H c q) ∙ h)))
-  present-full q (suc zero) e h = is-true (inBase H (q .at)) (inside-in H (q .at) (of-true (full-all H c q 0 h .0)))
+  present-full q zero e h = is-true (givenBy H (q .at)) (inside-in H (q .at) (of-true (sym (full-zero H c q) ∙ h)))
+  present-full q (suc zero) e h = is-true (givenBy H (q .at)) (inside-in H (q .at) (of-true (full-all H c q 0 h .0)))
   present-full q (suc (suc i)) e h =
       let (t, ht, k) = creator-ex q i e in
       rw (creator-is q i t ht e k) (T-down c (par q t (suc i)) i (suc i) (omega arith) (full-par H c q (suc i) t ht h))
@@ -55,14 +61,15 @@ module _ (H : Point → Bool) (c : Pt → ℕ) where
   star-full q (suc b) h = let (i, x, y, z) = full-all H c q b h in rw (x, y, z)
 
   pub rec-full : (q : Pt) → fullAt H c q (rank q) ≡ true → rec H c q ≡ some (vertex (q .at) 6 ((rank q + c q) % 2) (rank q + c q))
-  rec-full q h = rec-look H c q (vertex (q .at) 6 ((rank q + c q) % 2) (rank q + c q)) (present-full q (rank q) refl h) (int-of-full H c q (rank q) h) (star-full q (rank q) h)
+  rec-full q h = rec-look H c q (vertex (q .at) 6 ((rank q + c q) % 2) (rank q + c q)) (present-full q (rank q) refl h) (int-of-full H c q (rank q) h)
+      (star-full q (rank q) h)
 
   -- ---- the adjacents of a vertex of degree 6 are there, at every level that it has had
   pub present-old : (q : Pt) (e n : ℕ) → Dir e n → rank q ≤ n → n ≤ rank q + c q → fullAt H c q (rank q) ≡ true → presAt H c (move q e n) (suc n) ≡ true
   unfolding presAt
   present-old q e zero he lo h full =
       let z : rank q ≡ 0 = omega arith in
-      is-true (inBase H (move q e 0 .at)) (base-out H q e z (of-true (sym (full-zero H c q) ∙ ap (fullAt H c q) (sym z) ∙ full)) he)
+      is-true (givenBy H (move q e 0 .at)) (base-out H q e z (of-true (sym (full-zero H c q) ∙ ap (fullAt H c q) (sym z) ∙ full)) he)
   present-old q e (suc i) he lo h full = go (ℕ-discrete (rank q) (suc i))
     where
       p : Pt
@@ -81,7 +88,8 @@ module _ (H : Point → Bool) (c : Pt → ℕ) where
       go (no x) = rw (creator-new q e i he (omega arith)) (T-lt c q i (omega arith))
       go (yes x) =
           let (t, ht, k) = creator-ex p i f in
-          let (g, hg, m) = parents-near p i u t (below3 (e + 6)) ht (λ z. (let w = ap (λ (s : ℕ). rank (par p s (suc i))) z in let v = ap rank q′ in omega arith)) f in
+          let (g, hg, m) = parents-near p i u t (below3 (e + 6)) ht
+          (λ z. (let w = ap (λ (s : ℕ). rank (par p s (suc i))) z in let v = ap rank q′ in omega arith)) f in
           let qm : q ≡ move (par p t (suc i)) g i = sym q′ ∙ m in
           let fl : fullAt H c q (suc i) ≡ true = ap (fullAt H c q) (sym x) ∙ full in
           let y : par q ((g + 6) % 12 / 4) i ≡ par p t (suc i) = ap (λ (z : Pt). par z ((g + 6) % 12 / 4) i) qm ∙ parent-of (par p t (suc i)) g i hg k in
@@ -129,7 +137,8 @@ module _ (H : Point → Bool) (c : Pt → ℕ) (q : Pt) (n : ℕ) (h : n ≡ ran
 
   pub centre : presAt H c q (rank q) ≡ true → fullAt H c q (rank q) ≡ true → rec H c′ q ≡ some (vertex (q .at) 6 (suc n % 2) (suc n))
   centre pr full =
-      rec-look H c′ q (vertex (q .at) 6 (suc n % 2) (suc n)) (pres-low q (rank q) (omega arith) ∙ pr) (int-of-full H c q (rank q) full) (star-centre (rank q) (omega arith) full)
+      rec-look H c′ q (vertex (q .at) 6 (suc n % 2) (suc n)) (pres-low q (rank q) (omega arith) ∙ pr) (int-of-full H c q (rank q) full)
+      (star-centre (rank q) (omega arith) full)
 
   -- ---- an adjacent of q at its level has not been subdivided
   module _ (good : Good H c) where
@@ -222,7 +231,8 @@ module _ (H : Point → Bool) (c : Pt → ℕ) (q : Pt) (n : ℕ) (h : n ≡ ran
       old-star =
           let p : Pt = move q e n in
           rw (old-level, old-level′)
-          (update-split (p .at) (birth p) n ((e + 6) % 12) (birth-lt p) (λ t. T c (par p t n) n) (λ t. T c′ (par p t n) n) ((e + 6) % 12 / 4) (below3 (e + 6)) (birth-par p n old-rank)
+          (update-split (p .at) (birth p) n ((e + 6) % 12) (birth-lt p) (λ t. T c (par p t n) n) (λ t. T c′ (par p t n) n) ((e + 6) % 12 / 4)
+          (below3 (e + 6)) (birth-par p n old-rank)
           old-k old-off old-on old-others)
 
       old-accept : acceptsOf ((e + 6) % 12) n (starAt c (move q e n) (suc n)) ≡ true
@@ -235,21 +245,28 @@ module _ (H : Point → Bool) (c : Pt → ℕ) (q : Pt) (n : ℕ) (h : n ≡ ran
       old r x =
           let p : Pt = move q e n in
           rec-at H c′ p (suc n) old-rank ∙ ap (λ (a : Bool). look a (intAt H p (suc n)) (p .at) (starAt c′ p (suc n))) (pres-low p (suc n) (omega arith))
-          ∙ look-update (presAt H c p (suc n)) (intAt H p (suc n)) (p .at) (starAt c p (suc n)) (starAt c′ p (suc n)) r ((e + 6) % 12) (sym (rec-at H c p (suc n) old-rank) ∙ x) old-star
+          ∙ look-update (presAt H c p (suc n)) (intAt H p (suc n)) (p .at) (starAt c p (suc n)) (starAt c′ p (suc n)) r ((e + 6) % 12)
+          (sym (rec-at H c p (suc n) old-rank) ∙ x) old-star
 
       pub there : fullAt H c q (rank q) ≡ true → (r : Record) × (rec H c (move q e n) ≡ some r) × (acceptsOf ((e + 6) % 12) n r ≡ true)
       there full =
           let p : Pt = move q e n in
-          let (r, x, y) = look-accept (intAt H p (suc n)) (p .at) (starAt c p (suc n)) ((e + 6) % 12) n old-accept in
-          (r, rec-at H c p (suc n) old-rank ∙ ap (λ (a : Bool). look a (intAt H p (suc n)) (p .at) (starAt c p (suc n))) (present-old H c q e n he (omega arith) (omega arith) full) ∙ x, y)
+          let (r, x, y) = look-accept (intAt H p (suc n)) (p .at) (starAt c p (suc n)) ((e + 6) % 12) n old-accept in (
+            r,
+            rec-at H c p (suc n) old-rank ∙ ap (λ (a : Bool). look a (intAt H p (suc n)) (p .at) (starAt c p (suc n)))
+                (present-old H c q e n he (omega arith) (omega arith) full) ∙ x,
+            y,
+          )
 
       -- M4: one of degree 3 has the level of q, and its orientation is the direction back
       pub old-three : (r : Record) → rec H c (move q e n) ≡ some r → r .d ≡ 3 → r ≡ vertex (move q e n .at) 3 ((e + 6) % 4) n
       unfolding starAt
       old-three r x d =
           let p : Pt = move q e n in
-          let (a, i, s) = look-inside (presAt H c p (suc n)) (intAt H p (suc n)) (p .at) (starAt c p (suc n)) r (sym (rec-at H c p (suc n) old-rank) ∙ x) (omega arith) in
-          s ∙ splits-three (p .at) (T c (par p 0 n) n) (T c (par p 1 n) n) (T c (par p 2 n) n) (birth p) n (rank p + c p) (ap (λ (x : Record). x .d) (sym s) ∙ d)
+          let (a, i, s) = look-inside (presAt H c p (suc n)) (intAt H p (suc n)) (p .at) (starAt c p (suc n)) r (sym (rec-at H c p (suc n) old-rank) ∙ x)
+          (omega arith) in
+          s ∙ splits-three (p .at) (T c (par p 0 n) n) (T c (par p 1 n) n) (T c (par p 2 n) n) (birth p) n (rank p + c p)
+          (ap (λ (x : Record). x .d) (sym s) ∙ d)
           ∙ ap (λ (k : ℕ). vertex (p .at) 3 k n) (out-birth q e n he (omega arith))
 
   -- ---- the new points were not there
@@ -273,7 +290,8 @@ module _ (H : Point → Bool) (c : Pt → ℕ) (q : Pt) (n : ℕ) (h : n ≡ ran
           not-q y =
               let (t, ht, k) = creator-ex p i f in
               let m = par-back p q t (suc i) ht f (sym (creator-is p i t ht f k) ∙ y) in
-              far ((birth p + 4 * t + 6) % 12) (rw (← x) (turn6 (birth p + 4 * t) (suc i) (par-dir p t (suc i) ht f))) (m ∙ ap (λ (j : ℕ). move q ((birth p + 4 * t + 6) % 12) (suc j)) x)
+              far ((birth p + 4 * t + 6) % 12) (rw (← x) (turn6 (birth p + 4 * t) (suc i) (par-dir p t (suc i) ht f)))
+              (m ∙ ap (λ (j : ℕ). move q ((birth p + 4 * t + 6) % 12) (suc j)) x)
 
   par-same : (p : Pt) (t b : ℕ) → t < 3 → rank p ≡ suc b → ((e : ℕ) → Dir e n → p ≢ move q e n) → T c′ (par p t b) b ≡ T c (par p t b) b
   par-same p t b ht f far = go (ℕ-discrete b n)

@@ -1,7 +1,9 @@
 -- A finite set of subdivisions that is good can be done in order: what has the highest level comes last.
--- For if q has the highest level of all that has been subdivided, then without q's last subdivision everything else still has degree 6: degree 6 asks for subdivisions at levels below a rank, and
--- the rank of what has been subdivided lies below q's level (`less-good`). So take q's last subdivision off and go on with the rest (`order`).
--- `cnt` the counts of a list of subdivisions · `Seq` a list that can be done, the last first · `seq-good` · `order` · `support` counts of finite support are a list's.
+-- For if q has the highest level of all that has been subdivided, then without q's last subdivision everything else still has degree 6: degree 6 asks
+-- for subdivisions at levels below a rank, and the rank of what has been subdivided lies below q's level (`less-good`). So take q's last subdivision off
+-- and go on with the rest (`order`).
+-- `cnt` the counts of a list of subdivisions · `Seq` a list that can be done, the last first · `seq-good` · `order` ·
+-- `support` counts of finite support are a list's.
 -- Assumes nothing.
 use mathlib.Core.Path.{_≡_, refl, sym, _∙_, ap, fun-ext}
 use mathlib.Core.Logic.{_⊎_, inl, inr}
@@ -41,7 +43,8 @@ cnt-rem q [] h = absurd (none-below h)
 cnt-rem q (x ∷ l) h = go (pt? x q) (cnt-rem q l)
   where
     go : Dec (x ≡ q) → (0 < cnt l q → ((p : Pt) → cnt l p ≡ bump q (cnt (rem q l)) p) × (length l ≡ suc (length (rem q l))))
-        → ((p : Pt) → bump x (cnt l) p ≡ bump q (cnt (cond (same? (x .at) (q .at)) l (x ∷ rem q l))) p) × (suc (length l) ≡ suc (length (cond (same? (x .at) (q .at)) l (x ∷ rem q l))))
+        → ((p : Pt) → bump x (cnt l) p ≡ bump q (cnt (cond (same? (x .at) (q .at)) l (x ∷ rem q l))) p)
+        × (suc (length l) ≡ suc (length (cond (same? (x .at) (q .at)) l (x ∷ rem q l))))
     go (yes e) ih = rw (e, same-refl (q .at)) ((λ p. refl), refl)
     go (no e) ih =
         let (a, b) = ih (rw (bump-other x q (cnt l) (λ z. e (sym z))) at h) in
@@ -123,7 +126,8 @@ module _ (H : Point → Bool) where
 
   -- one step of it: q last
   abbrev Peeled : List Pt → Type 0
-  Peeled l = (q : Pt) × (k : List Pt) × (cnt l ≡ bump q (cnt k)) × (length l ≡ suc (length k)) × Good H (cnt k) × Low (cnt k) × (fullAt H (cnt k) q (rank q) ≡ true) × (rank q + cnt k q < 12)
+  Peeled l = (q : Pt) × (k : List Pt) × (cnt l ≡ bump q (cnt k)) × (length l ≡ suc (length k)) × Good H (cnt k) × Low (cnt k)
+      × (fullAt H (cnt k) q (rank q) ≡ true) × (rank q + cnt k q < 12)
 
   peel : (x : Pt) (l : List Pt) → Good H (cnt (x ∷ l)) → Low (cnt (x ∷ l)) → Peeled (x ∷ l)
   peel x l good low = go (cnt-rem q (x ∷ l) (top-in f x l))
@@ -144,8 +148,16 @@ module _ (H : Point → Bool) where
           let low′ : (z : Pt) → 0 < bump q (cnt k) z → rank z + bump q (cnt k) z ≤ 12 = rw (← eq) low in
           let hi : (z : Pt) → 0 < bump q (cnt k) z → rank z + bump q (cnt k) z ≤ rank q + bump q (cnt k) q = rw (← eq) (top-max f x l) in
           let lg = less-good (cnt k) q hi good′ in
-          let one = bump-same q (cnt k) in
-          (q, k, eq, b, (λ z h. lg z (bump-pos q z (cnt k) h)), (λ z h. low-less q z (cnt k) (low′ z (bump-pos q z (cnt k) h))), lg q (omega arith), (let w = low′ q (omega arith) in omega arith))
+          let one = bump-same q (cnt k) in (
+            q,
+            k,
+            eq,
+            b,
+            (λ z h. lg z (bump-pos q z (cnt k) h)),
+            (λ z h. low-less q z (cnt k) (low′ z (bump-pos q z (cnt k) h))),
+            lg q (omega arith),
+            (let w = low′ q (omega arith) in omega arith),
+          )
 
   pub order : (n : ℕ) (l : List Pt) → length l ≡ n → Good H (cnt l) → Low (cnt l) → (k : List Pt) × Seq k × (cnt k ≡ cnt l)
   unfolding cnt
@@ -154,7 +166,8 @@ module _ (H : Point → Bool) where
   order zero (x ∷ l) e good low = absurd (omega arith)
   order (suc n) (x ∷ l) e good low = go (peel x l good low) (order n)
     where
-      go : Peeled (x ∷ l) → ((l : List Pt) → length l ≡ n → Good H (cnt l) → Low (cnt l) → (k : List Pt) × Seq k × (cnt k ≡ cnt l)) → (k : List Pt) × Seq k × (cnt k ≡ cnt (x ∷ l))
+      go : Peeled (x ∷ l) → ((l : List Pt) → length l ≡ n → Good H (cnt l) → Low (cnt l) → (k : List Pt) × Seq k × (cnt k ≡ cnt l))
+          → (k : List Pt) × Seq k × (cnt k ≡ cnt (x ∷ l))
       go (q, k, eq, b, gd, lw, fl, hl) ih =
           let (j, sj, ej) = ih k (omega arith) gd lw in
           (q ∷ j, next q sj (rw ej fl) (rw ej hl), ap (bump q) ej ∙ sym eq)

@@ -1,7 +1,10 @@
 -- A private device: the parents and the creator of a point, by steps alone.
--- A point p of rank b + 1 has three parents, one step of level b away in every fourth direction from its birth orientation (`par`). If b is at least 1, exactly one of them has a rank below b:
--- the creator. For if x is such a parent, p = x + step, and the two other parents are ends of steps of level b - 1 from x (the side laws), whose rank is b (`unique`).
--- `par`, `par-rank`, `par-back`, `par-at`, `parent-of` · `creatorOf`, `creator-ex`, `creator-is`, `creator-new` · `parent-near` the creator of p is a parent of p's other parents.
+-- A point p of rank b + 1 has three parents, one step of level b away in every fourth direction from its birth orientation (`par`). If b is at least 1,
+-- exactly one of them has a rank below b:
+-- the creator. For if x is such a parent, p = x + step, and the two other parents are ends of steps of level b - 1 from x (the side laws), whose rank is
+-- b (`unique`).
+-- `par`, `par-rank`, `par-back`, `par-at`, `parent-of` · `creatorOf`, `creator-ex`, `creator-is`, `creator-new` ·
+-- `parent-near` the creator of p is a parent of p's other parents.
 -- Assumes nothing.
 use mathlib.Core.Path.{_≡_, refl, sym, _∙_, ap}
 use mathlib.Core.Logic.{_≢_, _⊎_, inl, inr}

@@ -1,5 +1,6 @@
 -- Document 01's meshes, as this crate sees them. A `Sheet` is what looking points up in a table answers; the bytes are the floors' above.
--- `Whole` a subdivision is not torn · `Step` what a subdivision makes · `baseOf` the sheet of a base, `Base` which sets of centres are one · `Grown` made by a base and subdivisions.
+-- `UntornAt` a subdivision is not torn · `Step` what a subdivision makes · `baseSheet` the sheet of a base, `CentreSet` which sets of centres are one ·
+-- `GrownSheet` made by a base and subdivisions.
 -- Assumes nothing.
 use mathlib.Core.Path.{_≡_}
 use mathlib.Core.Logic.{_≢_}
@@ -25,9 +26,10 @@ Sheet = Point → Option Record
 abbrev pub vertex : Point → ℕ → ℕ → ℕ → Record
 vertex p d k n = record { at = p; d = d; k = k; n = record { 0 = n } }
 
--- ---- "Torn, subdivision: an adjacent is absent; or an internal adjacent has d 6, or a level other than n, or no rule above for its k' ..; or a new point is already there."
+-- ---- "Torn, subdivision: an adjacent is absent; or an internal adjacent has d 6, or a level other than n, or no rule above for its k' ..; or a new
+-- point is already there."
 -- the subdivision of v is not torn
-pub record Whole (R : Sheet) (v : Record) : Type 0 where
+pub record UntornAt (R : Sheet) (v : Record) : Type 0 where
   pub there : (j : ℕ) → j < 6 → (u : Record) × (R (adjacentAt v j) ≡ some u) × T (acceptsOf (backOf (v .k) j) (v .n .0) u)
   pub free : (j : ℕ) → j < 6 → R (newOf v j .at) ≡ none
 
@@ -41,42 +43,42 @@ pub record Step (R : Sheet) (v : Record) (R′ : Sheet) : Type 0 where
 
 -- ---- "Base". H says which centres are listed
 -- the three hexagons round a corner, by their centres: in directions 60, 180, 300 where a-b leaves 1, in 0, 120, 240 where it leaves 2
-abbrev pub hexagonOf : Point → ℕ → Point
-hexagonOf p t = moveOf p (cond (eqb (classOf p) 1) 2 0 + 4 * t) 0
+abbrev pub hexagonRound : Point → ℕ → Point
+hexagonRound p t = moveOf p (cond (eqb (classOf p) 1) 2 0 + 4 * t) 0
 
 -- "Each centre gives itself and its six unit neighbours."
-abbrev pub inBase : (Point → Bool) → Point → Bool
-inBase H p = cond (eqb (classOf p) 0) (H p) (H (hexagonOf p 0) || (H (hexagonOf p 1) || H (hexagonOf p 2)))
+abbrev pub givenBy : (Point → Bool) → Point → Bool
+givenBy H p = cond (eqb (classOf p) 0) (H p) (H (hexagonRound p 0) || (H (hexagonRound p 1) || H (hexagonRound p 2)))
 
 -- "A corner is internal when all three hexagons round it are listed": so is a centre
 abbrev pub insideBase : (Point → Bool) → Point → Bool
-insideBase H p = cond (eqb (classOf p) 0) (H p) (H (hexagonOf p 0) && (H (hexagonOf p 1) && H (hexagonOf p 2)))
+insideBase H p = cond (eqb (classOf p) 0) (H p) (H (hexagonRound p 0) && (H (hexagonRound p 1) && H (hexagonRound p 2)))
 
 -- "A centre has d 3, k 0. .. with a-b leaving 1 on division by 3 it has d 6, k 0; leaving 2, d 3, k 2. Other corners have degree 0. All m and n are 0."
 abbrev pub baseVertex : (Point → Bool) → Point → Record
 baseVertex H p = cond (insideBase H p) (cond (eqb (classOf p) 0) (vertex p 3 0 0) (cond (eqb (classOf p) 1) (vertex p 6 0 0) (vertex p 3 2 0))) (vertex p 0 0 0)
 
-unfoldable pub baseOf : (Point → Bool) → Sheet
-baseOf H p = cond (eqb (p .m .0) 0 && inBase H p) (some (baseVertex H p)) none
+unfoldable pub baseSheet : (Point → Bool) → Sheet
+baseSheet H p = cond (eqb (p .m .0) 0 && givenBy H p) (some (baseVertex H p)) none
 
 -- "centres [a, b] with a, b in -250..250 and a-b divisible by 3"
-abbrev pub isCentre : Point → Bool
-isCentre p = eqb (p .m .0) 0 && (leb (natAbs (p .a)) 250 && (leb (natAbs (p .b)) 250 && eqb (classOf p) 0))
+abbrev pub centreTest : Point → Bool
+centreTest p = eqb (p .m .0) 0 && (leb (natAbs (p .a)) 250 && (leb (natAbs (p .b)) 250 && eqb (classOf p) 0))
 
 -- p is one of the list
-abbrev pub listed : List Point → Point → Bool
-listed [] p = false
-listed (c ∷ cs) p = run (alike c p) || listed cs p
+abbrev pub inList : List Point → Point → Bool
+inList [] p = false
+inList (c ∷ cs) p = run (alike c p) || inList cs p
 
 -- "A base is a list of centres", as a set, so that a centre may stand in it twice: a set of centres that is listed, none of them out of range, and at least one
-pub record Base (H : Point → Bool) : Type 0 where
+pub record CentreSet (H : Point → Bool) : Type 0 where
   pub list : List Point
-  pub lists : (p : Point) → H p ≡ listed list p
-  pub ranges : (p : Point) → T (H p) → T (isCentre p)
+  pub lists : (p : Point) → H p ≡ inList list p
+  pub ranges : (p : Point) → T (H p) → T (centreTest p)
   pub some-centre : (p : Point) × T (H p)
 
 -- ---- "A mesh is grown if its records result from a base and a sequence of subdivisions accepted in a table of room enough."
--- ("room enough" asks nothing of a sheet, and number 6 never comes: `grown-depth`)
-pub data Grown : Sheet → Type 0 where
-  start : (H : Point → Bool) (R : Sheet) → Base H → ((p : Point) → R p ≡ baseOf H p) → Grown R
-  grow : (R : Sheet) (v : Record) (R′ : Sheet) → Grown R → R (v .at) ≡ some v → v .d ≡ 6 → v .n .0 < 12 → Whole R v → Step R v R′ → Grown R′
+-- ("room enough" asks nothing of a sheet, and number 6 never comes: `new-depth` of geometry)
+pub data GrownSheet : Sheet → Type 0 where
+  start : (H : Point → Bool) (R : Sheet) → CentreSet H → ((p : Point) → R p ≡ baseSheet H p) → GrownSheet R
+  grow : (R : Sheet) (v : Record) (R′ : Sheet) → GrownSheet R → R (v .at) ≡ some v → v .d ≡ 6 → v .n .0 < 12 → UntornAt R v → Step R v R′ → GrownSheet R′

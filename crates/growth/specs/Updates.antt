@@ -1,5 +1,5 @@
--- The document's rules for an old adjacent vertex against the model: when one more of a vertex's parents is subdivided, its record changes as the rule says (`update-split`), and
--- none of these records tears the subdivision (`accept-split`). The direction k′ that is filled is k + 4t for parent t.
+-- The document's rules for an old adjacent vertex against the model: when one more of a vertex's parents is subdivided, its record changes as the rule
+-- says (`update-split`), and none of these records tears the subdivision (`accept-split`). The direction k′ that is filled is k + 4t for parent t.
 -- `look-..` what a record says when it is there · `splits-..` what a degree says of the parents.
 -- Assumes nothing.
 use mathlib.Core.Path.{_≡_, refl, sym, ap}
@@ -64,9 +64,12 @@ module _ (p : Point) (k b k′ : ℕ) (h : k < 4) where
   -- so it is for each parent t: s tells which were subdivided before, s′ which after
   pub update-split : (s s′ : ℕ → Bool) (t : ℕ) → t < 3 → k % 2 ≡ b % 2 → k′ ≡ k + 4 * t → s t ≡ false → s′ t ≡ true → ((u : ℕ) → u < 3 → u ≢ t → s′ u ≡ s u)
       → updateOf k′ (bySplits p (s 0) (s 1) (s 2) k b (suc b)) ≡ bySplits p (s′ 0) (s′ 1) (s′ 2) k b (suc b)
-  update-split s s′ zero l e z off on rest = rw (off, on, rest 1 (omega arith) (omega arith), rest 2 (omega arith) (omega arith)) (update0 (s 1) (s 2) e (omega arith))
-  update-split s s′ (suc zero) l e z off on rest = rw (off, on, rest 0 (omega arith) (omega arith), rest 2 (omega arith) (omega arith)) (update1 (s 0) (s 2) e z)
-  update-split s s′ (suc (suc zero)) l e z off on rest = rw (off, on, rest 0 (omega arith) (omega arith), rest 1 (omega arith) (omega arith)) (update2 (s 0) (s 1) e z)
+  update-split s s′ zero l e z off on rest = rw (off, on, rest 1 (omega arith) (omega arith), rest 2 (omega arith) (omega arith))
+      (update0 (s 1) (s 2) e (omega arith))
+  update-split s s′ (suc zero) l e z off on rest = rw (off, on, rest 0 (omega arith) (omega arith), rest 2 (omega arith) (omega arith))
+      (update1 (s 0) (s 2) e z)
+  update-split s s′ (suc (suc zero)) l e z off on rest = rw (off, on, rest 0 (omega arith) (omega arith), rest 1 (omega arith) (omega arith))
+      (update2 (s 0) (s 1) e z)
   update-split s s′ (suc (suc (suc t))) l e z off on rest = absurd (omega arith)
 
   pub accept-split : (s : ℕ → Bool) (t m : ℕ) → t < 3 → k′ ≡ k + 4 * t → s t ≡ false → acceptsOf k′ b (bySplits p (s 0) (s 1) (s 2) k b m) ≡ true
@@ -160,7 +163,8 @@ look-update false i p s s′ r k′ h u = absurd (Option·none-ne-some r h)
 look-update true false p s s′ r k′ h u = let e : r ≡ vertex p 0 0 0 = cc in rw e
 look-update true true p s s′ r k′ h u = let e : s ≡ r = cc in rw (← u, e)
 
-pub look-accept : (i : Bool) (p : Point) (s : Record) (k′ n : ℕ) → acceptsOf k′ n s ≡ true → (r : Record) × (look true i p s ≡ some r) × (acceptsOf k′ n r ≡ true)
+pub look-accept : (i : Bool) (p : Point) (s : Record) (k′ n : ℕ) → acceptsOf k′ n s ≡ true
+    → (r : Record) × (look true i p s ≡ some r) × (acceptsOf k′ n r ≡ true)
 unfolding look acceptsOf
 look-accept true p s k′ n h = (s, refl, h)
 look-accept false p s k′ n h = (vertex p 0 0 0, refl, refl)

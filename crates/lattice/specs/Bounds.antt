@@ -1,6 +1,6 @@
 -- How large a numerator gets: what the functions below the public calls ask for, and where it comes from.
--- `Small` numerators that a sum of two points can take · `Hex n` the hexagon of radius n round 0, kept by a turn · `small-range`, `small-near` a vertex, and a point
--- near 0, are small.
+-- `Small` numerators that a sum of two points can take · `Hex n` the hexagon of radius n round 0, kept by a turn ·
+-- `small-range`, `small-near` a vertex, and a point near 0, are small.
 -- Assumes nothing.
 use mathlib.Core.Path.{_≡_, sym, _∙_, ap, subst}
 use Prim.Native.Nat.{ℕ, _+_, _*_, _≤_, _-_, _^_, _/_}
@@ -84,7 +84,8 @@ small-near p h d = record { depth = d; wide = low-small (natAbs (p .a)) (p .m .0
 range-small : (n m : ℕ) → m ≤ 6 → n ≤ 251 * 3 ^ m → n * 3 ^ (7 - m) ≤ 1000000000
 range-small n m d h =
     let f : m + (7 - m) ≡ 7 = omega arith in
-    let e : 251 * 3 ^ m * 3 ^ (7 - m) ≡ 251 * 3 ^ 7 = mul-assoc 251 (3 ^ m) (3 ^ (7 - m)) ∙ ap (λ (k : ℕ). 251 * k) (sym (pow-add 3 m (7 - m)) ∙ ap (λ (k : ℕ). 3 ^ k) f) in
+    let e : 251 * 3 ^ m * 3 ^ (7 - m) ≡ 251 * 3 ^ 7 = mul-assoc 251 (3 ^ m) (3 ^ (7 - m))
+    ∙ ap (λ (k : ℕ). 251 * k) (sym (pow-add 3 m (7 - m)) ∙ ap (λ (k : ℕ). 3 ^ k) f) in
     le-trans (mul-le-mul-right (3 ^ (7 - m)) h) (subst (λ (k : ℕ). k ≤ 1000000000) (sym e) (lit≤ tt))
 
 pub small-range : (p : Point) → p .m .0 ≤ 6 → natAbs (p .a) ≤ 251 * 3 ^ p .m .0 → natAbs (p .b) ≤ 251 * 3 ^ p .m .0 → Small p

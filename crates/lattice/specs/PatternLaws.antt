@@ -1,5 +1,6 @@
 -- The laws of orientations and pattern points, each over degree and orientation, by one test over the table.
--- `orient-even`, `orient-odd` an orientation by turns · `hex-orient`, `orient-depth` how far and how deep · `adjacent-close`, `first-close`, `second-close` the bounds of the pattern points ·
+-- `orient-even`, `orient-odd` an orientation by turns · `hex-orient`, `orient-depth` how far and how deep ·
+-- `adjacent-close`, `first-close`, `second-close` the bounds of the pattern points ·
 -- `adjacent-near`, `first-near`, `second-near` the same at any orientation and level.
 -- Assumes nothing.
 use mathlib.Core.Path.{_≡_, refl, ap, subst}
@@ -8,7 +9,7 @@ use native.Mathlib.Omega.{arith}
 use lib.IntN.{_+ℤ_, natAbs}
 use Rattle.laws.specs.Rules.{Test, _≤?_, _&_, Means, _⇒_, rule2}
 use Rattle.lattice.specs.declared.patterns.Spot.the-variants.{At, Nothing}
-use Rattle.lattice.specs.Patterns.{orient, Row, three, four, five, six, rowsOf, patternOf, onSpot, adjacentOf, firstOf, secondOf}
+use Rattle.lattice.specs.Patterns.{orient, Row, three, four, five, six, rowsOf, patternOf, onSpot, adjacentOf, firstOppositeOf, secondOppositeOf}
 use Rattle.lattice.specs.Bounds.{Hex, hex-turn60, hex-turn30, Near}
 use Rattle.lattice.specs.Points.{turn60Of, turn30Of, turns}
 use Rattle.lattice.specs.declared.points.Point.{Point}
@@ -88,10 +89,10 @@ module _ (r : Record) (i : Inner r) (j : ℕ) (h : j < r .d) where
   pub adjacent-near : Near (r .n) (adjacentOf (r .d) (r .k) j)
   adjacent-near = close-near (r .k) (r .n) (adjacent-close (r .d) j (i .low) (i .top) h) (i .parity) (i .level)
 
-  pub first-near : Near (r .n) (firstOf (r .d) (r .k) j)
+  pub first-near : Near (r .n) (firstOppositeOf (r .d) (r .k) j)
   first-near = close-near (r .k) (r .n) (first-close (r .d) j (i .low) (i .top) h) (i .parity) (i .level)
 
-  pub second-near : (p : Point) → secondOf (r .d) (r .k) j ≡ At p → Near (r .n) p
+  pub second-near : (p : Point) → secondOppositeOf (r .d) (r .k) j ≡ At p → Near (r .n) p
   second-near p e = go (patternOf (r .d) j .second) refl e
     where
       go : (s : Spot) → patternOf (r .d) j .second ≡ s → onSpot (orient (r .k)) s ≡ At p → Near (r .n) p

@@ -1,5 +1,5 @@
 -- Document 01, "The twelve directions": the star patterns, as adjacent | first opposite | second opposite, and how they turn.
--- What the promises cite: `adjacentOf`, `firstOf`, `secondOf` at a degree d, an orientation k and a place j.
+-- What the promises cite: `adjacentOf`, `firstOppositeOf`, `secondOppositeOf` at a degree d, an orientation k and a place j.
 -- Assumes nothing.
 use mathlib.Core.List.{List, [], _∷_}
 use Prim.Native.Nat.{ℕ, zero, suc}
@@ -95,8 +95,8 @@ orient (suc (suc k)) p = turn60Of (orient k p)
 abbrev pub adjacentOf : ℕ → ℕ → ℕ → Point
 adjacentOf d k j = orient k (patternOf d j .adjacent)
 
-abbrev pub firstOf : ℕ → ℕ → ℕ → Point
-firstOf d k j = orient k (patternOf d j .first)
+abbrev pub firstOppositeOf : ℕ → ℕ → ℕ → Point
+firstOppositeOf d k j = orient k (patternOf d j .first)
 
-abbrev pub secondOf : ℕ → ℕ → ℕ → Spot
-secondOf d k j = onSpot (orient k) (patternOf d j .second)
+abbrev pub secondOppositeOf : ℕ → ℕ → ℕ → Spot
+secondOppositeOf d k j = onSpot (orient k) (patternOf d j .second)

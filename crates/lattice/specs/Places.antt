@@ -1,6 +1,7 @@
 -- A point's place in the plane, as whole numbers at one common depth: what laws on points are proved by.
--- Two normalised points with one place are one point (`unique`), and the place of a sum is the sum of the places (`sum-wide`, `sum-high`); so a law on points is two linear
--- equations of whole numbers. `normal-place`, `normal-low`, `normal-depth` normalising · `sum-assoc`, `sum-away` sums · `turn60-wide`, `turn60-high` turns.
+-- Two normalised points with one place are one point (`unique`), and the place of a sum is the sum of the places (`sum-wide`, `sum-high`); so a law on
+-- points is two linear equations of whole numbers. `normal-place`, `normal-low`, `normal-depth` normalising · `sum-assoc`, `sum-away` sums ·
+-- `turn60-wide`, `turn60-high` turns.
 -- Assumes nothing.
 use mathlib.Core.Path.{_≡_, refl, sym, _∙_, ap, subst}
 use mathlib.Core.Bool.{Bool, true, false, cond, _&&_}
@@ -47,7 +48,8 @@ normal-place a b (suc m) D h =
     go (by3 a && by3 b) refl r
   where
     go : (t : Bool) → by3 a && by3 b ≡ t →
-        (wide D (normalOf (quotZ a (pos 3)) (quotZ b (pos 3)) m) ≡ lift (quotZ a (pos 3)) m D) × (high D (normalOf (quotZ a (pos 3)) (quotZ b (pos 3)) m) ≡ lift (quotZ b (pos 3)) m D) →
+        (wide D (normalOf (quotZ a (pos 3)) (quotZ b (pos 3)) m) ≡ lift (quotZ a (pos 3)) m D)
+        × (high D (normalOf (quotZ a (pos 3)) (quotZ b (pos 3)) m) ≡ lift (quotZ b (pos 3)) m D) →
         (wide D (cond t (normalOf (quotZ a (pos 3)) (quotZ b (pos 3)) m) (pt a b (suc m))) ≡ lift a (suc m) D)
         × (high D (cond t (normalOf (quotZ a (pos 3)) (quotZ b (pos 3)) m) (pt a b (suc m))) ≡ lift b (suc m) D)
     go true e r = let z = both-zero a b e in (r .0 ∙ third-lift a m D h (z .0), r .1 ∙ third-lift b m D h (z .1))
@@ -91,7 +93,8 @@ multiple x y m n D h k e =
     let t = n - suc m in
     let d : n - m ≡ suc t = omega arith in
     let f : lift x m n ≡ y = cancel (lift x m n) y (3 ^ (D - n)) (pow-over (D - n)) (lift-lift x m n D (omega arith) k ∙ e) in
-    let g : x *ℤ pos (3 ^ t) *ℤ pos 3 ≡ y = mul-mul x (3 ^ t) 3 ∙ ap (λ (j : ℕ). x *ℤ pos j) (mul-comm (3 ^ t) 3 ∙ sym (pow-succ' 3 t) ∙ ap (λ (j : ℕ). 3 ^ j) (sym d)) ∙ f in
+    let g : x *ℤ pos (3 ^ t) *ℤ pos 3 ≡ y = mul-mul x (3 ^ t) 3
+    ∙ ap (λ (j : ℕ). x *ℤ pos j) (mul-comm (3 ^ t) 3 ∙ sym (pow-succ' 3 t) ∙ ap (λ (j : ℕ). 3 ^ j) (sym d)) ∙ f in
     subst (λ (z : ℤ). natAbs z % 3 ≡ 0) g (third-mod (x *ℤ pos (3 ^ t)))
 
 both-by3 : (x y : ℤ) → natAbs x % 3 ≡ 0 → natAbs y % 3 ≡ 0 → by3 x && by3 y ≡ true
@@ -122,7 +125,8 @@ unfolding normalOf
 normal-low a b zero = record { low = λ h. absurd (omega arith) }
 normal-low a b (suc m) = go (by3 a && by3 b) refl (normal-low (quotZ a (pos 3)) (quotZ b (pos 3)) m)
   where
-    go : (t : Bool) → by3 a && by3 b ≡ t → Low (normalOf (quotZ a (pos 3)) (quotZ b (pos 3)) m) → Low (cond t (normalOf (quotZ a (pos 3)) (quotZ b (pos 3)) m) (pt a b (suc m)))
+    go : (t : Bool) → by3 a && by3 b ≡ t → Low (normalOf (quotZ a (pos 3)) (quotZ b (pos 3)) m)
+        → Low (cond t (normalOf (quotZ a (pos 3)) (quotZ b (pos 3)) m) (pt a b (suc m)))
     go true e r = r
     go false e r = record { low = λ h. e }
 
@@ -131,7 +135,8 @@ unfolding normalOf
 normal-depth a b zero = omega arith
 normal-depth a b (suc m) = go (by3 a && by3 b) (normal-depth (quotZ a (pos 3)) (quotZ b (pos 3)) m)
   where
-    go : (t : Bool) → normalOf (quotZ a (pos 3)) (quotZ b (pos 3)) m .m .0 ≤ m → cond t (normalOf (quotZ a (pos 3)) (quotZ b (pos 3)) m) (pt a b (suc m)) .m .0 ≤ suc m
+    go : (t : Bool) → normalOf (quotZ a (pos 3)) (quotZ b (pos 3)) m .m .0 ≤ m
+        → cond t (normalOf (quotZ a (pos 3)) (quotZ b (pos 3)) m) (pt a b (suc m)) .m .0 ≤ suc m
     go true r = omega arith
     go false r = omega arith
 

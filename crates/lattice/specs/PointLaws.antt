@@ -1,16 +1,17 @@
 -- The laws of points, of normalising and of turns.
--- `alike`, `alike-eq` two points are one, as a test · `normal-step`, `normal-stop`, `normal-zero` one step of normalising · `turns-suc`, `turns-zero`, `turns-three` turns · `turn30-twice` the 30 degree rule twice.
+-- `alike`, `alike-eq` two points are one, as a test · `normal-step`, `normal-stop`, `normal-zero` one step of normalising ·
+-- `turns-suc`, `turns-zero`, `turns-three` turns.
 -- Assumes nothing.
-use mathlib.Core.Path.{_≡_, refl, _∙_}
+use mathlib.Core.Path.{_≡_, refl}
 use mathlib.Core.Bool.{true, false, _&&_}
 use Prim.Native.Nat.{ℕ, zero, suc, _+_, _<_, _-_}
 use native.Mathlib.Omega.{arith}
-use lib.IntN.{ℤ, negℤ, pos, _+ℤ_, _*ℤ_, *ℤ-comm}
+use lib.IntN.{ℤ, negℤ, pos}
 use lib.Signed.{quotZ}
 use native.Mathlib.Numerals.{add-one}
 use Rattle.laws.specs.Rules.{Test, _≡?_, _≡ᶻ?_, _&_, Means}
-use Rattle.laws.specs.Linear.{same, ‵, _⊕_, _⊝_, ⊟, _⊗_}
-use Rattle.lattice.specs.Points.{pt, by3, normalOf, turn60Of, turn30Of, turns}
+use Rattle.laws.specs.Linear.{same, ‵, _⊕_, ⊟}
+use Rattle.lattice.specs.Points.{pt, by3, normalOf, turn60Of, turns}
 use Rattle.lattice.specs.declared.points.Point.{Point}
 
 abbrev pub alike : Point → Point → Test
@@ -51,12 +52,3 @@ turns-three p =
     let e₂ = ⊟ f₁ in let f₂ = e₁ ⊕ f₁ in
     let e₃ = ⊟ f₂ in let f₃ = e₂ ⊕ f₂ in
     λ i. pt (same e₃ (⊟ a) (omega arith) i) (same f₃ (⊟ b) (omega arith) i) (p .m .0)
-
--- the 30 degree rule twice is a turn of 60 degrees, and a third
-pub turn30-twice : (p : Point) → turn30Of (turn30Of p) ≡ pt (negℤ (p .b) *ℤ pos 3) ((p .a +ℤ p .b) *ℤ pos 3) (p .m .0 + 1 + 1)
-turn30-twice p =
-    let a = ‵ (p .a) in
-    let b = ‵ (p .b) in
-    let e₁ = a ⊝ b in let f₁ = a ⊕ 2 ⊗ b in
-    let e₂ = e₁ ⊝ f₁ in let f₂ = e₁ ⊕ 2 ⊗ f₁ in
-    λ i. pt ((same e₂ (3 ⊗ ⊟ b) (omega arith) ∙ *ℤ-comm (pos 3) (negℤ (p .b))) i) ((same f₂ (3 ⊗ (a ⊕ b)) (omega arith) ∙ *ℤ-comm (pos 3) (p .a +ℤ p .b)) i) (p .m .0 + 1 + 1)

@@ -1,4 +1,5 @@
--- Document 01, "Points". What the promises cite: `normalOf`, `turn60Of`, `turn30Of`, `sumOf`, `normalAt`; `pt` writes a point, `by3` is what normalising asks, `classOf` what a base asks.
+-- Document 01, "Points". What the promises cite: `normalOf`, `turn60Of`, `turn30Of`, `sumOf`, `normalAt`; `pt` writes a point, `by3` is what normalising
+-- asks, `classOf` what a base asks.
 -- Assumes nothing.
 use mathlib.Core.Bool.{Bool, cond, _&&_, not, _||_}
 use Prim.Native.Nat.{ℕ, zero, suc, _+_, _%_, _-_, _^_, max}

@@ -1,5 +1,6 @@
 -- Bounds and parities of ranks, what the code of ranks needs.
--- `rank-top`, `birth-below`, `birth-parity` · `move-place` a direction is a place of the degree 6 pattern · `move-near` a step can be taken · `move-depth` how deep it ends.
+-- `rank-top`, `birth-below`, `birth-parity` · `move-place` a direction is a place of the degree 6 pattern · `move-near` a step can be taken ·
+-- `move-depth` how deep it ends.
 -- Assumes nothing.
 use mathlib.Core.Path.{_≡_}
 use mathlib.Core.Bool.{Bool, true, false, cond}
@@ -7,13 +8,13 @@ use Prim.Native.Nat.{ℕ, _+_, _*_, _%_, _/_, _≤_, _<_, _-_, max}
 use native.Mathlib.Omega.{arith}
 use native.Mathlib.Decide.{ℕ-discrete}
 use lib.Dec.{eqb, lit≤}
-use borrow.Author.Tests.{eq-eqb, ne-eqb, lt-ltb, le-ltb}
+use borrow.Author.Tests.{eq-eqb, ne-eqb}
 use lib.IntN.{pos}
 use Rattle.laws.specs.Rules.{rule}
 use Rattle.laws.specs.Residue.{modZ}
 use Rattle.lattice.specs.Stars.{scaleOf}
 use Rattle.lattice.specs.Points.{classOf}
-use Rattle.lattice.specs.Ranks.{rankOf, birthOf, level, moveOf, parentOf, creatorOf}
+use Rattle.lattice.specs.Ranks.{rankOf, birthOf, level, moveOf, parentOf}
 use Rattle.lattice.specs.PointLaws.{alike, alike-eq}
 use Rattle.lattice.specs.Patterns.{three, four, five, six, rowsOf, patternOf, orient, adjacentOf}
 use Rattle.lattice.specs.Places.{sum-depth}
@@ -103,25 +104,3 @@ unfolding parentOf
 parent-depth p t h =
     let e : (birthOf p + 4 * t) % 2 ≡ (rankOf p - 1) % 2 = omega (arith, birth-parity p) in
     omega (arith, move-depth p (birthOf p + 4 * t) (rankOf p - 1) e, rank-top p)
-
--- the creator is the first parent of lesser rank, the third where it is neither of the others
-module _ (p : Point) where
-  abbrev early : ℕ → Type 0
-  early t = rankOf (parentOf p t) < rankOf p - 1
-
-  pub creator-0 : early 0 → parentOf p 0 ≡ creatorOf p
-  unfolding creatorOf
-  creator-0 h = simp (lt-ltb (rankOf (parentOf p 0)) (rankOf p - 1) h)
-
-  pub creator-1 : (early 0 → ⊥) → early 1 → parentOf p 1 ≡ creatorOf p
-  unfolding creatorOf
-  creator-1 n h =
-      let l : rankOf p - 1 ≤ rankOf (parentOf p 0) = omega arith in
-      simp (le-ltb (rankOf (parentOf p 0)) (rankOf p - 1) l, lt-ltb (rankOf (parentOf p 1)) (rankOf p - 1) h)
-
-  pub creator-2 : (early 0 → ⊥) → (early 1 → ⊥) → parentOf p 2 ≡ creatorOf p
-  unfolding creatorOf
-  creator-2 n m =
-      let l : rankOf p - 1 ≤ rankOf (parentOf p 0) = omega arith in
-      let k : rankOf p - 1 ≤ rankOf (parentOf p 1) = omega arith in
-      simp (le-ltb (rankOf (parentOf p 0)) (rankOf p - 1) l, le-ltb (rankOf (parentOf p 1)) (rankOf p - 1) k)

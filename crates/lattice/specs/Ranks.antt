@@ -1,6 +1,7 @@
 -- The points of a grown mesh by their numbers: when a point can first be subdivided, how it is turned at birth, and whose subdivisions make it.
 -- These are ours, for the floors above; document 01 has none of them. A grown mesh is told by them (docs, the model).
--- `rankOf` the least level at which the point can be subdivided · `birthOf` its orientation when it enters, of degree 3 · `moveOf` one step in one of the twelve directions ·
+-- `rankOf` the least level at which the point can be subdivided · `birthOf` its orientation when it enters, of degree 3 ·
+-- `moveOf` one step in one of the twelve directions ·
 -- `parentOf` the three neighbours it has at birth · `creatorOf` the one of them whose subdivision enters it.
 -- Assumes nothing.
 use Prim.Native.Nat.{ℕ, _+_, _*_, _-_}

@@ -1,5 +1,5 @@
--- What a valid record has: `Inner` of degree 3 to 6, and `inner`, which reads it off validity; `inner-small` it can be stepped from · `valid-turn`, `valid-level` the
--- most that orientation and level are, boundary vertices included.
+-- What a valid record has: `Inner` of degree 3 to 6, and `inner`, which reads it off validity; `inner-small` it can be stepped from ·
+-- `valid-turn`, `valid-level` the most that orientation and level are, boundary vertices included.
 -- Assumes nothing.
 use mathlib.Core.Path.{_≡_}
 use Prim.Native.Nat.{ℕ, _*_, _%_, _≤_, _<_, _^_}

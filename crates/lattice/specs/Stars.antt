@@ -6,7 +6,7 @@ use lib.Dec.{eqb, ltb}
 use mathlib.Core.Bool.{cond}
 use mathlib.Core.List.{[], _∷_}
 use lib.IntN.{pos}
-use Rattle.lattice.specs.Patterns.{onSpot, adjacentOf, firstOf, secondOf}
+use Rattle.lattice.specs.Patterns.{onSpot, adjacentOf, firstOppositeOf, secondOppositeOf}
 use Rattle.lattice.specs.Records.{validOf}
 use Rattle.lattice.specs.Points.{pt, sumOf}
 use Rattle.lattice.specs.declared.points.Point.{Point}
@@ -27,10 +27,10 @@ abbrev pub adjacentAt : Record → ℕ → Point
 adjacentAt r j = stepOf (r .at) (r .n) (adjacentOf (r .d) (r .k) j)
 
 abbrev pub firstAt : Record → ℕ → Point
-firstAt r j = stepOf (r .at) (r .n) (firstOf (r .d) (r .k) j)
+firstAt r j = stepOf (r .at) (r .n) (firstOppositeOf (r .d) (r .k) j)
 
 abbrev pub secondAt : Record → ℕ → Spot
-secondAt r j = onSpot (stepOf (r .at) (r .n)) (secondOf (r .d) (r .k) j)
+secondAt r j = onSpot (stepOf (r .at) (r .n)) (secondOppositeOf (r .d) (r .k) j)
 
 -- ---- the star call
 abbrev pub nowhere : Point

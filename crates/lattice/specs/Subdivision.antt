@@ -1,5 +1,6 @@
 -- Document 01, "Subdivision of v (d 6, orientation k, level n)", record by record: what becomes of v, of its old adjacent vertices, and what enters.
--- No mesh is needed to say it; the floor `mesh` says where these records stand. `centreOf`, `bornOf`, `newOf`, `backOf`, `updateOf` · `acceptsOf` the part of "Torn" that one record decides.
+-- No mesh is needed to say it; the floor `mesh` says where these records stand. `centreOf`, `bornOf`, `newOf`, `backOf`, `updateOf` ·
+-- `acceptsOf` the part of "Torn" that one record decides.
 -- Assumes nothing.
 use mathlib.Core.Bool.{Bool, true, false, cond, _&&_, _||_}
 use Prim.Native.Nat.{ℕ, _+_, _*_, _%_}

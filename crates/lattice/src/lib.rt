@@ -2,7 +2,9 @@
 // directions", and "Subdivision" record by record.
 //
 // Two public calls answer every input: `normalise` and `star`. The other functions serve the proved floors above and ask for bounds.
-// The promises cite specs/: Points, Records, Patterns, Stars, Subdivision, and Ranks for the model of grown meshes; what is asked of bounds is in Bounds and RecordLaws.
+// The promises cite specs/: Points, Records, Patterns, Stars, Subdivision, and Ranks for the model of grown meshes; what is asked of bounds is in Bounds
+// and RecordLaws.
+mod numbers;
 mod patterns;
 mod points;
 mod ranks;
@@ -10,16 +12,28 @@ mod records;
 mod stars;
 mod updates;
 
+pub use numbers::BAD_LIST;
+pub use numbers::BOUNDARY;
+pub use numbers::DONE;
+pub use numbers::LAST_LEVEL;
+pub use numbers::NO_RECORD;
+pub use numbers::NO_ROOM;
+pub use numbers::NOT_ABOVE;
+pub use numbers::NOT_GROWN;
+pub use numbers::NOT_IN_ORDER;
+pub use numbers::NOT_SIX;
+pub use numbers::NOT_VALID;
+pub use numbers::REDUNDANT;
+pub use numbers::SHORT;
+pub use numbers::TOO_DEEP;
+pub use numbers::TORN;
 pub use patterns::Spot;
 pub use points::Depth;
 pub use points::Point;
 pub use points::normalise;
-pub use points::sum;
-pub use points::turn30;
 pub use points::turn60;
 pub use ranks::birth;
 pub use ranks::class;
-pub use ranks::creator;
 pub use ranks::moved;
 pub use ranks::parent;
 pub use ranks::rank;
@@ -32,7 +46,6 @@ pub use stars::first_of;
 pub use stars::refuse;
 pub use stars::second_of;
 pub use stars::star;
-pub use stars::stepped;
 pub use updates::accepts;
 pub use updates::back;
 pub use updates::born;

@@ -1,7 +1,7 @@
 // The star patterns at orientation 0, a constant table for each degree, and their turns: document 01, "The twelve directions".
 ghost use mathlib.Core.Path.{_≡_};
 ghost use Prim.Native.Nat.{_≤_, _<_};
-ghost use Rattle.lattice.specs.Patterns.{patternOf, orient, adjacentOf, firstOf, secondOf};
+ghost use Rattle.lattice.specs.Patterns.{patternOf, orient, adjacentOf, firstOppositeOf, secondOppositeOf};
 ghost use Rattle.lattice.specs.Bounds.{Hex};
 ghost use Rattle.lattice.specs.Rows.{placeOf, pointOf};
 use crate::points::Depth;
@@ -160,7 +160,7 @@ pub fn adjacent(d: u8, k: u8, j: u8) -> Point
 // The first opposite of corner j.
 pub fn first(d: u8, k: u8, j: u8) -> Point
     requires { ⌜ (3 ≤ d) × ((d ≤ 6) × (j < d)) ⌝ }
-    ensures { λ r. ⌜ r ≡ firstOf d k j ⌝ }
+    ensures { λ r. ⌜ r ≡ firstOppositeOf d k j ⌝ }
 {
     oriented(point(pattern(d, j).1), k)
 }
@@ -168,7 +168,7 @@ pub fn first(d: u8, k: u8, j: u8) -> Point
 // The second opposite of corner j, or none.
 pub fn second(d: u8, k: u8, j: u8) -> Spot
     requires { ⌜ (3 ≤ d) × ((d ≤ 6) × (j < d)) ⌝ }
-    ensures { λ r. ⌜ r ≡ secondOf d k j ⌝ }
+    ensures { λ r. ⌜ r ≡ secondOppositeOf d k j ⌝ }
 {
     let p = pattern(d, j).2;
     if p.2 == NO_DEPTH {

@@ -4,7 +4,7 @@ ghost use Prim.Native.Nat.{_+_, _%_, _≤_, _<_};
 ghost use Rattle.laws.specs.Residue.{modZ};
 ghost use Rattle.lattice.specs.Bounds.{Small};
 ghost use Rattle.lattice.specs.Points.{classOf};
-ghost use Rattle.lattice.specs.Ranks.{rankOf, birthOf, moveOf, parentOf, creatorOf};
+ghost use Rattle.lattice.specs.Ranks.{rankOf, birthOf, moveOf, parentOf};
 use crate::patterns::adjacent;
 use crate::points::Point;
 use crate::records::Level;
@@ -26,22 +26,22 @@ pub fn class(p: Point) -> u8
 }
 
 // The least level at which the point can be subdivided.
-pub fn rank(p: Point) -> u8
+pub fn rank(p: Point) -> Level
     requires { ⌜ p .m .0 ≤ 7 ⌝ }
-    ensures { λ r. ⌜ r ≡ rankOf p ⌝ }
+    ensures { λ r. ⌜ r .0 ≡ rankOf p ⌝ }
 {
     let m = p.m.0;
     let c = class(p);
     if m == 0 {
         if c == 1 {
-            return 0;
+            return Level(0);
         }
-        return 1;
+        return Level(1);
     }
     if c == 0 {
-        return 2 * m;
+        return Level(2 * m);
     }
-    2 * m + 1
+    Level(2 * m + 1)
 }
 
 // The orientation of the point when it enters a mesh.
@@ -69,11 +69,11 @@ pub fn birth(p: Point) -> u8
 }
 
 // From p, the step of level i in direction e.
-pub fn moved(p: Point, e: u8, i: u8) -> Point
-    requires { ⌜ Small p × ((e < 12) × ((i ≤ 12) × (e % 2 ≡ i % 2))) ⌝ }
-    ensures { λ r. ⌜ r ≡ moveOf p e i ⌝ }
+pub fn moved(p: Point, e: u8, i: Level) -> Point
+    requires { ⌜ Small p × ((e < 12) × ((i .0 ≤ 12) × (e % 2 ≡ i .0 % 2))) ⌝ }
+    ensures { λ r. ⌜ r ≡ moveOf p e (i .0) ⌝ }
 {
-    stepped(p, Level(i), adjacent(6, e % 2, e / 2))
+    stepped(p, i, adjacent(6, e % 2, e / 2))
 }
 
 // Parent t of a point that has parents.
@@ -81,22 +81,5 @@ pub fn parent(p: Point, t: u8) -> Point
     requires { ⌜ Small p × ((p .m .0 ≤ 6) × ((0 < rankOf p) × (t < 3))) ⌝ }
     ensures { λ r. ⌜ r ≡ parentOf p t ⌝ }
 {
-    moved(p, birth(p) + 4 * t, rank(p) - 1)
-}
-
-// The parent whose subdivision enters the point.
-pub fn creator(p: Point) -> Point
-    requires { ⌜ Small p × ((p .m .0 ≤ 6) × (0 < rankOf p)) ⌝ }
-    ensures { λ r. ⌜ r ≡ creatorOf p ⌝ }
-{
-    let i = rank(p) - 1;
-    let q = parent(p, 0);
-    if rank(q) < i {
-        return q;
-    }
-    let s = parent(p, 1);
-    if rank(s) < i {
-        return s;
-    }
-    parent(p, 2)
+    moved(p, birth(p) + 4 * t, Level(rank(p).0 - 1))
 }

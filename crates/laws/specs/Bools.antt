@@ -1,7 +1,6 @@
 -- Truth values: what a conjunction and an implication say.
--- `and-left`, `and-right`, `and-both` · `then-of`, `of-then` · `bool-is` two truth values that imply each other are equal.
+-- `and-left`, `and-right`, `and-both` · `then-of`, `of-then`.
 -- Assumes nothing.
-use mathlib.Core.Path.{_≡_, refl}
 use mathlib.Core.Bool.{Bool, true, false, _&&_, not, _||_}
 use lib.Dec.{T}
 
@@ -24,9 +23,3 @@ then-of false t h k = absurd k
 pub of-then : (s t : Bool) → (T s → T t) → T (not s || t)
 of-then true t h = h tt
 of-then false t h = tt
-
-pub bool-is : (s t : Bool) → (T s → T t) → (T t → T s) → s ≡ t
-bool-is true true f g = refl
-bool-is true false f g = absurd (f tt)
-bool-is false true f g = absurd (g tt)
-bool-is false false f g = refl

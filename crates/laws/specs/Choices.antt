@@ -1,5 +1,6 @@
 -- Truth values again: a disjunction, and what a test is when it passes or fails.
--- `or-split`, `or-left`, `or-right` · `is-true`, `is-false`, `of-true` a test as an equation · `apart` it is not both · `when-true`, `when-false` a conditional.
+-- `or-split`, `or-left`, `or-right` · `is-true`, `is-false`, `of-true` a test as an equation · `apart` it is not both ·
+-- `when-true`, `when-false` a conditional · `unless` a refusal.
 -- Assumes nothing.
 use mathlib.Core.Path.{_≡_, refl, sym, subst}
 use mathlib.Core.Logic.{_⊎_, inl, inr}
@@ -39,3 +40,7 @@ when-true false x y h = absurd h
 pub when-false : {A : Type 0} (b : Bool) (x y : A) → (T b → ⊥) → cond b x y ≡ y
 when-false true x y h = absurd (h tt)
 when-false false x y h = refl
+
+-- refusals one under the other, in the order of their numbers: where the test fails this answer, else what stands below
+abbrev pub unless : {A : Type 0} → Bool → A → A → A
+unless passed refusal rest = cond passed rest refusal

@@ -1,13 +1,12 @@
 -- A test of each number below n, or of one of them, as an equation of truth values: `upto` and `among` of Rules.
--- `upto-more`, `upto-fails` a loop's one step · `upto-each`, `each-upto` what it says · `among-at`, `at-among` the same of `among` · `both-left`, `both-right`, `and-false` conjunctions · `not-both`, `never` true
--- is not false · `true-fact`, `fact-true` the same as `T` · `same-test` two tests that pass together are one.
+-- `upto-more`, `upto-fails` a loop's one step · `upto-each`, `each-upto` what it says · `among-at`, `at-among` the same of `among` ·
+-- `both-left`, `both-right`, `and-false` conjunctions · `not-both`, `never` true is not false · `same-test` two tests that pass together are one.
 -- Assumes nothing.
 use mathlib.Core.Path.{_≡_, refl, sym, _∙_, ap}
 use mathlib.Core.Bool.{Bool, true, false, _&&_, _||_}
 use Prim.Native.Nat.{ℕ, zero, suc, _+_, _<_}
 use native.Mathlib.Omega.{arith}
 use native.Mathlib.Decide.{decLt}
-use lib.Dec.{T}
 use Rattle.laws.specs.Rules.{upto, among}
 
 pub not-both : {b : Bool} → b ≡ true → b ≡ false → ⊥
@@ -74,14 +73,6 @@ at-among P (suc n) i h e = go (P n) refl (λ l. at-among P n i l e)
         last : Dec (i < n) → i < n
         last (yes l) = l
         last (no l) = let q : n ≡ i = omega arith in absurd (not-both (ap P q ∙ e) f)
-
--- the same as a fact, `T` of lib.Dec
-pub true-fact : (b : Bool) → b ≡ true → T b
-true-fact b h = rw h tt
-
-pub fact-true : (b : Bool) → T b → b ≡ true
-fact-true true h = refl
-fact-true false h = absurd h
 
 -- two tests that pass together are one
 pub same-test : (a b : Bool) → (a ≡ true → b ≡ true) → (b ≡ true → a ≡ true) → a ≡ b

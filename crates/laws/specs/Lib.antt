@@ -15,7 +15,8 @@ pub mod Bools
 pub mod Choices
 pub mod Rules
 pub mod Each
--- lists and bytes: Sets, Stores, Words, Bits
+-- lists and bytes: Some, Sets, Stores, Words, Bits
+pub mod Some
 pub mod Sets
 pub mod Stores
 pub mod Words

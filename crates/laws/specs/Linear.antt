@@ -1,15 +1,12 @@
--- Linear equations and orders of whole numbers, shown on natural ones: an expression `Exp` has a value, and two parts that `omega` computes with.
--- `same e f (omega arith)` the values of e and f are equal · `told-≡`, `told-≤`, `told-<` what such a fact says of the parts · `show-≤`, `show-<` the way back · `fits-val`.
+-- Linear equations of whole numbers, shown on natural ones: an expression `Exp` has a value, and two parts that `omega` computes with.
+-- `same e f (omega arith)` the values of e and f are equal · `told-≡` what such a fact says of the parts.
 -- Assumes nothing.
 use mathlib.Core.Path.{_≡_, refl, sym, _∙_, ap}
-use Prim.Native.Nat.{ℕ, _+_, _*_, _≤_, _<_, _-_, _^_}
+use Prim.Native.Nat.{ℕ, _+_, _*_, _-_}
 use native.Mathlib.Omega.{arith}
 use lib.IntN.{ℤ, negℤ, pos, _+ℤ_, _*ℤ_, _-ℤ_}
-use lib.Signed.{mag, _≤ℤ_, _<ℤ_}
-use mir.Val.{SFits, hbits}
-use mir.Syntax.{Width}
 use native.Mathlib.Nat.{mul-add}
-use Rattle.laws.specs.Parts.{apart, mag-is, eqℤ, add-is, up-neg, dn-neg, up-times, dn-times, of-≤, of-<, to-≤, to-<, up, dn, minus-is}
+use Rattle.laws.specs.Parts.{eqℤ, add-is, up-neg, dn-neg, up-times, dn-times, up, dn, minus-is}
 
 infixl 6 _⊕_ _⊝_
 infixl 7 _⊗_
@@ -56,28 +53,3 @@ same e f h = eqℤ (val e) (val f) (omega (arith, is-val e, is-val f))
 -- what an equation, or an order, of two values says of natural numbers
 pub told-≡ : (e f : Exp) → val e ≡ val f → hi e + lo f ≡ hi f + lo e
 told-≡ e f h = omega (arith, is-val e, is-val f, ap up h, ap dn h)
-
-pub told-≤ : (e f : Exp) → val e ≤ℤ val f → hi e + lo f ≤ hi f + lo e
-told-≤ e f h = omega (arith, is-val e, is-val f, of-≤ h)
-
-pub told-< : (e f : Exp) → val e <ℤ val f → hi e + lo f < hi f + lo e
-told-< e f h = omega (arith, is-val e, is-val f, of-< h)
-
-pub show-≤ : (e f : Exp) → hi e + lo f ≤ hi f + lo e → val e ≤ℤ val f
-show-≤ e f h = to-≤ (val e) (val f) (omega (arith, is-val e, is-val f))
-
-pub show-< : (e f : Exp) → hi e + lo f < hi f + lo e → val e <ℤ val f
-show-< e f h = to-< (val e) (val f) (omega (arith, is-val e, is-val f))
-
--- a bound on both parts bounds the value: the two parts need not be apart
-pub up-val : (e : Exp) → up (val e) ≤ hi e
-up-val e = omega (arith, is-val e, apart (val e))
-
-pub dn-val : (e : Exp) → dn (val e) ≤ lo e
-dn-val e = omega (arith, is-val e, apart (val e))
-
-pub fits-val : (w : Width) (e : Exp) → hi e < 2 ^ hbits w → lo e ≤ 2 ^ hbits w → SFits w (val e)
-fits-val w e p q = record { sfits = below (mag (val e)) (up (val e)) (dn (val e)) (2 ^ hbits w) (mag-is (val e)) (apart (val e)) (omega (arith, up-val e)) (omega (arith, dn-val e)) }
-  where
-    below : (m u d c : ℕ) → m ≡ u + (d - 1) → u - d ≡ u → u < c → d ≤ c → m < c
-    below m u d c e a p q = omega arith

@@ -1,7 +1,8 @@
--- What the machine computes on signed integers, against what is meant. A local holds bits: an operation reads its operands through `toZ w` and writes its result through `ofZ w`.
--- `Mx w` is an expression as the code has it, each leaf with what is known of its size; `run` is its bits, `ideal` the whole number that is meant, and `fine` a test that antt
--- computes: by the leaves' bounds no step leaves the range. Where it passes (`tt`), `back` says that the two agree, `need` that the last step fits, `lt-taken` and its kin what a
--- branch tells, `asked` what a callee answers on a parameter that is handed on.
+-- What the machine computes on signed integers, against what is meant. A local holds bits: an operation reads its operands through `toZ w` and writes
+-- its result through `ofZ w`.
+-- `Mx w` is an expression as the code has it, each leaf with what is known of its size; `run` is its bits, `ideal` the whole number that is meant, and
+-- `fine` a test that antt computes: by the leaves' bounds no step leaves the range. Where it passes (`tt`), `back` says that the two agree, `need` that
+-- the last step fits, `lt-taken` and its kin what a branch tells, `asked` what a callee answers on a parameter that is handed on.
 -- Assumes nothing.
 use mathlib.Core.Path.{_≡_, refl, sym, _∙_, subst, ap}
 use mathlib.Core.Bool.{Bool, true, false, _&&_}
@@ -24,7 +25,8 @@ pub data Mx : Width → Type 0 where
   any : {w : Width} (z : ℤ) → SFits w z → Mx w  -- a number of which only its type is known
   whole : {w : Width} (z : ℤ) (b : ℕ) → natAbs z ≤ b → Mx w  -- a parameter, a field, a literal or a call's result, and a bound
   held : {w : Width} (n : ℕ) (b : ℕ) → natAbs (toZ w n) ≤ b → Mx w  -- a variable of a loop: its bits, and a bound
-  value : {w : Width} (n : ℕ) (z : ℤ) (b : ℕ) → toZ w n ≡ z → natAbs z ≤ b → Mx w  -- bits that are known to be z, as those of an expression with a better bound than its parts give
+  value : {w : Width} (n : ℕ) (z : ℤ) (b : ℕ) → toZ w n ≡ z → natAbs z ≤ b
+      → Mx w  -- bits that are known to be z, as those of an expression with a better bound than its parts give
   _+ᵐ_ _-ᵐ_ _*ᵐ_ : {w : Width} → Mx w → Mx w → Mx w
   _/ᵐ_ _%ᵐ_ : {w : Width} → Mx w → ℕ → Mx w  -- the quotient and the remainder by a literal
   quot-by rem-by : {w : Width} → Mx w → (k : ℕ) → k < 2 ^ hbits w → Mx w  -- by a number that was cast from an unsigned one
@@ -150,9 +152,12 @@ back (any {w} z f) t = toZ-ofZ w z f
 back (whole {w} z b h) t = toZ-ofZ w z (ideal-fits (whole z b h) t)
 back (held n b h) t = refl
 back (value n z b e h) t = e
-back (_+ᵐ_ {w} e f) t = again w (λ i. back e (first (ltb (bound e + bound f) (2 ^ hbits w)) (fine e) (fine f) t) i +ℤ back f (second (ltb (bound e + bound f) (2 ^ hbits w)) (fine e) (fine f) t) i) (ideal-fits (e +ᵐ f) t)
-back (_-ᵐ_ {w} e f) t = again w (λ i. back e (first (ltb (bound e + bound f) (2 ^ hbits w)) (fine e) (fine f) t) i -ℤ back f (second (ltb (bound e + bound f) (2 ^ hbits w)) (fine e) (fine f) t) i) (ideal-fits (e -ᵐ f) t)
-back (_*ᵐ_ {w} e f) t = again w (λ i. back e (first (ltb (bound e * bound f) (2 ^ hbits w)) (fine e) (fine f) t) i *ℤ back f (second (ltb (bound e * bound f) (2 ^ hbits w)) (fine e) (fine f) t) i) (ideal-fits (e *ᵐ f) t)
+back (_+ᵐ_ {w} e f) t = again w (λ i. back e (first (ltb (bound e + bound f) (2 ^ hbits w)) (fine e) (fine f) t) i +ℤ back f
+    (second (ltb (bound e + bound f) (2 ^ hbits w)) (fine e) (fine f) t) i) (ideal-fits (e +ᵐ f) t)
+back (_-ᵐ_ {w} e f) t = again w (λ i. back e (first (ltb (bound e + bound f) (2 ^ hbits w)) (fine e) (fine f) t) i -ℤ back f
+    (second (ltb (bound e + bound f) (2 ^ hbits w)) (fine e) (fine f) t) i) (ideal-fits (e -ᵐ f) t)
+back (_*ᵐ_ {w} e f) t = again w (λ i. back e (first (ltb (bound e * bound f) (2 ^ hbits w)) (fine e) (fine f) t) i *ℤ back f
+    (second (ltb (bound e * bound f) (2 ^ hbits w)) (fine e) (fine f) t) i) (ideal-fits (e *ᵐ f) t)
 back (_/ᵐ_ {w} e k) t = again w (λ i. quotZ (back e t i) (pos k)) (ideal-fits (e /ᵐ k) t)
 back (_%ᵐ_ {w} e k) t = again w (λ i. remZ (back e t i) (pos k)) (ideal-fits (e %ᵐ k) t)
 back (quot-by {w} e k h) t = again w (λ i. quotZ (back e t i) (toZ-pos w k h i)) (ideal-fits (quot-by e k h) t)
@@ -165,9 +170,12 @@ meant (any z f) t = refl
 meant (whole z b h) t = refl
 meant (held n b h) t = refl
 meant (value n z b e h) t = refl
-meant (_+ᵐ_ {w} e f) t = λ i. back e (first (ltb (bound e + bound f) (2 ^ hbits w)) (fine e) (fine f) t) i +ℤ back f (second (ltb (bound e + bound f) (2 ^ hbits w)) (fine e) (fine f) t) i
-meant (_-ᵐ_ {w} e f) t = λ i. back e (first (ltb (bound e + bound f) (2 ^ hbits w)) (fine e) (fine f) t) i -ℤ back f (second (ltb (bound e + bound f) (2 ^ hbits w)) (fine e) (fine f) t) i
-meant (_*ᵐ_ {w} e f) t = λ i. back e (first (ltb (bound e * bound f) (2 ^ hbits w)) (fine e) (fine f) t) i *ℤ back f (second (ltb (bound e * bound f) (2 ^ hbits w)) (fine e) (fine f) t) i
+meant (_+ᵐ_ {w} e f) t = λ i. back e (first (ltb (bound e + bound f) (2 ^ hbits w)) (fine e) (fine f) t) i +ℤ back f
+    (second (ltb (bound e + bound f) (2 ^ hbits w)) (fine e) (fine f) t) i
+meant (_-ᵐ_ {w} e f) t = λ i. back e (first (ltb (bound e + bound f) (2 ^ hbits w)) (fine e) (fine f) t) i -ℤ back f
+    (second (ltb (bound e + bound f) (2 ^ hbits w)) (fine e) (fine f) t) i
+meant (_*ᵐ_ {w} e f) t = λ i. back e (first (ltb (bound e * bound f) (2 ^ hbits w)) (fine e) (fine f) t) i *ℤ back f
+    (second (ltb (bound e * bound f) (2 ^ hbits w)) (fine e) (fine f) t) i
 meant (e /ᵐ k) t = λ i. quotZ (back e t i) (pos k)
 meant (e %ᵐ k) t = λ i. remZ (back e t i) (pos k)
 meant (quot-by {w} e k h) t = λ i. quotZ (back e t i) (toZ-pos w k h i)
@@ -183,17 +191,11 @@ up-only (pos n) h = tt
 up-only (negsuc n) h = absurd (omega arith)
 
 -- a cast to an unsigned type, of a number that is not negative: what it asks, and what it gives
-pub need-nat : {w : Width} (v : Width) (e : Mx w) → T (fine e) → T (ltb (bound e) (2 ^ bits v)) → dn (ideal e) ≡ 0 → T (nonNeg (toZ w (run e))) × Fits v (natAbs (toZ w (run e)))
+pub need-nat : {w : Width} (v : Width) (e : Mx w) → T (fine e) → T (ltb (bound e) (2 ^ bits v)) → dn (ideal e) ≡ 0
+    → T (nonNeg (toZ w (run e))) × Fits v (natAbs (toZ w (run e)))
 need-nat {w} v e t u h =
-    subst (λ (z : ℤ). T (nonNeg z) × Fits v (natAbs z)) (sym (back e t)) (up-only (ideal e) h, record { fits = lt-of-le-of-lt (sized e) (ltb→lt (bound e) (2 ^ bits v) u) })
-
--- the same, where the bound is a fact and no test
-pub need-nat-by : {w : Width} (v : Width) (e : Mx w) → T (fine e) → natAbs (ideal e) < 2 ^ bits v → dn (ideal e) ≡ 0 → T (nonNeg (toZ w (run e))) × Fits v (natAbs (toZ w (run e)))
-need-nat-by {w} v e t u h = subst (λ (z : ℤ). T (nonNeg z) × Fits v (natAbs z)) (sym (back e t)) (up-only (ideal e) h, record { fits = u })
-
--- what `%` by such a number asks: the quotient
-pub need-rem : {w : Width} (e : Mx w) (k : ℕ) (h : k < 2 ^ hbits w) → T (fine e) → SFits w (quotZ (toZ w (run e)) (toZ w k))
-need-rem e k h t = need (quot-by e k h) t
+    subst (λ (z : ℤ). T (nonNeg z) × Fits v (natAbs z)) (sym (back e t))
+    (up-only (ideal e) h, record { fits = lt-of-le-of-lt (sized e) (ltb→lt (bound e) (2 ^ bits v) u) })
 
 -- what a branch tells, of the numbers that are meant
 module _ {w : Width} (e f : Mx w) (t : T (fine e)) (u : T (fine f)) where
@@ -222,6 +224,3 @@ asked₂ {w} {x = x} {y = y} f h k e = sym (λ i. f (toZ-ofZ w x h i) (toZ-ofZ w
 -- the flag of a comparison, where a contract speaks of it
 pub lt-flag : {w : Width} (e f : Mx w) → T (fine e) → T (fine f) → ltZ (toZ w (run e)) (toZ w (run f)) ≡ ltZ (ideal e) (ideal f)
 lt-flag e f t u = λ i. ltZ (back e t i) (back f u i)
-
-pub le-flag : {w : Width} (e f : Mx w) → T (fine e) → T (fine f) → leZ (toZ w (run e)) (toZ w (run f)) ≡ leZ (ideal e) (ideal f)
-le-flag e f t u = λ i. leZ (back e t i) (back f u i)

@@ -1,10 +1,10 @@
 -- Multiples by a number that need not be a literal, and thirds.
--- `mul-mul`, `add-times`, `neg-times`, `cancel`, `distrib` · `thrice` a multiple of 3 is three times its third · `third-mod` three times a number is a multiple of 3.
+-- `mul-mul`, `add-times`, `neg-times`, `cancel` · `thrice` a multiple of 3 is three times its third · `third-mod` three times a number is a multiple of 3.
 -- Assumes nothing.
 use mathlib.Core.Path.{_≡_, sym, _∙_, ap}
-use Prim.Native.Nat.{ℕ, suc, _+_, _*_, _%_, _<_}
+use Prim.Native.Nat.{ℕ, _+_, _*_, _%_, _<_}
 use native.Mathlib.Omega.{arith}
-use lib.IntN.{ℤ, negℤ, pos, negsuc, _+ℤ_, _*ℤ_, natAbs, negℤ-+ℤ, *ℤ-negsuc}
+use lib.IntN.{ℤ, negℤ, pos, _+ℤ_, _*ℤ_, natAbs}
 use native.Mathlib.Nat.{mul-assoc, add-mul, eq-of-mul-eq-mul-right}
 use lib.Signed.{quotZ}
 use Rattle.laws.specs.Parts.{apart, abs-is, up-dn-eq, eqℤ, add-is, up-neg, dn-neg, up-mul, dn-mul, up-quot, dn-quot, up, dn}
@@ -36,13 +36,6 @@ thrice x h =
 
 pub third-mod : (x : ℤ) → natAbs (x *ℤ pos 3) % 3 ≡ 0
 third-mod x = omega (arith, abs-is (x *ℤ pos 3), up-mul x 3, dn-mul x 3)
-
--- the product distributes, at either sign
-pub distrib : (x y z : ℤ) → (x +ℤ y) *ℤ z ≡ x *ℤ z +ℤ y *ℤ z
-distrib x y (pos k) = add-times x y k
-distrib x y (negsuc k) =
-    *ℤ-negsuc (x +ℤ y) k ∙ ap negℤ (add-times x y (suc k)) ∙ negℤ-+ℤ (x *ℤ pos (suc k)) (y *ℤ pos (suc k))
-    ∙ (λ i. sym (*ℤ-negsuc x k) i +ℤ sym (*ℤ-negsuc y k) i)
 
 pub neg-times : (x : ℤ) (k : ℕ) → negℤ x *ℤ pos k ≡ negℤ (x *ℤ pos k)
 neg-times x k =

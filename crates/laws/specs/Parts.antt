@@ -1,17 +1,18 @@
 -- A whole number by its two parts: z is up z - dn z, and one of the two is 0. `omega` knows natural numbers only, so a fact of whole numbers is handed to it
 -- as facts of parts.
--- `apart` one part is 0 · `abs-is`, `mag-is` sizes · `eqℤ`, `up-dn-eq` two numbers are equal by their parts · `add-is`, `minus-is`, `up-neg`, `dn-neg`, `up-mul`, `dn-mul`,
--- `up-times`, `dn-times`, `up-quot`, `dn-quot`, `up-rem`, `dn-rem` the operations (a quotient and a remainder go part by part, since both round toward zero) ·
+-- `apart` one part is 0 · `abs-is`, `mag-is` sizes · `eqℤ`, `up-dn-eq` two numbers are equal by their parts ·
+-- `add-is`, `minus-is`, `up-neg`, `dn-neg`, `up-mul`, `dn-mul`,
+-- `up-times`, `dn-times`, `up-quot`, `dn-quot` the operations (a quotient goes part by part, since it rounds toward zero) ·
 -- `of-≤`, `of-<`, `to-≤`, `to-<` the order · `lt-true`, `lt-false`, `le-true`, `le-false` what a flag says.
 -- Assumes nothing.
 use mathlib.Core.Path.{_≡_, refl, sym, _∙_, subst, ap}
 use mathlib.Core.Bool.{Bool, true, false, cond, not}
-use Prim.Native.Nat.{ℕ, zero, suc, _+_, _*_, _%_, _/_, _≤_, _<_, _-_}
+use Prim.Native.Nat.{ℕ, zero, suc, _+_, _*_, _/_, _≤_, _<_, _-_}
 use native.Mathlib.Omega.{arith}
 use lib.Dec.{ltb, T, ltb→lt, leb→le, nltb→le, lt→ltb, le→leb, nleb→lt}
 use lib.IntN.{ℤ, negℤ, pos, negsuc, _+ℤ_, _*ℤ_, subℕ, natAbs, _-ℤ_}
-use lib.Signed.{mag, quotZ, leZ, remZ, ltZ, _≤ℤ_, _<ℤ_}
-use native.Mathlib.Nat.{zero-mod, zero-mul, zero-div, mul-zero}
+use lib.Signed.{mag, quotZ, leZ, ltZ, _≤ℤ_, _<ℤ_}
+use native.Mathlib.Nat.{zero-mul, zero-div, mul-zero}
 
 abbrev pub up : ℤ → ℕ
 up (pos n) = n
@@ -49,7 +50,8 @@ eqℤ x y h = up-dn-eq x y (omega (arith, apart x, apart y)) (omega (arith, apar
 sub-is : (a b : ℕ) → up (subℕ a b) + b ≡ a + dn (subℕ a b)
 sub-is a b = go (ltb a b) (ltb→lt a b) (nltb→le a b)
   where
-    go : (t : Bool) → (T t → a < b) → (T (not t) → b ≤ a) → up (cond t (negsuc (b - suc a)) (pos (a - b))) + b ≡ a + dn (cond t (negsuc (b - suc a)) (pos (a - b)))
+    go : (t : Bool) → (T t → a < b) → (T (not t) → b ≤ a) → up (cond t (negsuc (b - suc a)) (pos (a - b))) + b ≡ a + dn
+        (cond t (negsuc (b - suc a)) (pos (a - b)))
     go true f g = let h : a < b = f tt in omega arith
     go false f g = let h : b ≤ a = g tt in omega arith
 
@@ -101,14 +103,6 @@ up-quot (negsuc a) k = up-negpos (suc a / k) ∙ sym (zero-div k)
 pub dn-quot : (x : ℤ) (k : ℕ) → dn (quotZ x (pos k)) ≡ dn x / k
 dn-quot (pos a) k = sym (zero-div k)
 dn-quot (negsuc a) k = dn-negpos (suc a / k)
-
-pub up-rem : (x : ℤ) (k : ℕ) → up (remZ x (pos k)) ≡ up x % k
-up-rem (pos a) k = refl
-up-rem (negsuc a) k = up-negpos (suc a % k) ∙ sym (zero-mod k)
-
-pub dn-rem : (x : ℤ) (k : ℕ) → dn (remZ x (pos k)) ≡ dn x % k
-dn-rem (pos a) k = sym (zero-mod k)
-dn-rem (negsuc a) k = dn-negpos (suc a % k)
 
 -- ---- the order
 le-parts : (x y : ℤ) → T (leZ x y) → up x + dn y ≤ up y + dn x

@@ -1,5 +1,6 @@
 -- The remainder on division that is never negative, `modZ`, and how it is had from the machine's, whose sign is the dividend's.
--- `mod-below` · `rem-neg`, `rem-pos` from the machine's remainder · `rem-asked`, `sum-cast`, `sum-is`, `rem-cast`, `rem-is` the same at 64 bits · `left3-parts`, `left3-plus`, `left3-minus` a number, a sum and a difference by 3.
+-- `mod-below` · `rem-neg`, `rem-pos` from the machine's remainder · `rem-asked`, `sum-cast`, `sum-is`, `rem-cast`, `rem-is` the same at 64 bits ·
+-- `left3-parts`, `left3-plus`, `left3-minus` a number, a sum and a difference by 3.
 -- Assumes nothing.
 use mathlib.Core.Path.{_≡_, refl, sym, _∙_, subst, ap}
 use mathlib.Core.Logic.{_⊎_, inl, inr, ⊎-elim}
@@ -88,7 +89,11 @@ module _ (s : ℤ) (n : ℕ) (f : SFits w64 s) (h : 0 < n) (m : n ≤ 65536) whe
   er′ = toZ-ofZ fr ∙ er
 
   pub rem-asked : (0 < n) × SFits w64 (quotZ S (toZ w64 n))
-  rem-asked = (h, subst (SFits w64) (sym (ap (λ (x : ℤ). quotZ x (toZ w64 n)) (toZ-ofZ f) ∙ ap (quotZ s) en)) (record { sfits = omega (arith, mag-quot s n, f .sfits) }))
+  rem-asked = (
+    h,
+    subst (SFits w64) (sym (ap (λ (x : ℤ). quotZ x (toZ w64 n)) (toZ-ofZ f) ∙ ap (quotZ s) en))
+        (record { sfits = omega (arith, mag-quot s n, f .sfits) }),
+  )
 
   module _ (t : ltZ R′ (pos 0) ≡ true) where
     esum : R′ +ℤ toZ w64 n ≡ pos (modZ s n)

@@ -1,5 +1,6 @@
 -- A rule that holds at each number below n, by one test that antt computes: `rule n f tt k h`. A `Test` computes (`run`) and says what it tests (`Means`).
--- `upto`, `upto-at` a plain truth value at each number below n, `among` at one of them · `Test`, `run`, `Means`, `sound`, `complete`, `rule` · `eqZ` equality of whole numbers as a test.
+-- `upto`, `upto-at` a plain truth value at each number below n, `among` at one of them · `Test`, `run`, `Means`, `sound`, `complete`, `rule` ·
+-- `eqZ` equality of whole numbers as a test.
 -- Assumes nothing.
 use mathlib.Core.Path.{_≡_, sym, subst}
 use mathlib.Core.Bool.{Bool, true, false, _&&_, not, _||_}

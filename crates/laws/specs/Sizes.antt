@@ -1,5 +1,6 @@
 -- Sizes of whole numbers: `natAbs` of each operation, and when a number fits a machine's signed type.
--- `abs-add`, `abs-sub`, `abs-neg`, `abs-mul`, `abs-times`, `abs-quot`, `abs-rem` · `fits`, `fits-size` a bound on the size is a fit, and back · `fits-quot`, `fits-rem`.
+-- `abs-add`, `abs-sub`, `abs-neg`, `abs-mul`, `abs-times`, `abs-quot`, `abs-rem` · `fits`, `fits-size` a bound on the size is a fit, and back ·
+-- `fits-quot`, `fits-rem`.
 -- Assumes nothing.
 use mathlib.Core.Path.{_≡_, refl}
 use Prim.Native.Nat.{ℕ, zero, suc, _+_, _*_, _%_, _/_, _≤_, _<_, _^_, zero-le}

@@ -1,5 +1,5 @@
 -- Remainders of whole numbers on division by 3 and by 9 (`modZ`, never negative), for sums and multiples.
--- `three-add`, `three-minus`, `nine-add` sums · `three-zero`, `zero-three` a remainder 0 is what normalising asks · `three-power`, `nine-thrice` multiples.
+-- `three-add`, `three-minus`, `nine-add` sums · `zero-three` a remainder 0 is what normalising asks · `three-power`, `nine-thrice` multiples.
 -- Assumes nothing.
 use mathlib.Core.Path.{_≡_, sym, _∙_, ap}
 use Prim.Native.Nat.{ℕ, suc, _+_, _*_, _%_, _/_, _<_, _-_, _^_}
@@ -77,10 +77,6 @@ nine-three z = ap (λ (n : ℕ). n % 3) (nine-is z) ∙ parts (up z) (dn z) ∙ 
 
 pub nine-below : (z : ℤ) → modZ z 9 < 9
 nine-below z = omega (arith, nine-is z)
-
-pub three-zero : (z : ℤ) → natAbs z % 3 ≡ 0 → modZ z 3 ≡ 0
-three-zero (pos n) h = h
-three-zero (negsuc n) h = omega arith
 
 pub zero-three : (z : ℤ) → modZ z 3 ≡ 0 → natAbs z % 3 ≡ 0
 zero-three (pos n) h = h

@@ -33,6 +33,7 @@ word-back u h =
     rw (e2, e3) (digits u (u / 256) (u / 256 / 256) (u / 256 / 256 / 256) (u % 256) (u / 256 % 256) (u / 256 / 256 % 256) (u / 256 / 256 / 256 % 256) p q r s)
 
 -- a word is its four bytes
-pub word-of : (t : List ℕ) (p a b c d : ℕ) → getD t p 0 ≡ a → getD t (p + 1) 0 ≡ b → getD t (p + 2) 0 ≡ c → getD t (p + 3) 0 ≡ d → wordAt t p ≡ a + 256 * b + 65536 * c + 16777216 * d
+pub word-of : (t : List ℕ) (p a b c d : ℕ) → getD t p 0 ≡ a → getD t (p + 1) 0 ≡ b → getD t (p + 2) 0 ≡ c → getD t (p + 3) 0 ≡ d
+    → wordAt t p ≡ a + 256 * b + 65536 * c + 16777216 * d
 unfolding wordAt
 word-of t p a b c d ea eb ec ed = rw (ea, eb, ec, ed)

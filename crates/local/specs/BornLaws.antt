@@ -1,5 +1,6 @@
 -- Which points have parents, and what valid records have.
--- `valid-depth`, `valid-small`, `valid-born` · `rank-deep`, `rank-centre` ranks by depth · `parent-corner` the parents of a centre are corners of it · `turn-even` the directions to hexagons.
+-- `valid-depth`, `valid-small`, `valid-born` · `rank-deep`, `rank-centre` ranks by depth · `parent-corner` the parents of a centre are corners of it
+-- · `turn-even` the directions to hexagons.
 -- Assumes nothing.
 use mathlib.Core.Path.{_≡_, refl, _∙_, ap}
 use mathlib.Core.Bool.{Bool, true, false, cond, _&&_}
@@ -39,7 +40,8 @@ module _ (r : Record) (h : validOf r ≡ true) where
   valid-small =
       small-range (r .at) valid-depth
       (leb-true (natAbs (r .at .a)) (251 * 3 ^ m) (both-left (within (r .at .a) m) (within (r .at .b) m && suits) sized))
-      (leb-true (natAbs (r .at .b)) (251 * 3 ^ m) (both-left (within (r .at .b) m) suits (both-right (within (r .at .a) m) (within (r .at .b) m && suits) sized)))
+      (leb-true (natAbs (r .at .b)) (251 * 3 ^ m)
+      (both-left (within (r .at .b) m) suits (both-right (within (r .at .a) m) (within (r .at .b) m && suits) sized)))
 
   pub valid-born : 0 < rankOf (r .at) → Born (r .at)
   valid-born l = record { small = valid-small; depth = valid-depth; rank = l }

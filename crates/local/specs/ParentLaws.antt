@@ -1,5 +1,5 @@
 -- What the parents say is what growth's tests ask, and how the code comes by it.
--- `parents-ranked` · `parents-there`, `parents-creator`, `parents-star`, `root-star` the tests of growth, by the parents ·
+-- `parents-shallow` · `parents-there`, `parents-creator`, `parents-star`, `root-star` the tests of growth, by the parents ·
 -- `told-six`, `told-fewer` what the parents say, by the number of those subdivided, `turn-most` · `creator-first`, `creator-second`, `creator-third`.
 -- Assumes nothing.
 use mathlib.Core.Path.{_≡_, refl, sym, _∙_, ap}
@@ -20,12 +20,12 @@ use Rattle.growth.specs.Model.{bySplits}
 use Rattle.growth.specs.Local.{there, over, starTest, expected}
 use Rattle.local.specs.Sheet.{sheetOf}
 use Rattle.local.specs.Rings.{one}
-use Rattle.local.specs.Parents.{Ranked, seenAt, parentsOf, split, allThere, creatorIn, creatorOver, splitsIn, sameStar, likeStar, toldIn}
+use Rattle.local.specs.Parents.{Shallow, seenAt, parentsOf, split, allThere, creatorIn, creatorOver, splitsIn, sameStar, likeStar, toldIn}
 use Rattle.local.specs.declared.parents.Parents.{Parents}
 
 module _ (t : List ℕ) (p : Point) where
-  pub parents-ranked : p .m .0 ≤ 6 → Ranked (parentsOf t p)
-  parents-ranked h = record { first = omega (arith, parent-depth p 0 h); second = omega (arith, parent-depth p 1 h) }
+  pub parents-shallow : p .m .0 ≤ 6 → Shallow (parentsOf t p)
+  parents-shallow h = record { first = omega (arith, parent-depth p 0 h); second = omega (arith, parent-depth p 1 h) }
 
   three : (x y z : Bool) → (x && y) && z ≡ z && (y && (x && true))
   three x y z = and-comm (x && y) z ∙ ap (λ (b : Bool). z && b) (and-comm x y ∙ ap (λ (b : Bool). y && b) (sym (and-true x)))
@@ -113,9 +113,11 @@ module _ (r : Record) (s : Parents) where
 
   pub told-six : splitsIn s below ≡ 7 → sameStar r 6 (r .n .0 % 2) (r .n .0) ≡ toldIn r s
   unfolding toldIn
-  told-six h = ap (likeStar r) (sym (all-split (r .at) (birthOf (r .at)) below (r .n .0) (split below (s .first)) (split below (s .second)) (split below (s .third)) h))
+  told-six h =
+      ap (likeStar r) (sym (all-split (r .at) (birthOf (r .at)) below (r .n .0) (split below (s .first)) (split below (s .second)) (split below (s .third)) h))
 
   pub told-fewer : (splitsIn s below ≡ 7 → ⊥)
       → sameStar r (getD degrees (splitsIn s below) 0) (birthOf (r .at) + getD turns (splitsIn s below) 0) below ≡ toldIn r s
   unfolding toldIn
-  told-fewer h = ap (likeStar r) (sym (some-split (r .at) (birthOf (r .at)) below (r .n .0) (split below (s .first)) (split below (s .second)) (split below (s .third)) h))
+  told-fewer h =
+      ap (likeStar r) (sym (some-split (r .at) (birthOf (r .at)) below (r .n .0) (split below (s .first)) (split below (s .second)) (split below (s .third)) h))

@@ -1,6 +1,7 @@
 -- The parents of a point as the code has them: each looked up once, for all the tests that ask them.
--- `Born` a point that has parents, `Ranked` the ranks of parents can be taken · `seenAt`, `parentsOf` what the table holds there · `allThere`, `creatorOver`, `toldIn` what the tests ask
--- of them, which are growth's own (specs/ParentLaws) · `splitsIn` which of them were subdivided, as a number · `sameStar`.
+-- `Born` a point that has parents, `Shallow` the ranks of parents can be taken · `seenAt`, `parentsOf` what the table holds there · `allThere`,
+-- `creatorOver`, `toldIn` what the tests ask of them, which are growth's own (specs/ParentLaws) · `splitsIn` which of them were subdivided, as a
+-- number · `sameStar`.
 -- Assumes nothing.
 use mathlib.Core.Bool.{Bool, cond, _&&_}
 use mathlib.Core.List.{List}
@@ -24,7 +25,7 @@ pub record Born (p : Point) : Type 0 where
   pub depth : p .m .0 ≤ 6
   pub rank : 0 < rankOf p
 
-pub record Ranked (s : Parents) : Type 0 where
+pub record Shallow (s : Parents) : Type 0 where
   pub first : s .first .at .m .0 ≤ 7
   pub second : s .second .at .m .0 ≤ 7
 
@@ -73,5 +74,6 @@ unfoldable pub toldIn : Record → Parents → Bool
 unfolding bySplits
 toldIn r s =
     likeStar r
-    (bySplits (r .at) (split (rankOf (r .at) - 1) (s .first)) (split (rankOf (r .at) - 1) (s .second)) (split (rankOf (r .at) - 1) (s .third)) (birthOf (r .at)) (rankOf (r .at) - 1)
+    (bySplits (r .at) (split (rankOf (r .at) - 1) (s .first))
+    (split (rankOf (r .at) - 1) (s .second)) (split (rankOf (r .at) - 1) (s .third)) (birthOf (r .at)) (rankOf (r .at) - 1)
     (r .n .0))

@@ -1,6 +1,7 @@
 -- The tests of a place, as the code decides them: by the parents, which serve two or three tests at once, and by the number of points there in a ring.
--- `first-fails`, `second-fails`, `third-decides` three tests in a row · `centre-boundary`, `centre-by`, `corner-by`, `deep-boundary`, `deep-by` the tests of a place with the star's ·
--- `place-deep`, `place-centre`, `place-corner`, `local-place` the whole · `six-other`, `six-low`, `six-high` what degree 6 asks.
+-- `first-fails`, `second-fails`, `third-decides` three tests in a row · `centre-boundary`, `centre-by`, `corner-by`, `deep-boundary`, `deep-by` the
+-- tests of a place with the star's · `place-deep`, `place-centre`, `place-corner`, `local-place` the whole · `six-other`, `six-low`, `six-high` what
+-- degree 6 asks.
 -- Assumes nothing.
 use mathlib.Core.Path.{_≡_, refl, sym, _∙_, ap}
 use mathlib.Core.Bool.{Bool, true, false, cond, _&&_, _||_, not, and-true, and-assoc, and-comm}
@@ -66,7 +67,8 @@ module _ (t : List ℕ) (r : Record) where
   corners m c =
       (λ i. ((there R (parent-corner p m c 0 i) && there R (parent-corner p m c 1 i)) && there R (parent-corner p m c 2 i))
       && ring-all (there R (moveOf p 2 0)) (there R (moveOf p 6 0)) (there R (moveOf p 10 0)) i)
-      ∙ sym (six-apart (there R (moveOf p 0 0)) (there R (moveOf p 2 0)) (there R (moveOf p 4 0)) (there R (moveOf p 6 0)) (there R (moveOf p 8 0)) (there R (moveOf p 10 0)))
+      ∙ sym (six-apart (there R (moveOf p 0 0)) (there R (moveOf p 2 0)) (there R (moveOf p 4 0))
+      (there R (moveOf p 6 0)) (there R (moveOf p 8 0)) (there R (moveOf p 10 0)))
 
   -- s, the parents as they were looked up, serves the tests of the place and of the star
   module _ (s : Parents) (e : s ≡ parentsOf t (r .at)) (d : r .d ≡ 0 → ⊥) where
@@ -93,7 +95,8 @@ module _ (t : List ℕ) (r : Record) where
       let e = turnOf (classOf p) in
       let z : e ≡ e + 0 = omega arith in
       sym (ring-corner (round e) (round (e + 4)) (round (e + 8)) (eqb (r .d) 0))
-      ∙ (λ i. (round (z i) || (round (e + 4) || round (e + 8))) && cond (round (e + 8) && (round (e + 4) && (round (z i) && true))) (not (eqb (r .d) 0)) (eqb (r .d) 0))
+      ∙ (λ i. (round (z i) || (round (e + 4) || round (e + 8)))
+      && cond (round (e + 8) && (round (e + 4) && (round (z i) && true))) (not (eqb (r .d) 0)) (eqb (r .d) 0))
 
   pub corner-by : ringed h (eqb (r .d) 0) && (eqb (r .d) 0 || starTest R r) ≡ starred (cornerTest R r) R r
   corner-by = ap (λ (b : Bool). starred b R r) corner-ring
@@ -115,7 +118,8 @@ module _ (R : Sheet) (r : Record) where
   pub local-place : placeTest R r && (not (eqb (r .d) 6) || sixTest R r) ≡ localTest R r
   unfolding placeTest localTest
   local-place =
-      and-assoc (cond (eqb (r .at .m .0) 0) (cond (eqb (classOf (r .at)) 0) (centreTest R r) (cornerTest R r)) (deepTest R r)) (eqb (r .d) 0 || starTest R r) (not (eqb (r .d) 6) || sixTest R r)
+      and-assoc (cond (eqb (r .at .m .0) 0) (cond (eqb (classOf (r .at)) 0) (centreTest R r) (cornerTest R r)) (deepTest R r))
+      (eqb (r .d) 0 || starTest R r) (not (eqb (r .d) 6) || sixTest R r)
 
   -- what degree 6 asks
   pub six-other : (r .d ≡ 6 → ⊥) → true ≡ not (eqb (r .d) 6) || sixTest R r

@@ -1,5 +1,7 @@
--- Three points round one, in every fourth direction, and how many of them are there: the hexagons round a corner, and the corners of a centre that are not its parents.
--- `one` · `ringOf` how many · `ring-all` all three · `ringed`, `ring-corner` what a corner asks, by that number · `ring-none`, `ring-boundary`, `ring-cut`, `ring-whole` its cases.
+-- Three points round one, in every fourth direction, and how many of them are there: the hexagons round a corner, and the corners of a centre that
+-- are not its parents.
+-- `one` · `ringOf` how many · `ring-all` all three · `ringed`, `ring-corner` what a corner asks, by that number · `ring-none`, `ring-boundary`,
+-- `ring-cut`, `ring-whole` its cases.
 -- Assumes nothing.
 use mathlib.Core.Path.{_≡_, refl, sym}
 use mathlib.Core.Bool.{Bool, true, false, cond, _&&_, _||_, not, and-true}

@@ -61,12 +61,14 @@ module _ (t : List ℕ) where
   pub some-more : (i : ℕ) → isSome (recordsBelow t i) || judgedAt t i .holds ≡ isSome (recordsBelow t (i + 1))
   unfolding judgedAt
   some-more i =
-      sym (ap isSome (records-more t i) ∙ some-append (recordsBelow t i) (listed (slotAt t i)) ∙ ap (λ (b : Bool). isSome (recordsBelow t i) || b) (judged-some (slotAt t i)))
+      sym (ap isSome (records-more t i) ∙ some-append (recordsBelow t i) (listed (slotAt t i))
+      ∙ ap (λ (b : Bool). isSome (recordsBelow t i) || b) (judged-some (slotAt t i)))
 
   pub pass-more : (i : ℕ) → passBelow i && judgedAt t i .passes ≡ passBelow (i + 1)
   unfolding judgedAt
   pass-more i =
-      sym (ap (allPass (sheetOf t)) (records-more t i) ∙ pass-append (sheetOf t) (recordsBelow t i) (listed (slotAt t i)) ∙ ap (λ (b : Bool). passBelow i && b) (judged-pass (slotAt t i)))
+      sym (ap (allPass (sheetOf t)) (records-more t i)
+      ∙ pass-append (sheetOf t) (recordsBelow t i) (listed (slotAt t i)) ∙ ap (λ (b : Bool). passBelow i && b) (judged-pass (slotAt t i)))
 
   -- a slot that fails, whatever comes after it
   later : (i k : ℕ) → judgedAt t i .passes ≡ false → passBelow (i + 1 + k) ≡ false
@@ -89,8 +91,10 @@ module _ (t : List ℕ) where
   pub passes-failed : (i : ℕ) → i < slotsOf t → judgedAt t i .passes ≡ false → false ≡ passesAll t
   passes-failed i h e =
       let z : slotsOf t ≡ i + 1 + (slotsOf t - (i + 1)) = omega arith in
-      sym (and-false (isSome (recordsOf t))) ∙ ap (λ (b : Bool). isSome (recordsOf t) && b) (sym (ap passBelow z ∙ later i (slotsOf t - (i + 1)) e)) ∙ all-passed
+      sym (and-false (isSome (recordsOf t)))
+      ∙ ap (λ (b : Bool). isSome (recordsOf t) && b) (sym (ap passBelow z ∙ later i (slotsOf t - (i + 1)) e)) ∙ all-passed
 
   pub passes-all : (k : ℕ) → k ≡ slotsOf t → passBelow k ≡ true → isSome (recordsBelow t k) ≡ passesAll t
   passes-all k e h =
-      sym (and-true (isSome (recordsBelow t k))) ∙ ap (λ (b : Bool). isSome (recordsBelow t k) && b) (sym h) ∙ ap (λ (k : ℕ). isSome (recordsBelow t k) && passBelow k) e ∙ all-passed
+      sym (and-true (isSome (recordsBelow t k)))
+      ∙ ap (λ (b : Bool). isSome (recordsBelow t k) && b) (sym h) ∙ ap (λ (k : ℕ). isSome (recordsBelow t k) && passBelow k) e ∙ all-passed

@@ -25,14 +25,14 @@ fn six_passes(t: &[u8], r: Record, n: usize) -> bool
     if r.d != 6 {
         return true;
     }
-    if r.n.0 < rank(p) {
+    if r.n.0 < rank(p).0 {
         return false;
     }
     adjacents_there(t, r, n)
 }
 
 // The test of one valid record, in a table of n slots.
-pub fn passes(t: &[u8], r: Record, n: usize) -> bool
+fn passes(t: &[u8], r: Record, n: usize) -> bool
     requires { ⌜ Table (now t) n × (validOf r ≡ true) ⌝ }
     ensures { λ v. ⌜ v ≡ localTest (sheetOf (now (t .entry))) r ⌝ }
 {

@@ -9,15 +9,16 @@ ghost use Rattle.growth.specs.Local.{isThere, isOver, there};
 ghost use Rattle.table.specs.Slots.{Table};
 ghost use Rattle.local.specs.Sheet.{asOption, sheetOf};
 ghost use Rattle.local.specs.Rings.{one, ringOf};
+use lattice::Level;
 use lattice::Point;
 use lattice::Record;
 use lattice::adjacent_of;
 use lattice::moved;
 use table::Looked;
-use table::look_up;
+use table::is_there;
 
 // A record was found.
-pub fn is_there(l: Looked) -> bool
+pub fn is_held(l: Looked) -> bool
     ensures { λ r. ⌜ r ≡ isThere (asOption l) ⌝ }
 {
     match l {
@@ -36,14 +37,6 @@ pub fn is_over(l: Looked, b: u8) -> bool
     }
 }
 
-// A point is there.
-fn has(t: &[u8], p: Point, n: usize) -> bool
-    requires { ⌜ Table (now t) n ⌝ }
-    ensures { λ r. ⌜ r ≡ there (sheetOf (now (t .entry))) p ⌝ }
-{
-    is_there(look_up(t, p, n))
-}
-
 // 1 for true, 0 for false.
 pub fn bit(b: bool) -> u8
     ensures { λ r. ⌜ (r ≡ one b) × (r ≤ 1) ⌝ }
@@ -52,24 +45,15 @@ pub fn bit(b: bool) -> u8
 }
 
 // How many of three points are there: those one unit from p in direction e and in every fourth from it on.
-pub fn ring(t: &[u8], p: Point, e: u8, n: usize) -> u8
+pub fn ring_count(t: &[u8], p: Point, e: u8, n: usize) -> u8
     requires { ⌜ Table (now t) n ⌝ }
     requires { ⌜ Small p × ((e < 4) × (e % 2 ≡ 0)) ⌝ }
     ensures { λ r. ⌜ (r ≡ ringOf (sheetOf (now (t .entry))) p e) × (r ≤ 3) ⌝ }
 {
-    let x = has(t, moved(p, e, 0), n);
-    let y = has(t, moved(p, e + 4, 0), n);
-    let z = has(t, moved(p, e + 8, 0), n);
+    let x = is_there(t, moved(p, e, Level(0)), n);
+    let y = is_there(t, moved(p, e + 4, Level(0)), n);
+    let z = is_there(t, moved(p, e + 8, Level(0)), n);
     bit(x) + bit(y) + bit(z)
-}
-
-// The adjacent point at place j is there.
-fn adjacent_there(t: &[u8], r: Record, j: u8, n: usize) -> bool
-    requires { ⌜ Table (now t) n ⌝ }
-    requires { ⌜ Inner r × (j < r .d) ⌝ }
-    ensures { λ v. ⌜ v ≡ there (sheetOf (now (t .entry))) (adjacentAt r j) ⌝ }
-{
-    has(t, adjacent_of(r, j), n)
 }
 
 // All six adjacents of a record of degree 6 are there.
@@ -80,7 +64,7 @@ pub fn adjacents_there(t: &[u8], r: Record, n: usize) -> bool
 {
     let mut j: u8 = 0;
     while j < 6 {
-        if adjacent_there(t, r, j, n) {
+        if is_there(t, adjacent_of(r, j), n) {
             j += 1;
         } else {
             return false;

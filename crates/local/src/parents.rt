@@ -3,10 +3,10 @@ ghost use mathlib.Core.Path.{_≡_};
 ghost use Prim.Native.Nat.{_≤_, _<_};
 ghost use Rattle.lattice.specs.Ranks.{rankOf};
 ghost use Rattle.table.specs.Slots.{Table};
-ghost use Rattle.local.specs.Parents.{Born, Ranked, parentAt, parentsOf, seen, split, allThere, creatorIn, creatorOver, splitsIn, sameStar, toldIn};
+ghost use Rattle.local.specs.Parents.{Born, Shallow, parentAt, parentsOf, seen, split, allThere, creatorIn, creatorOver, splitsIn, sameStar, toldIn};
 use crate::lookups::bit;
+use crate::lookups::is_held;
 use crate::lookups::is_over;
-use crate::lookups::is_there;
 use lattice::Point;
 use lattice::Record;
 use lattice::birth;
@@ -60,7 +60,7 @@ fn is_seen(s: Seen) -> bool
     ensures { λ r. ⌜ r ≡ seen s ⌝ }
 {
     let l = s.held;
-    is_there(l)
+    is_held(l)
 }
 
 // It was subdivided at level b.
@@ -80,16 +80,16 @@ pub fn all_there(s: Parents) -> bool
 
 // The creator of p: the first parent that could be subdivided a level earlier still.
 fn creator_in(p: Point, s: Parents) -> Seen
-    requires { ⌜ (p .m .0 ≤ 6) × ((0 < rankOf p) × Ranked s) ⌝ }
+    requires { ⌜ (p .m .0 ≤ 6) × ((0 < rankOf p) × Shallow s) ⌝ }
     ensures { λ r. ⌜ r ≡ creatorIn p s ⌝ }
 {
-    let b = rank(p) - 1;
+    let b = rank(p).0 - 1;
     let first = s.first;
-    if rank(first.at) < b {
+    if rank(first.at).0 < b {
         return first;
     }
     let second = s.second;
-    if rank(second.at) < b {
+    if rank(second.at).0 < b {
         return second;
     }
     s.third
@@ -97,10 +97,10 @@ fn creator_in(p: Point, s: Parents) -> Seen
 
 // The creator of p was subdivided at the level that enters p.
 pub fn creator_over(p: Point, s: Parents) -> bool
-    requires { ⌜ (p .m .0 ≤ 6) × ((1 < rankOf p) × Ranked s) ⌝ }
+    requires { ⌜ (p .m .0 ≤ 6) × ((1 < rankOf p) × Shallow s) ⌝ }
     ensures { λ r. ⌜ r ≡ creatorOver p s ⌝ }
 {
-    is_split(creator_in(p, s), rank(p) - 2)
+    is_split(creator_in(p, s), rank(p).0 - 2)
 }
 
 // Which parents were subdivided at level b: the first counts 1, the second 2, the third 4.
@@ -131,7 +131,7 @@ pub fn as_told(r: Record, s: Parents) -> bool
 {
     let p = r.at;
     let n = r.n.0;
-    let b = rank(p) - 1;
+    let b = rank(p).0 - 1;
     let i = splits(s, b);
     if i == ALL {
         return same_star(r, 6, n % 2, n);

@@ -8,7 +8,7 @@ ghost use Rattle.growth.specs.Local.{centreTest, cornerTest, deepTest, starTest
 ghost use Rattle.table.specs.Slots.{Table};
 ghost use Rattle.local.specs.Sheet.{sheetOf};
 ghost use Rattle.local.specs.Places.{starred, placeTest, turnOf};
-use crate::lookups::ring;
+use crate::lookups::ring_count;
 use crate::parents::all_there;
 use crate::parents::as_told;
 use crate::parents::creator_over;
@@ -25,7 +25,7 @@ fn star_passes(t: &[u8], r: Record, n: usize) -> bool
 {
     let p = r.at;
     let level = r.n.0;
-    if rank(p) == 0 {
+    if rank(p).0 == 0 {
         return same_star(r, 6, level % 2, level);
     }
     as_told(r, parents_of(t, p, n))
@@ -45,7 +45,7 @@ fn centre_passes(t: &[u8], r: Record, n: usize) -> bool
     if !all_there(s) {
         return false;
     }
-    if ring(t, p, 2, n) != 3 {
+    if ring_count(t, p, 2, n) != 3 {
         return false;
     }
     as_told(r, s)
@@ -66,7 +66,7 @@ fn corner_passes(t: &[u8], r: Record, n: usize) -> bool
 {
     let p = r.at;
     let d = r.d;
-    let h = ring(t, p, turn(class(p)), n);
+    let h = ring_count(t, p, turn(class(p)), n);
     if h == 0 {
         return false;
     }

@@ -1,5 +1,6 @@
 -- How many points of a list a table holds. What the promise cites: `lookupsOf`.
--- `pointAt` a point of the list · `heldTo` how many of the first ones are there, `held-none`, `held-more` none, and one more, `one-most` no more than one · `lookups-fit`, `lookups-unfit` by the table's length.
+-- `pointAt` a point of the list · `heldTo` how many of the first ones are there, `held-none`, `held-more` none, and one more, `one-most` no more than
+-- one · `lookups-fit`, `lookups-unfit` by the table's length.
 -- Assumes nothing.
 use mathlib.Core.Path.{_≡_, refl, sym, ap, _∙_}
 use mathlib.Core.Bool.{Bool, true, false, cond}

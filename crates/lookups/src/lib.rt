@@ -9,8 +9,7 @@ ghost use Rattle.table.specs.Entries.{holds};
 ghost use Rattle.lookups.specs.Lookups.{one, pointAt, lookupsOf};
 use lattice::Depth;
 use lattice::Point;
-use table::Looked;
-use table::look_up;
+use table::is_there;
 use table::slots_of;
 
 // Point i of a list of points of depth m.
@@ -24,14 +23,11 @@ fn point_at(points: &[i32], m: u8, i: usize) -> Point
 }
 
 // 1 where a point is in the table, else 0.
-fn held(t: &[u8], p: Point, n: usize) -> u64
+fn one_if_there(t: &[u8], p: Point, n: usize) -> u64
     requires { ⌜ Table (now t) n ⌝ }
     ensures { λ r. ⌜ r ≡ one (holds (now (t .entry)) p) ⌝ }
 {
-    match look_up(t, p, n) {
-        Looked::Absent => 0,
-        Looked::Held(_) => 1,
-    }
+    if is_there(t, p, n) { 1 } else { 0 }
 }
 
 // How many of the points a, b, a, b, .. of depth m, normalised, the table holds; 0 where its length is no table's.
@@ -48,7 +44,7 @@ pub extern "C" fn fb_lookups(table: &[u8], points: &[i32], m: u8) -> u64
     let mut i = 0;
     while i < count {
         let p = point_at(points, m, i);
-        found += held(table, p, n);
+        found += one_if_there(table, p, n);
         i += 1;
     }
     found

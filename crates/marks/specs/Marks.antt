@@ -1,5 +1,6 @@
 -- Marks: one bit for each of many places, eight places a byte.
--- `markedAt` a place is marked · `Marks m P u` u marks what m does, and the places at which P passes: `marks-false`, `marks-same`, `marks-more` one after the other, `marks-there`, `marks-set` one place ·
+-- `markedAt` a place is marked · `Marks m P u` u marks what m does, and the places at which P passes: `marks-false`, `marks-same`, `marks-more` one
+-- after the other, `marks-there`, `marks-set` one place ·
 -- `marked-none` bytes of 0 mark nothing.
 -- Assumes nothing.
 use mathlib.Core.Path.{_≡_, refl, sym, ap, _∙_}
@@ -37,10 +38,12 @@ or-assoc true b c = refl
 or-assoc false b c = refl
 
 -- one number more
-pub marks-more : (m u w : List ℕ) (P : ℕ → ℕ → Bool) (k : ℕ) → Marks m (λ i. among k (λ j. P j i)) u → Marks u (P k) w → Marks m (λ i. among (k + 1) (λ j. P j i)) w
+pub marks-more : (m u w : List ℕ) (P : ℕ → ℕ → Bool) (k : ℕ) → Marks m (λ i. among k (λ j. P j i)) u → Marks u (P k) w
+    → Marks m (λ i. among (k + 1) (λ j. P j i)) w
 marks-more m u w P k a b = record {
   long = b .long ∙ a .long;
-  reads = λ i. b .reads i ∙ ap (λ (x : Bool). P k i || x) (a .reads i) ∙ or-assoc (P k i) (among k (λ j. P j i)) (markedAt m i) ∙ ap (λ (n : ℕ). among n (λ j. P j i) || markedAt m i) next;
+  reads = λ i. b .reads i ∙ ap (λ (x : Bool). P k i || x) (a .reads i) ∙ or-assoc (P k i) (among k (λ j. P j i)) (markedAt m i)
+      ∙ ap (λ (n : ℕ). among n (λ j. P j i) || markedAt m i) next;
 }
   where
     next : suc k ≡ k + 1
@@ -82,13 +85,16 @@ module _ (m : List ℕ) (i : ℕ) (clear : markedAt m i ≡ false) where
       go : Dec (j / 8 ≡ i / 8) → Dec (j % 8 ≡ i % 8) → markedAt u j ≡ eqb i j || markedAt m j
       go (yes e) (yes f) =
           let same : i ≡ j = omega arith in
-          ap (λ (y : ℕ). eqb y 1) (bit e ∙ ap (λ (b : Bool). cond b 1 (bitOf (getD m (j / 8) 0) (j % 8))) (eq-eqb (j % 8) (i % 8) f)) ∙ sym (ap (λ (b : Bool). b || markedAt m j) (eq-eqb i j same))
+          ap (λ (y : ℕ). eqb y 1) (bit e ∙ ap (λ (b : Bool). cond b 1 (bitOf (getD m (j / 8) 0) (j % 8))) (eq-eqb (j % 8) (i % 8) f))
+          ∙ sym (ap (λ (b : Bool). b || markedAt m j) (eq-eqb i j same))
       go (yes e) (no f) =
           let other : i ≡ j → ⊥ = λ q. f (ap (λ (k : ℕ). k % 8) (sym q)) in
-          ap (λ (y : ℕ). eqb y 1) (bit e ∙ ap (λ (b : Bool). cond b 1 (bitOf (getD m (j / 8) 0) (j % 8))) (ne-eqb (j % 8) (i % 8) f)) ∙ sym (ap (λ (b : Bool). b || markedAt m j) (ne-eqb i j other))
+          ap (λ (y : ℕ). eqb y 1) (bit e ∙ ap (λ (b : Bool). cond b 1 (bitOf (getD m (j / 8) 0) (j % 8))) (ne-eqb (j % 8) (i % 8) f))
+          ∙ sym (ap (λ (b : Bool). b || markedAt m j) (ne-eqb i j other))
       go (no e) f =
           let other : i ≡ j → ⊥ = λ q. e (ap (λ (k : ℕ). k / 8) (sym q)) in
-          ap (λ (y : ℕ). eqb (bitOf y (j % 8)) 1) (getD-set-other m (i / 8) (j / 8) (x + 2 ^ (i % 8)) 0 e) ∙ sym (ap (λ (b : Bool). b || markedAt m j) (ne-eqb i j other))
+          ap (λ (y : ℕ). eqb (bitOf y (j % 8)) 1) (getD-set-other m (i / 8) (j / 8) (x + 2 ^ (i % 8)) 0 e)
+          ∙ sym (ap (λ (b : Bool). b || markedAt m j) (ne-eqb i j other))
 
   pub marks-set : i / 8 < length m → getD m (i / 8) 0 < 256 → Marks m (eqb i) (set m (i / 8) (getD m (i / 8) 0 + 2 ^ (i % 8)))
   marks-set inside byte = record { long = length-set m (i / 8) (getD m (i / 8) 0 + 2 ^ (i % 8)); reads = λ j. read-back inside byte j }

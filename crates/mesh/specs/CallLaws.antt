@@ -1,6 +1,6 @@
 -- The cases of a subdivision, refusal by refusal, and what each test leaves for the next.
--- `standing-ready`, `centre-inner`, `ready-whole` what is known past 4 and 5, and past 7 and 8 · `vertex-4` .. `vertex-0` the outcome in each case · `call-1`, `call-3`, `call-vertex`
--- the call's.
+-- `standing-ready`, `centre-inner`, `ready-whole` what is known past 4 and 5, and past 7 and 8 · `vertex-4` .. `vertex-0` the outcome in each case ·
+-- `call-1`, `call-3`, `call-vertex` the call's.
 -- Assumes nothing.
 use mathlib.Core.Path.{_≡_, refl, sym, _∙_, ap}
 use mathlib.Core.Bool.{Bool, true, false, cond, _&&_, not}
@@ -31,7 +31,8 @@ use Rattle.table.specs.declared.entries.Looked.{Looked}
 use Rattle.table.specs.declared.entries.Looked.the-variants.{Absent, Held}
 use Rattle.mesh.specs.SubdivideLaws.{Ready, Whole, old}
 use Rattle.mesh.specs.WriteLaws.{Standing}
-use Rattle.mesh.specs.Subdivide.{adjacentFits, newFits, torn, tooDeep, subdivided, Outcome, outcome, subdivideVertex, subdivideLooked, subdivideOf, renewedTo, enteredTo}
+use Rattle.mesh.specs.Subdivide.{adjacentFits, newFits, torn, tooDeep, subdivided, Outcome, outcome, subdivideVertex, subdivideLooked}
+use Rattle.mesh.specs.Subdivide.{subdivideOf, renewedTo, enteredTo}
 
 module _ (t : List ℕ) (v : Record) where
   pub standing-valid : Standing t v → validOf v ≡ true
@@ -83,14 +84,16 @@ module _ (t : List ℕ) (v : Record) where
         torn-old h = ap (λ (b : Bool). not (b && upto 6 (newFits t v))) h
 
         pub vertex-7-old : upto 6 (adjacentFits t v) ≡ false → outcome 7 t ≡ subdivideVertex t v
-        vertex-7-old h = sym (past ∙ ap (λ (b : Bool). cond b (outcome 7 t) (cond (ltb (freeSlots t) 6) (outcome 8 t) (outcome 0 (subdivided t v)))) (torn-old h))
+        vertex-7-old h =
+            sym (past ∙ ap (λ (b : Bool). cond b (outcome 7 t) (cond (ltb (freeSlots t) 6) (outcome 8 t) (outcome 0 (subdivided t v)))) (torn-old h))
 
         module _ (old : upto 6 (adjacentFits t v) ≡ true) where
           torn-is : (b : Bool) → upto 6 (newFits t v) ≡ b → torn t v ≡ not b
           unfolding torn
           torn-is b h = λ i. not (old i && h i)
 
-          after : (b : Bool) → upto 6 (newFits t v) ≡ b → subdivideVertex t v ≡ cond (not b) (outcome 7 t) (cond (ltb (freeSlots t) 6) (outcome 8 t) (outcome 0 (subdivided t v)))
+          after : (b : Bool) → upto 6 (newFits t v) ≡ b
+              → subdivideVertex t v ≡ cond (not b) (outcome 7 t) (cond (ltb (freeSlots t) 6) (outcome 8 t) (outcome 0 (subdivided t v)))
           after b h = past ∙ ap (λ (x : Bool). cond x (outcome 7 t) (cond (ltb (freeSlots t) 6) (outcome 8 t) (outcome 0 (subdivided t v)))) (torn-is b h)
 
           pub vertex-7-new : upto 6 (newFits t v) ≡ false → outcome 7 t ≡ subdivideVertex t v

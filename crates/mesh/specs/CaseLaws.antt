@@ -1,5 +1,6 @@
 -- A subdivision is either refused, with nothing changed, or made: `Subdivision`, `subdivision`. And the same of a triple in a list: `triple`.
--- `triple-kept`, `triple-refused` the table after a triple · `Going` how far a list has been gone through, `going-start`, `going-more`, `going-stop`, `going-end`.
+-- `triple-kept`, `triple-refused` the table after a triple · `Going` how far a list has been gone through, `going-start`, `going-more`, `going-stop`,
+-- `going-end`.
 -- Assumes nothing.
 use mathlib.Core.Path.{_≡_, refl, sym, _∙_, ap, subst}
 use mathlib.Core.Bool.{Bool, true, false, cond}
@@ -28,14 +29,17 @@ use Rattle.laws.specs.Each.{not-both}
 use Rattle.table.specs.SlotLaws.{table-same}
 use Rattle.mesh.specs.SubdivideLaws.{Ready, Whole, subdivided-order, subdivided-free}
 use Rattle.mesh.specs.WriteLaws.{subdivided-length}
-use Rattle.mesh.specs.CallLaws.{standing-ready, ready-whole, vertex-4, vertex-5, vertex-6, vertex-7-old, vertex-7-new, vertex-8, vertex-0, call-1, call-3, call-vertex, call-standing}
-use Rattle.mesh.specs.Subdivide.{adjacentFits, newFits, subdivided, Outcome, outcome, subdivideVertex, subdivideOf, triplesIn, isByte, subdivideTriple, subdivideFrom, subdivideAllOf, Many}
+use Rattle.mesh.specs.CallLaws.{standing-ready, ready-whole, vertex-4, vertex-5, vertex-6, vertex-7-old, vertex-7-new, vertex-8, vertex-0}
+use Rattle.mesh.specs.CallLaws.{call-1, call-3, call-vertex, call-standing}
+use Rattle.mesh.specs.Subdivide.{adjacentFits, newFits, subdivided, Outcome, outcome, subdivideVertex, subdivideOf, triplesIn, isByte}
+use Rattle.mesh.specs.Subdivide.{subdivideTriple, subdivideFrom, subdivideAllOf, Many}
 
 pub data Subdivision (t : List ℕ) (a b : ℤ) (m : ℕ) : Type 0 where
   -- some other number than 0, and the table as it was
   refused : (x : ℕ) → (x ≡ 0 → ⊥) → outcome x t ≡ subdivideOf t a b m → Subdivision t a b m
   -- 0, of a table in order and a vertex in it, which is whole
-  made : (v : Record) → inOrderOf t ≡ true → lookUp t (normalOf a b m) ≡ Held v → Whole t v → outcome 0 (subdivided t v) ≡ subdivideOf t a b m → Subdivision t a b m
+  made : (v : Record) → inOrderOf t ≡ true → lookUp t (normalOf a b m) ≡ Held v → Whole t v → outcome 0 (subdivided t v) ≡ subdivideOf t a b m
+      → Subdivision t a b m
 
 module _ (t : List ℕ) (a b : ℤ) (m : ℕ) where
   -- past 4 and 5
@@ -46,7 +50,8 @@ module _ (t : List ℕ) (a b : ℤ) (m : ℕ) where
     r : Ready t v
     r = standing-ready t v (call-standing t a b m h v e) six low
 
-    tested : (s : Bool) → upto 6 (λ j. leb (newOf v j .at .m .0) 6) ≡ s → (o : Bool) → upto 6 (adjacentFits t v) ≡ o → (n : Bool) → upto 6 (newFits t v) ≡ n → Dec (freeSlots t < 6) → Subdivision t a b m
+    tested : (s : Bool) → upto 6 (λ j. leb (newOf v j .at .m .0) 6) ≡ s → (o : Bool) → upto 6 (adjacentFits t v) ≡ o → (n : Bool) → upto 6 (newFits t v) ≡ n
+        → Dec (freeSlots t < 6) → Subdivision t a b m
     tested false s o p n q f = refused 6 (omega arith) (is (vertex-6 t v six low s))
     tested true s false p n q f = refused 7 (omega arith) (is (vertex-7-old t v six low s p))
     tested true s true p false q f = refused 7 (omega arith) (is (vertex-7-new t v six low s p q))
@@ -134,12 +139,14 @@ pub many-end : (t : List ℕ) (ps : List ℤ) (i : ℕ) → record { number = 0;
 unfolding subdivideFrom
 many-end t ps i = refl
 
-pub many-more : (t : List ℕ) (ps : List ℤ) (i left : ℕ) → 0 < left → subdivideTriple t ps i .number ≡ 0 → subdivideFrom (subdivideTriple t ps i .bytes) ps (i + 1) (left - 1) ≡ subdivideFrom t ps i left
+pub many-more : (t : List ℕ) (ps : List ℤ) (i left : ℕ) → 0 < left → subdivideTriple t ps i .number ≡ 0
+    → subdivideFrom (subdivideTriple t ps i .bytes) ps (i + 1) (left - 1) ≡ subdivideFrom t ps i left
 unfolding subdivideFrom
 many-more t ps i zero h e = absurd (omega arith)
 many-more t ps i (suc left) h e = let p : suc left - 1 ≡ left = omega arith in rw (p, e)
 
-pub many-stop : (t : List ℕ) (ps : List ℤ) (i left : ℕ) → 0 < left → (subdivideTriple t ps i .number ≡ 0 → ⊥) → record { number = subdivideTriple t ps i .number; done = i; bytes = t } ≡ subdivideFrom t ps i left
+pub many-stop : (t : List ℕ) (ps : List ℤ) (i left : ℕ) → 0 < left → (subdivideTriple t ps i .number ≡ 0 → ⊥)
+    → record { number = subdivideTriple t ps i .number; done = i; bytes = t } ≡ subdivideFrom t ps i left
 unfolding subdivideFrom
 many-stop t ps i zero h e = absurd (omega arith)
 many-stop t ps i (suc left) h e = rw (ne-eqb (subdivideTriple t ps i .number) 0 e)

@@ -1,6 +1,6 @@
 -- Document 01, "Subdivision of v": when it is refused and what the table holds after. What the promises cite: `subdivideOf`, `subdivideAllOf`.
--- `adjacentFits`, `newFits`, `torn`, `tooDeep` the conditions of 7 and 6 · `renewedTo`, `enteredTo`, `subdivided` the table after · `Outcome` number and table ·
--- `Many` the same of a list.
+-- `adjacentFits`, `newFits`, `torn`, `tooDeep` the conditions of 7 and 6 · `renewedTo`, `enteredTo`, `subdivided` the table after · `Outcome` number
+-- and table · `Many` the same of a list.
 -- Record by record the rules are the lattice's: Subdivision. Assumes nothing.
 use mathlib.Core.Bool.{Bool, false, cond, _&&_, not}
 use mathlib.Core.List.{List}
@@ -9,6 +9,7 @@ use lib.Dec.{eqb, ltb, leb}
 use lib.IntN.{ℤ, pos, negsuc, natAbs}
 use lib.ListN.{length, getD}
 use Rattle.laws.specs.Rules.{upto}
+use Rattle.laws.specs.Choices.{unless}
 use Rattle.lattice.specs.Stars.{adjacentAt}
 use Rattle.lattice.specs.Subdivision.{centreOf, newOf, backOf, updateOf, acceptsOf, bornOf}
 use Rattle.lattice.specs.Points.{normalOf}
@@ -73,13 +74,12 @@ outcome n t = record { number = n; bytes = t }
 -- "Order: subdivision 1, 3, 4, 5, 6, 7, 8 (fewer than six free)": from 4 on, of the record at the point
 abbrev pub subdivideVertex : List ℕ → Record → Outcome
 subdivideVertex t v =
-    cond (eqb (v .d) 6)
+    unless (eqb (v .d) 6) (outcome 4 t)
     (cond (eqb (v .n .0) 12) (outcome 5 t)
     (cond (tooDeep v) (outcome 6 t)
     (cond (torn t v) (outcome 7 t)
     (cond (ltb (freeSlots t) 6) (outcome 8 t)
     (outcome 0 (subdivided t v))))))
-    (outcome 4 t)
 
 abbrev pub subdivideLooked : List ℕ → Looked → Outcome
 subdivideLooked t Absent = outcome 3 t
@@ -87,7 +87,7 @@ subdivideLooked t (Held v) = subdivideVertex t v
 
 -- "Every point in a request is normalised before it is looked up"
 unfoldable pub subdivideOf : List ℕ → ℤ → ℤ → ℕ → Outcome
-subdivideOf t a b m = cond (inOrderOf t) (subdivideLooked t (lookUp t (normalOf a b m))) (outcome 1 t)
+subdivideOf t a b m = unless (inOrderOf t) (outcome 1 t) (subdivideLooked t (lookUp t (normalOf a b m)))
 
 -- ---- many at once, ours: one in-order test, then each point subdivided in turn as `subdivide` would
 pub record Many : Type 0 where
@@ -107,16 +107,16 @@ isByte (negsuc m) = false
 -- triple i, as `subdivide` answers it; 3 where its m is not in 0..255
 unfoldable pub subdivideTriple : List ℕ → List ℤ → ℕ → Outcome
 subdivideTriple t ps i =
-    cond (isByte (getD ps (3 * i + 2) (pos 0)))
+    unless (isByte (getD ps (3 * i + 2) (pos 0))) (outcome 3 t)
     (subdivideOf t (getD ps (3 * i) (pos 0)) (getD ps (3 * i + 1) (pos 0)) (natAbs (getD ps (3 * i + 2) (pos 0))))
-    (outcome 3 t)
 
 -- it stops at the first refusal and says how many were made; those before stand: from triple i on, of which so many are left
 unfoldable pub subdivideFrom : List ℕ → List ℤ → ℕ → ℕ → Many
 subdivideFrom t ps i zero = record { number = 0; done = i; bytes = t }
 subdivideFrom t ps i (suc left) =
     let o = subdivideTriple t ps i in
-    cond (eqb (o .number) 0) (subdivideFrom (o .bytes) ps (i + 1) left) (record { number = o .number; done = i; bytes = t })
+    unless (eqb (o .number) 0) (record { number = o .number; done = i; bytes = t })
+    (subdivideFrom (o .bytes) ps (i + 1) left)
 
 unfoldable pub subdivideAllOf : List ℕ → List ℤ → Many
-subdivideAllOf t ps = cond (inOrderOf t) (subdivideFrom t ps 0 (triplesIn ps)) (record { number = 1; done = 0; bytes = t })
+subdivideAllOf t ps = unless (inOrderOf t) (record { number = 1; done = 0; bytes = t }) (subdivideFrom t ps 0 (triplesIn ps))

@@ -1,8 +1,10 @@
 -- What a subdivision does to a table in order: it stays in order, and each point's record is known.
--- The argument goes write by write. v's record is replaced; then each old adjacent vertex's, in turn: they are different points, and none is v, since v's own degree has no rule; so each
--- is still as it was when its turn comes, and its rule makes a valid record. Then the new ones enter: they were absent, they are different points, and six slots were free.
--- `Ready` a vertex that may be subdivided · `Whole` one whose subdivision is not torn and has room · `subdivided-order`, `subdivided-free` · `subdivided-centre`, `subdivided-new`,
--- `subdivided-old`, `subdivided-rest` the records after · `renewed`, `entered` the same after some of the writes.
+-- The argument goes write by write. v's record is replaced; then each old adjacent vertex's, in turn: they are different points, and none is v, since
+-- v's own degree has no rule; so each is still as it was when its turn comes, and its rule makes a valid record. Then the new ones enter: they were
+-- absent, they are different points, and six slots were free.
+-- `Ready` a vertex that may be subdivided · `Whole` one whose subdivision is not torn and has room · `subdivided-order`, `subdivided-free` ·
+-- `subdivided-centre`, `subdivided-new`, `subdivided-old`, `subdivided-rest` the records after · `renewed`, `entered` the same after some of the
+-- writes.
 -- Assumes nothing.
 use mathlib.Core.Path.{_≡_, refl, sym, _∙_, ap, subst}
 use mathlib.Core.Bool.{Bool, true, false, cond, _&&_}
@@ -18,7 +20,8 @@ use Rattle.geometry.specs.GeometryLaws.{star-distinct}
 use Rattle.lattice.specs.Records.{validOf}
 use Rattle.geometry.specs.SubdivisionLaws.{Sited, sited, centre-valid, update-valid, new-valid}
 use Rattle.table.specs.Entries.{lookUp, replaceOf, enterOf}
-use Rattle.table.specs.MapLaws.{room, lookup-point, lookup-valid, replace-order, replace-finds, replace-keeps, replace-free, enter-order, enter-finds, enter-keeps, enter-free}
+use Rattle.table.specs.MapLaws.{room, lookup-point, lookup-valid, replace-order, replace-finds, replace-keeps, replace-free, enter-order, enter-finds}
+use Rattle.table.specs.MapLaws.{enter-keeps, enter-free}
 use Rattle.table.specs.Order.{InOrder}
 use Rattle.table.specs.Slots.{freeSlots}
 use Rattle.lattice.specs.declared.points.Point.{Point}
@@ -98,7 +101,8 @@ module _ (t : List ℕ) (v : Record) (w : Whole t v) where
   renewal-at j h = update-at (backOf (v .k) j) (old j h .0) ∙ old-point j h
 
   renewal-valid : (j : ℕ) (h : j < 6) → validOf (renewal j h) ≡ true
-  renewal-valid j h = is-true (validOf (renewal j h)) (update-valid (backOf (v .k) j) (v .n .0) (old j h .0) (w .ready .below) (of-true (old-valid j h)) (of-true (old j h .2)))
+  renewal-valid j h =
+      is-true (validOf (renewal j h)) (update-valid (backOf (v .k) j) (v .n .0) (old j h .0) (w .ready .below) (of-true (old-valid j h)) (of-true (old j h .2)))
 
   pub centre-good : validOf (centreOf v) ≡ true
   centre-good = is-true (validOf (centreOf v)) (centre-valid v sound (w .ready .six) (w .ready .below))
@@ -137,7 +141,8 @@ module _ (t : List ℕ) (v : Record) (w : Whole t v) where
   pub record Renewed (j : ℕ) : Type 0 where
     pub order : InOrder (renewedTo t₁ v j)
     pub later : (i : ℕ) → j ≤ i → i < 6 → lookUp (renewedTo t₁ v j) (adjacentAt v i) ≡ lookUp t (adjacentAt v i)
-    pub done : (i : ℕ) → i < j → (u : Record) → lookUp t (adjacentAt v i) ≡ Held u → lookUp (renewedTo t₁ v j) (adjacentAt v i) ≡ Held (updateOf (backOf (v .k) i) u)
+    pub done : (i : ℕ) → i < j → (u : Record) → lookUp t (adjacentAt v i) ≡ Held u
+        → lookUp (renewedTo t₁ v j) (adjacentAt v i) ≡ Held (updateOf (backOf (v .k) i) u)
     pub rest : (p : Point) → ((i : ℕ) → i < j → p ≡ adjacentAt v i → ⊥) → lookUp (renewedTo t₁ v j) p ≡ lookUp t₁ p
     pub free : freeSlots (renewedTo t₁ v j) ≡ freeSlots t
 
@@ -154,7 +159,9 @@ module _ (t : List ℕ) (v : Record) (w : Whole t v) where
   start =
       record {
         order = subst InOrder (sym renew-none) centred-order;
-        later = λ i l h. ap (λ (u : List ℕ). lookUp u (adjacentAt v i)) renew-none ∙ replace-keeps t o (centreOf v) centre-good (adjacentAt v i) (adjacent-centre i h);
+        later =
+            λ i l h. ap (λ (u : List ℕ). lookUp u (adjacentAt v i)) renew-none
+            ∙ replace-keeps t o (centreOf v) centre-good (adjacentAt v i) (adjacent-centre i h);
         done = λ i l u q. absurd (omega arith);
         rest = λ p f. ap (λ (u : List ℕ). lookUp u p) renew-none;
         free = ap freeSlots renew-none ∙ replace-free t o (centreOf v) centre-good;
@@ -189,9 +196,12 @@ module _ (t : List ℕ) (v : Record) (w : Whole t v) where
           ∙ replace-finds u (r .order) x (renewal-valid j h) (old j h .0) (ap (lookUp u) (renewal-at j h) ∙ r .later j n h ∙ old j h .1)
           ∙ ap (λ (z : Record). Held (updateOf (backOf (v .k) j) z)) same
 
-      finished : (i : ℕ) → i < suc j → (y : Record) → lookUp t (adjacentAt v i) ≡ Held y → Dec (i ≡ j) → ((p : Point) → (p ≡ adjacentAt v j → ⊥) → lookUp (renewedTo t₁ v (suc j)) p ≡ lookUp (renewedTo t₁ v j) p)
+      finished : (i : ℕ) → i < suc j → (y : Record) → lookUp t (adjacentAt v i) ≡ Held y → Dec (i ≡ j)
+          → ((p : Point) → (p ≡ adjacentAt v j → ⊥) → lookUp (renewedTo t₁ v (suc j)) p ≡ lookUp (renewedTo t₁ v j) p)
           → lookUp (renewedTo t₁ v (suc j)) (adjacentAt v i) ≡ Held (updateOf (backOf (v .k) i) y)
-      finished i l y q (yes e) kept = subst (λ (m : ℕ). (y : Record) → lookUp t (adjacentAt v m) ≡ Held y → lookUp (renewedTo t₁ v (suc j)) (adjacentAt v m) ≡ Held (updateOf (backOf (v .k) m) y)) (sym e) this y q
+      finished i l y q (yes e) kept =
+          subst (λ (m : ℕ). (y : Record) → lookUp t (adjacentAt v m) ≡ Held y
+          → lookUp (renewedTo t₁ v (suc j)) (adjacentAt v m) ≡ Held (updateOf (backOf (v .k) m) y)) (sym e) this y q
       finished i l y q (no n) kept = kept (adjacentAt v i) (adjacent-apart i j (omega arith) h n) ∙ r .done i (omega arith) y q
 
   pub renewed : (j : ℕ) → j ≤ 6 → Renewed j
@@ -257,7 +267,10 @@ module _ (t : List ℕ) (v : Record) (w : Whole t v) where
         free = omega (arith, ap freeSlots e, enter-free u (r .order) (newOf v j) g gone room, r .free);
       }
     where
-      finished : (i : ℕ) → i < suc j → Dec (i ≡ j) → ((p : Point) → (p ≡ newOf v j .at → ⊥) → lookUp (enteredTo t₂ (centreOf v) (suc j)) p ≡ lookUp (enteredTo t₂ (centreOf v) j) p) → lookUp (enteredTo t₂ (centreOf v) (suc j)) (newOf v j .at) ≡ Held (newOf v j) → lookUp (enteredTo t₂ (centreOf v) (suc j)) (newOf v i .at) ≡ Held (newOf v i)
+      finished : (i : ℕ) → i < suc j → Dec (i ≡ j)
+          → ((p : Point) → (p ≡ newOf v j .at → ⊥) → lookUp (enteredTo t₂ (centreOf v) (suc j)) p ≡ lookUp (enteredTo t₂ (centreOf v) j) p)
+          → lookUp (enteredTo t₂ (centreOf v) (suc j)) (newOf v j .at) ≡ Held (newOf v j)
+          → lookUp (enteredTo t₂ (centreOf v) (suc j)) (newOf v i .at) ≡ Held (newOf v i)
       finished i l (yes e) kept this = subst (λ (m : ℕ). lookUp (enteredTo t₂ (centreOf v) (suc j)) (newOf v m .at) ≡ Held (newOf v m)) (sym e) this
       finished i l (no n) kept this = kept (newOf v i .at) (new-apart i j (omega arith) h n) ∙ r .done i (omega arith)
 
@@ -292,10 +305,12 @@ module _ (t : List ℕ) (v : Record) (w : Whole t v) where
   pub subdivided-new : (j : ℕ) → j < 6 → lookUp (subdivided t v) (newOf v j .at) ≡ Held (newOf v j)
   subdivided-new j h = at-end (newOf v j .at) ∙ entered 6 (omega arith) .done j h
 
-  pub subdivided-old : (j : ℕ) → j < 6 → (u : Record) → lookUp t (adjacentAt v j) ≡ Held u → lookUp (subdivided t v) (adjacentAt v j) ≡ Held (updateOf (backOf (v .k) j) u)
+  pub subdivided-old : (j : ℕ) → j < 6 → (u : Record) → lookUp t (adjacentAt v j) ≡ Held u
+      → lookUp (subdivided t v) (adjacentAt v j) ≡ Held (updateOf (backOf (v .k) j) u)
   subdivided-old j h u l = before-new (adjacentAt v j) u l ∙ renewed 6 (omega arith) .done j h u l
 
-  pub subdivided-rest : (p : Point) → (p ≡ v .at → ⊥) → ((j : ℕ) → j < 6 → p ≡ newOf v j .at → ⊥) → ((j : ℕ) → j < 6 → p ≡ adjacentAt v j → ⊥) → lookUp (subdivided t v) p ≡ lookUp t p
+  pub subdivided-rest : (p : Point) → (p ≡ v .at → ⊥) → ((j : ℕ) → j < 6 → p ≡ newOf v j .at → ⊥) → ((j : ℕ) → j < 6 → p ≡ adjacentAt v j → ⊥)
+      → lookUp (subdivided t v) p ≡ lookUp t p
   subdivided-rest p c n a =
       at-end p
       ∙ entered 6 (omega arith) .rest p n

@@ -1,6 +1,7 @@
 -- The writes of a subdivision as the code makes them: what each asks for, and where the loops stand.
--- `Standing` a vertex as it is found · `Renewable`, `whole-renewable` the tables while old adjacent vertices are written · `Low`, `renewSlot`, `renew-found`, `renew-gone` one of them,
--- by the search for it · `renewed-more`, `entered-more` a loop's one step · `renewed-table`, `entered-table`, `subdivided-length` the lengths.
+-- `Standing` a vertex as it is found · `Renewable`, `whole-renewable` the tables while old adjacent vertices are written · `Low`, `renewSlot`,
+-- `renew-found`, `renew-gone` one of them, by the search for it · `renewed-more`, `entered-more` a loop's one step · `renewed-table`,
+-- `entered-table`, `subdivided-length` the lengths.
 -- Assumes nothing.
 use mathlib.Core.Path.{_≡_, refl, sym, _∙_, ap}
 use mathlib.Core.List.{List}
@@ -125,4 +126,5 @@ entered-table t c j n w = table-same t (enteredTo t c j) n (entered-length t c j
 
 pub subdivided-length : (t : List ℕ) (v : Record) → length (subdivided t v) ≡ length t
 unfolding subdivided
-subdivided-length t v = entered-length (renewedTo (replaceOf t (centreOf v)) v 6) (centreOf v) 6 ∙ renewed-length (replaceOf t (centreOf v)) v 6 ∙ replace-length t (centreOf v)
+subdivided-length t v =
+    entered-length (renewedTo (replaceOf t (centreOf v)) v 6) (centreOf v) 6 ∙ renewed-length (replaceOf t (centreOf v)) v 6 ∙ replace-length t (centreOf v)

@@ -11,11 +11,18 @@ use crate::checks::adjacents_fit;
 use crate::checks::all_absent;
 use crate::checks::none_deeper;
 use crate::writes::divide;
+use lattice::DONE;
+use lattice::LAST_LEVEL;
+use lattice::NO_RECORD;
+use lattice::NO_ROOM;
+use lattice::NOT_IN_ORDER;
+use lattice::NOT_SIX;
 use lattice::Record;
+use lattice::TOO_DEEP;
+use lattice::TORN;
 use lattice::centre;
 use table::Looked;
-use table::free_slots;
-use table::in_order;
+use table::check_order;
 use table::look_up_request;
 use table::slots_of;
 
@@ -28,26 +35,26 @@ fn subdivide_vertex(t: &mut [u8], v: Record, n: usize, free: usize) -> u8
     let d = v.d;
     let level = v.n.0;
     if d != 6 {
-        return 4;
+        return NOT_SIX;
     }
     if level == 12 {
-        return 5;
+        return LAST_LEVEL;
     }
     let c = centre(v);
     if !none_deeper(c) {
-        return 6;
+        return TOO_DEEP;
     }
     if !adjacents_fit(t, v, n) {
-        return 7;
+        return TORN;
     }
     if !all_absent(t, c, n) {
-        return 7;
+        return TORN;
     }
     if free < 6 {
-        return 8;
+        return NO_ROOM;
     }
     divide(t, v, n);
-    0
+    DONE
 }
 
 // The subdivision at a point of a table in order, of whose slots so many are free.
@@ -58,7 +65,7 @@ fn subdivide_ordered(t: &mut [u8], a: i32, b: i32, m: u8, n: usize, free: usize)
 {
     let l = look_up_request(t, a, b, m, n);
     match l {
-        Looked::Absent => 3,
+        Looked::Absent => NO_RECORD,
         Looked::Held(v) => subdivide_vertex(t, v, n, free),
     }
 }
@@ -68,11 +75,12 @@ pub fn subdivide(table: &mut [u8], a: i32, b: i32, m: u8) -> u8
     ensures { λ r. ⌜ r ≡ subdivideOf (now (table .entry)) a b m .number ⌝ }
     ensures { λ r. ⌜ now (table .exit) ≡ subdivideOf (now (table .entry)) a b m .bytes ⌝ }
 {
-    if !in_order(table) {
-        return 1;
+    let order = check_order(table);
+    if !order.ok {
+        return NOT_IN_ORDER;
     }
+    let free = order.free;
     let n = slots_of(table);
-    let free = free_slots(table, n);
     subdivide_ordered(table, a, b, m, n, free)
 }
 
@@ -86,10 +94,10 @@ fn subdivide_triple(t: &mut [u8], points: &[i32], i: usize, n: usize, free: usiz
     let b = points[3 * i + 1];
     let m = points[3 * i + 2];
     if m < 0 {
-        return 3;
+        return NO_RECORD;
     }
     if 255 < m {
-        return 3;
+        return NO_RECORD;
     }
     subdivide_ordered(t, a, b, m as u8, n, free)
 }
@@ -107,16 +115,20 @@ pub fn subdivide_all(table: &mut [u8], points: &[i32]) -> Made
     ensures { λ r. ⌜ r .done ≡ subdivideAllOf (now (table .entry)) (now (points .entry)) .done ⌝ }
     ensures { λ r. ⌜ now (table .exit) ≡ subdivideAllOf (now (table .entry)) (now (points .entry)) .bytes ⌝ }
 {
-    if !in_order(table) {
-        return Made { number: 1, done: 0 };
+    let order = check_order(table);
+    if !order.ok {
+        return Made {
+            number: NOT_IN_ORDER,
+            done: 0,
+        };
     }
     let n = slots_of(table);
     let count = points.len() / 3;
-    let mut free = free_slots(table, n);
+    let mut free = order.free;
     let mut i = 0;
     while i < count {
         let number = subdivide_triple(table, points, i, n, free);
-        if number != 0 {
+        if number != DONE {
             return Made {
                 number,
                 done: i as u64,
@@ -126,7 +138,7 @@ pub fn subdivide_all(table: &mut [u8], points: &[i32]) -> Made
         i += 1;
     }
     Made {
-        number: 0,
+        number: DONE,
         done: i as u64,
     }
 }

@@ -15,6 +15,7 @@ use lattice::accepts;
 use lattice::adjacent_of;
 use lattice::back;
 use table::Looked;
+use table::is_there;
 use table::look_up;
 
 // The old adjacent vertex at place j is there and its rule applies.
@@ -47,30 +48,17 @@ pub fn adjacents_fit(t: &[u8], v: Record, n: usize) -> bool
     true
 }
 
-// No vertex stands at place j of the star of c.
-fn absent_at(t: &[u8], c: Record, j: u8, n: usize) -> bool
-    requires { ⌜ Table (now t) n × (Inner c × (j < c .d)) ⌝ }
-    ensures { λ r. ⌜ r ≡ not (holds (now (t .entry)) (adjacentAt c j)) ⌝ }
-{
-    let l = look_up(t, adjacent_of(c, j), n);
-    match l {
-        Looked::Absent => true,
-        Looked::Held(_) => false,
-    }
-}
-
-// No vertex stands at any of the six places.
+// No vertex stands at any place of the star of c.
 pub fn all_absent(t: &[u8], c: Record, n: usize) -> bool
     requires { ⌜ Table (now t) n × (Inner c × (c .d ≡ 6)) ⌝ }
     ensures { λ r. ⌜ r ≡ upto 6 (λ j. not (holds (now (t .entry)) (adjacentAt c j))) ⌝ }
 {
     let mut j: u8 = 0;
     while j < 6 {
-        if absent_at(t, c, j, n) {
-            j += 1;
-        } else {
+        if is_there(t, adjacent_of(c, j), n) {
             return false;
         }
+        j += 1;
     }
     true
 }

@@ -23,22 +23,19 @@ use table::replace;
 use table::write_slot;
 
 // The vertex in slot i after its rule, whether or not there is one.
-fn renew_slot(t: &mut [u8], i: usize, back: u8) -> bool
+fn renew_slot(t: &mut [u8], i: usize, back: u8)
     requires { ⌜ (slotWidth * i + slotWidth ≤ length (now t)) × ((back < 12) × Low (now t) i) ⌝ }
     ensures { λ _. ⌜ now (t .exit) ≡ renewSlot (now (t .entry)) i back ⌝ }
 {
     let s = read_slot(t, i);
     match s {
-        Slot::Free => false,
-        Slot::Holds(u) => {
-            write_slot(t, i, updated(back, u));
-            true
-        }
+        Slot::Free => {}
+        Slot::Holds(u) => write_slot(t, i, updated(back, u)),
     }
 }
 
 // The old adjacent vertex at place j after its rule, whether or not it is there.
-fn renew(t: &mut [u8], v: Record, j: u8, n: usize) -> bool
+fn renew(t: &mut [u8], v: Record, j: u8, n: usize)
     requires { ⌜ Table (now t) n × (InOrder (now t) × (Inner v × ((v .d ≡ 6) × (j < 6)))) ⌝ }
     ensures { λ _. ⌜ now (t .exit) ≡ renewOf (now (t .entry)) v j ⌝ }
 {
@@ -46,8 +43,8 @@ fn renew(t: &mut [u8], v: Record, j: u8, n: usize) -> bool
     let f = find(t, adjacent_of(v, j), n);
     match f {
         Found::At(i) => renew_slot(t, i, b),
-        Found::Free(_) => false,
-        Found::Full => false,
+        Found::Free(_) => {}
+        Found::Full => {}
     }
 }
 

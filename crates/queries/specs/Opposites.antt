@@ -1,9 +1,10 @@
--- What the functions below `faces` promise: `eitherIn` the first of two points that is in the table; the opposite of a corner is chosen so (QueryLaws: `chosen-either`)
--- · `facesIf` the faces, once it is known whether each adjacent point is there.
+-- What the functions below `faces` promise: `eitherIn` the first of two points that is in the table; the opposite of a corner is chosen so
+-- (QueryLaws: `chosen-either`) · `facesIf` the faces, once it is known whether each adjacent point is there.
 -- Assumes nothing.
-use mathlib.Core.Bool.{Bool, cond, _&&_}
+use mathlib.Core.Bool.{Bool, _&&_}
 use mathlib.Core.List.{List}
 use Prim.Native.Nat.{ℕ}
+use Rattle.laws.specs.Choices.{unless}
 use Rattle.lattice.specs.Stars.{refused}
 use Rattle.lattice.specs.declared.records.Record.{Record}
 use Rattle.lattice.specs.declared.stars.Answer.{Answer}
@@ -21,4 +22,4 @@ eitherIn t p q = orElse (there t p) (there t q)
 
 -- "Torn, faces: that, or a corner with no opposite in the table": whole is whether each adjacent point is there
 abbrev pub facesIf : List ℕ → Record → Bool → Answer
-facesIf t v whole = cond (whole && cornersThere t v) (facesGiven t v) (refused 7)
+facesIf t v whole = unless (whole && cornersThere t v) (refused 7) (facesGiven t v)

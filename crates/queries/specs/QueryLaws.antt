@@ -1,7 +1,7 @@
 -- The laws of the queries. For the reader: `neighbours-spelling`, `faces-spelling` two spellings of one point get the same answer.
--- For the code: `vertex-refused`, `vertex-looked` the ways of `found`, `vertex-asked`, `asked-inner` what is known of a vertex that it finds · `neighbours-vertex`, `faces-vertex` a query is what
--- follows the vertex · `chosen-either` the opposite of a corner · `firstOnes`, `ones-more` six points, filled one by one · `hasOpposite`, `opposite`,
--- `faces-torn`, `faces-cornerless`, `faces-whole` the ways through the corners.
+-- For the code: `vertex-refused`, `vertex-looked` the ways of `found`, `vertex-asked`, `asked-inner` what is known of a vertex that it finds ·
+-- `neighbours-vertex`, `faces-vertex` a query is what follows the vertex · `chosen-either` the opposite of a corner · `answerWith`, `firstOnes`,
+-- `ones-more` six points, filled one by one · `hasOpposite`, `opposite`, `faces-torn`, `faces-cornerless`, `faces-whole` the ways through the corners.
 -- Assumes nothing.
 use mathlib.Core.Path.{_≡_, refl, sym, ap, _∙_, subst}
 use mathlib.Core.Bool.{Bool, true, false, cond, _&&_}
@@ -13,7 +13,8 @@ use lib.Dec.{eqb, ltb}
 use lib.IntN.{ℤ}
 use lib.ListN.{set}
 use Rattle.laws.specs.Rules.{upto}
-use Rattle.laws.specs.Each.{and-false, true-fact, upto-fails}
+use Rattle.laws.specs.Choices.{of-true}
+use Rattle.laws.specs.Each.{and-false, upto-fails}
 use Rattle.lattice.specs.Points.{normalOf}
 use Rattle.lattice.specs.Records.{validOf}
 use Rattle.lattice.specs.RecordLaws.{Inner, inner}
@@ -28,7 +29,8 @@ use Rattle.table.specs.Order.{inOrderOf, InOrder}
 use Rattle.table.specs.MapLaws.{lookup-valid, test-order, order-table}
 use Rattle.table.specs.declared.entries.Looked.{Looked}
 use Rattle.table.specs.declared.entries.Looked.the-variants.{Absent, Held}
-use Rattle.queries.specs.Queries.{there, chosenAt, isAt, cornersThere, pointOr0, facesGiven, neighboursAt, facesAt, queryLooked, queryOf, neighboursOf, facesOf}
+use Rattle.queries.specs.Queries.{there, chosenAt, isPoint, cornersThere, pointOr0, facesGiven, neighboursAt, facesAt}
+use Rattle.queries.specs.Queries.{queryLooked, queryOf, neighboursOf, facesOf}
 use Rattle.queries.specs.Vertices.{vertexLooked, vertexOf, answerOf, Asked}
 use Rattle.queries.specs.Opposites.{orElse, eitherIn, facesIf}
 use Rattle.queries.specs.declared.vertices.Vertex.{Vertex}
@@ -67,7 +69,8 @@ module _ (t : List ℕ) (a b : ℤ) (m : ℕ) where
       boundary u true k q = refused-star q
       boundary u false k q = let s : u ≡ v = cc in (s, λ x. eqb-false (u .d) 0 k (ap (λ (r : Record). r .d) s ∙ x))
 
-      ordered : (o : Bool) → inOrderOf t ≡ o → (l : Looked) → lookUp t (normalOf a b m) ≡ l → cond o (vertexLooked l) (Refused 1) ≡ Star v → Asked t n v
+      ordered : (o : Bool) → inOrderOf t ≡ o → (l : Looked) → lookUp t (normalOf a b m) ≡ l → cond o (vertexLooked l) (Refused 1) ≡ Star v
+          → Asked t n v
       ordered false g l k q = refused-star q
       ordered true g Absent k q = refused-star q
       ordered true g (Held u) k q =
@@ -102,7 +105,7 @@ module _ (t : List ℕ) (a b : ℤ) (m : ℕ) where
   faces-vertex w e = ap (answerOf (facesAt t)) (sym e) ∙ query-vertex (facesAt t)
 
 pub asked-inner : {t : List ℕ} {n : ℕ} {v : Record} → Asked t n v → Inner v
-asked-inner {v = v} k = inner v (true-fact (validOf v) (k .valid)) (k .inside)
+asked-inner {v = v} k = inner v (of-true (k .valid)) (k .inside)
 
 -- ---- the opposite of a corner
 
@@ -143,7 +146,7 @@ ones-more f j h p e = ap (set (firstOnes f j) j) e ∙ go j h
 module _ (t : List ℕ) (v : Record) where
   -- corner j has an opposite in the table, and which
   abbrev pub hasOpposite : ℕ → Bool
-  hasOpposite j = isAt (chosenAt t v j)
+  hasOpposite j = isPoint (chosenAt t v j)
 
   abbrev pub opposite : ℕ → Point
   opposite j = pointOr0 (chosenAt t v j)
@@ -154,8 +157,10 @@ module _ (t : List ℕ) (v : Record) where
   pub faces-cornerless : (whole : Bool) (j : ℕ) → j < v .d → hasOpposite j ≡ false → refused 7 ≡ facesIf t v whole
   unfolding cornersThere
   faces-cornerless whole j h e =
-      ap (λ (z : Bool). cond z (facesGiven t v) (refused 7)) (sym (and-false whole) ∙ ap (λ (y : Bool). whole && y) (sym (upto-fails hasOpposite j (v .d) h e)))
+      ap (λ (z : Bool). cond z (facesGiven t v) (refused 7))
+      (sym (and-false whole) ∙ ap (λ (y : Bool). whole && y) (sym (upto-fails hasOpposite j (v .d) h e)))
 
-  pub faces-whole : (whole : Bool) → whole ≡ true → upto (v .d) hasOpposite ≡ true → (ps : List Point) → ps ≡ firstOnes opposite (v .d) → answerWith (v .d) ps ≡ facesIf t v whole
+  pub faces-whole : (whole : Bool) → whole ≡ true → upto (v .d) hasOpposite ≡ true → (ps : List Point) → ps ≡ firstOnes opposite (v .d)
+      → answerWith (v .d) ps ≡ facesIf t v whole
   unfolding cornersThere
   faces-whole whole h b ps e = ap (answerWith (v .d)) e ∙ ap (λ (y : Bool). cond y (facesGiven t v) (refused 7)) (sym b) ∙ ap (facesIf t v) (sym h)

@@ -1,5 +1,5 @@
--- What both queries begin with, as `found` promises it: `vertexOf` the vertex that is asked, or the number of a refusal · `answerOf` what a query answers then (QueryLaws:
--- `neighbours-vertex`, `faces-vertex`) · `Asked` what is known of the vertex and its table.
+-- What both queries begin with, as `found` promises it: `vertexOf` the vertex that is asked, or the number of a refusal · `answerOf` what a query
+-- answers then (QueryLaws: `neighbours-vertex`, `faces-vertex`) · `Asked` what is known of the vertex and its table.
 -- Assumes nothing.
 use mathlib.Core.Path.{_≡_}
 use mathlib.Core.Bool.{true, cond}
@@ -7,6 +7,7 @@ use mathlib.Core.List.{List}
 use Prim.Native.Nat.{ℕ}
 use lib.Dec.{eqb}
 use lib.IntN.{ℤ}
+use Rattle.laws.specs.Choices.{unless}
 use Rattle.lattice.specs.Points.{normalOf}
 use Rattle.lattice.specs.Records.{validOf}
 use Rattle.lattice.specs.Stars.{refused}
@@ -27,7 +28,7 @@ vertexLooked (Held v) = cond (eqb (v .d) 0) (Refused 14) (Star v)
 
 -- "1: table not in order"; "Every point in a request is normalised before it is looked up"
 unfoldable pub vertexOf : List ℕ → ℤ → ℤ → ℕ → Vertex
-vertexOf t a b m = cond (inOrderOf t) (vertexLooked (lookUp t (normalOf a b m))) (Refused 1)
+vertexOf t a b m = unless (inOrderOf t) (Refused 1) (vertexLooked (lookUp t (normalOf a b m)))
 
 -- the number and the values for each case, where a query goes on by f
 abbrev pub answerOf : (Record → Answer) → Vertex → Answer

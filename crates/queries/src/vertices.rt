@@ -1,6 +1,9 @@
 // What both queries begin with: the vertex at the point that is asked, or the number of its refusal.
 ghost use mathlib.Core.Path.{_≡_};
 ghost use Rattle.queries.specs.Vertices.{vertexOf};
+use lattice::BOUNDARY;
+use lattice::NO_RECORD;
+use lattice::NOT_IN_ORDER;
 use lattice::Record;
 use table::Looked;
 use table::in_order;
@@ -12,13 +15,6 @@ pub enum Vertex {
     Refused(u8),
     Star(Record),
 }
-
-// Document 01's numbers, in the order in which they are tried.
-const NOT_IN_ORDER: u8 = 1;
-
-const NO_RECORD: u8 = 3;
-
-const BOUNDARY: u8 = 14;
 
 // The vertex at a point as a request gives it.
 pub fn found(t: &[u8], a: i32, b: i32, m: u8) -> Vertex

@@ -1,5 +1,6 @@
 -- A table with records added: what reading lines and restoring do to a table in order.
--- `Adds P t u` u is t with records added, each of which is P · `adds-none`, `adds-one`, `adds-then` how it comes about · `adds-as` said of more records · `adds-slots` as many slots.
+-- `Adds P t u` u is t with records added, each of which is P · `adds-none`, `adds-one`, `adds-then` how it comes about · `adds-as` said of more
+-- records · `adds-slots` as many slots.
 -- Assumes nothing.
 use mathlib.Core.Path.{_≡_, refl, sym, ap, _∙_, subst}
 use mathlib.Core.Logic.{_⊎_, inl, inr}
@@ -35,9 +36,16 @@ pub adds-none : (P : Record → Type 0) (t : List ℕ) → InOrder t → Adds P 
 adds-none P t o = record { order = o; long = refl; keeps = λ p r h. h; only = λ p r h. inl h }
 
 -- a valid record at a point that is absent, entered
-pub adds-one : (P : Record → Type 0) (t : List ℕ) (r : Record) → InOrder t → validOf r ≡ true → lookUp t (r .at) ≡ Absent → 0 < freeSlots t → P r → Adds P t (enterOf t r)
+pub adds-one : (P : Record → Type 0) (t : List ℕ) (r : Record) → InOrder t → validOf r ≡ true → lookUp t (r .at) ≡ Absent → 0 < freeSlots t → P r
+    → Adds P t (enterOf t r)
 adds-one P t r o ok none room h =
-    record { order = enter-order t o r ok; long = enter-length t r; keeps = λ p q k. kept p q k (same-or-not p (r .at)); only = λ p q k. from p q k (same-or-not p (r .at)) }
+    record {
+      order = enter-order t o r ok;
+      long = enter-length t r;
+      keeps = λ p q k. kept p q k (same-or-not p (r .at));
+      only = λ p q k.
+          from p q k (same-or-not p (r .at));
+    }
   where
     kept : (p : Point) (q : Record) → lookUp t p ≡ Held q → Dec (p ≡ r .at) → lookUp (enterOf t r) p ≡ Held q
     kept p q k (yes e) = held-absent k (ap (lookUp t) e ∙ none)

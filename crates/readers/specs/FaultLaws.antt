@@ -15,7 +15,9 @@ use Rattle.table.specs.declared.probe.Found.{Found}
 use Rattle.text.specs.Line.{lineAt}
 use Rattle.text.specs.declared.line.Line.{Line}
 use Rattle.text.specs.declared.line.Line.the-variants.{Good, Bad, End}
-use Rattle.readers.specs.Readers.{Lines, Read, Fault, after, above, noSlot, lineRead, linesFrom, restoredOf, Restored, With, Stopped, restoreAt, restore, restoreTo, restoreAll}
+use Rattle.lattice.specs.Subdivision.{bornOf}
+use Rattle.readers.specs.Readers.{Lines, Read, Fault, after, above, noSlot, lineRead, linesFrom, Restored, With, Stopped, restoreAt, restore}
+use Rattle.readers.specs.Readers.{restoreTo, restoreAll}
 use Rattle.table.specs.declared.probe.Found.the-variants as found
 
 -- "per line 9, 10, 8"
@@ -37,12 +39,14 @@ of-line f (suc left) p i q t = go (lineAt f p) (λ r next. of-line f left next (
     judge r x h true true = (omega arith, omega arith)
     judge r x h true false = with-it r x h
 
-    go : (l : Line) → ((r : Record) (next : ℕ) → OfLine (linesFrom f left next (i + 1) (some r) (enterOf t r))) → OfLine (lineRead i q t (λ r next. linesFrom f left next (i + 1) (some r) (enterOf t r)) l)
+    go : (l : Line) → ((r : Record) (next : ℕ) → OfLine (linesFrom f left next (i + 1) (some r) (enterOf t r)))
+        → OfLine (lineRead i q t (λ r next. linesFrom f left next (i + 1) (some r) (enterOf t r)) l)
     go End ih = tt
     go Bad ih = (omega arith, omega arith)
     go (Good r next) ih = judge r (linesFrom f left next (i + 1) (some r) (enterOf t r)) (ih r next) (above q r) (noSlot (findOf t (r .at)))
 
-pub fault-number : (f : List ℕ) (left p i : ℕ) (q : Option Record) (t : List ℕ) (number line : ℕ) → linesFrom f left p i q t ≡ Fault number line → (8 ≤ number) × (number ≤ 10)
+pub fault-number : (f : List ℕ) (left p i : ℕ) (q : Option Record) (t : List ℕ) (number line : ℕ) → linesFrom f left p i q t ≡ Fault number line
+    → (8 ≤ number) × (number ≤ 10)
 fault-number f left p i q t number line e = subst OfLine e (of-line f left p i q t)
 
 -- "at the first point met, 11 if the new record is not valid, else 8 if no slot is free"
@@ -70,7 +74,7 @@ of-restore (With t) r h = go (findOf t (r .at))
 of-to : (v : Record) (j : ℕ) (x : Restored) → OfRestoring x → OfRestoring (restoreTo v j x)
 unfolding restoreTo
 of-to v zero x h = h
-of-to v (suc j) x h = of-restore (restoreTo v j x) (restoredOf v j) (of-to v j x h)
+of-to v (suc j) x h = of-restore (restoreTo v j x) (bornOf v j) (of-to v j x h)
 
 of-all : (rs : List Record) (x : Restored) → OfRestoring x → OfRestoring (restoreAll rs x)
 unfolding restoreAll

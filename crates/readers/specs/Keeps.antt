@@ -1,6 +1,8 @@
 -- Whether a reduced file kept a redundant record, told before anything is restored: "12: grown, but a redundant record was kept in a reduced file".
--- `tableKeeps` one of the first slots holds a degree 6 record with an adjacent record of degree 3 · `keeps-redundant` in the table of the file's records that is the same as 12's own test.
--- Why: what is restored has degree 3, so the degree 6 records of the finished table are the file's; and the table before restoring holds the file's records and no other.
+-- `tableKeeps` one of the first slots holds a degree 6 record with an adjacent record of degree 3 · `keeps-redundant` in the table of the file's
+-- records that is the same as 12's own test.
+-- Why: what is restored has degree 3, so the degree 6 records of the finished table are the file's; and the table before restoring holds the
+-- file's records and no other.
 -- Assumes nothing.
 use mathlib.Core.Path.{_≡_, refl, sym, ap, _∙_}
 use mathlib.Core.Logic.{_⊎_, inl, inr}
@@ -12,6 +14,7 @@ use borrow.Author.Tests.{eq-eqb, eqb-true, ne-eqb}
 use lib.Dec.{eqb}
 use Rattle.laws.specs.Each.{not-both, both-left, both-right, same-test, among-at, at-among}
 use Rattle.laws.specs.Rules.{among}
+use Rattle.laws.specs.Some.{someOf, some-at, at-some}
 use Rattle.lattice.specs.Stars.{adjacentAt}
 use Rattle.lattice.specs.declared.points.Point.{Point}
 use Rattle.lattice.specs.declared.records.Record.{Record}
@@ -23,8 +26,8 @@ use Rattle.table.specs.declared.slots.Slot.{Slot}
 use Rattle.table.specs.declared.slots.Slot.the-variants.{Free, Holds}
 use Rattle.table.specs.declared.entries.Looked.{Looked}
 use Rattle.table.specs.declared.entries.Looked.the-variants.{Absent, Held}
-use Rattle.writers.specs.Files.{someOf, redundant}
-use Rattle.writers.specs.RedundantLaws.{some-at, at-some, Redundant, redundant-is, is-redundant}
+use Rattle.writers.specs.Files.{redundant}
+use Rattle.writers.specs.RedundantLaws.{Redundant, redundant-is, is-redundant}
 use Rattle.readers.specs.Additions.{Adds}
 use Rattle.readers.specs.ReadLaws.{Lined}
 
@@ -63,7 +66,8 @@ module _ (t : List ℕ) (o : InOrder t) where
   table-keeps : tableKeeps t (slotsOf t) ≡ true → (r : Record) × (lookUp t (r .at) ≡ Held r) × Redundant t r
   table-keeps h = let (i, l, e) = among-at (λ i. slotKeeps t (slotAt t i)) (slotsOf t) h in slot i l (slotAt t i) refl e
     where
-      star : (v : Record) → lookUp t (v .at) ≡ Held v → v .d ≡ 6 → (j : ℕ) → j < 6 → (x : Looked) → lookUp t (adjacentAt v j) ≡ x → isThree x ≡ true → (r : Record) × (lookUp t (r .at) ≡ Held r) × Redundant t r
+      star : (v : Record) → lookUp t (v .at) ≡ Held v → v .d ≡ 6 → (j : ℕ) → j < 6 → (x : Looked) → lookUp t (adjacentAt v j) ≡ x → isThree x ≡ true
+          → (r : Record) × (lookUp t (r .at) ≡ Held r) × Redundant t r
       star v k six j b Absent e h = absurd (not-both h refl)
       star v k six j b (Held r) e h =
           let at = lookup-point t o (adjacentAt v j) r e in (
@@ -82,7 +86,8 @@ module _ (t : List ℕ) (o : InOrder t) where
   keeps-table r found w =
       let v = w .centre in
       let s = lookup-stands t o (v .at) v (records-looked t o v (w .listed)) in
-      let three : isThree (lookUp t (adjacentAt v (w .place))) ≡ true = ap (λ (p : Point). isThree (lookUp t p)) (w .adjacent) ∙ ap isThree found ∙ eq-eqb (r .d) 3 (w .three) in
+      let three : isThree (lookUp t (adjacentAt v (w .place))) ≡ true = ap (λ (p : Point). isThree (lookUp t p)) (w .adjacent) ∙ ap isThree found
+      ∙ eq-eqb (r .d) 3 (w .three) in
       let star : starKeeps t v 6 ≡ true = at-among (λ j. isThree (lookUp t (adjacentAt v j))) 6 (w .place) (w .below) three in
       at-among (λ i. slotKeeps t (slotAt t i)) (slotsOf t) (s .slot) (s .below) (sym (six-keeps t (slotAt t (s .slot)) v (s .holds) (w .six)) ∙ star)
 
@@ -91,7 +96,8 @@ centred : (t u : List ℕ) (r : Record) (w : Redundant t r) → List·Memᴰ (w 
 centred t u r w m = record { three = w .three; centre = w .centre; listed = m; six = w .six; place = w .place; below = w .below; adjacent = w .adjacent }
 
 -- t is the table of the file's records, u the same with records of degree 3 restored
-pub keeps-redundant : (f : List ℕ) (n : ℕ) (rs : List Record) (t u : List ℕ) → Lined f n rs t → Adds (λ r. r .d ≡ 3) t u → tableKeeps t (slotsOf t) ≡ someOf (redundant u) rs
+pub keeps-redundant : (f : List ℕ) (n : ℕ) (rs : List Record) (t u : List ℕ) → Lined f n rs t → Adds (λ r. r .d ≡ 3) t u → tableKeeps t (slotsOf t)
+    ≡ someOf (redundant u) rs
 keeps-redundant f n rs t u w a = same-test (tableKeeps t (slotsOf t)) (someOf (redundant u) rs) there back
   where
     there : tableKeeps t (slotsOf t) ≡ true → someOf (redundant u) rs ≡ true

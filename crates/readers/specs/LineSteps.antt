@@ -1,6 +1,7 @@
 -- The lines of a file, step by step as the code reads them.
--- `lineBefore` the record of the line before · `stepAt` what becomes of a line, `tableAfter` and of the table · `Ended` what reading ends with · `Reading` so far: `reading-start`,
--- `reading-over`, `reading-fault`, `reading-more`.
+-- `lineBefore` the record of the line before · `stepAt` what becomes of a line, `tableAfter` and of the table · `EndsAs` what reading ends with ·
+-- `Underway` so far: `underway-start`,
+-- `underway-over`, `underway-fault`, `underway-more`.
 -- Assumes nothing.
 use mathlib.Core.Path.{_≡_, refl, sym, ap, _∙_, subst}
 use mathlib.Core.Bool.{Bool, true, false, cond}
@@ -87,13 +88,15 @@ follow t rest (Entered r next j) = after r (rest r next)
 follow t rest Over = Read [] t
 follow t rest (Faulty number j) = Fault number j
 
-step-follow : (i : ℕ) (q : Option Record) (t : List ℕ) (rest : Record → ℕ → Lines) (l : Line) → lineRead i q t rest l ≡ follow t rest (stepAt q t i (numbered i l))
+step-follow : (i : ℕ) (q : Option Record) (t : List ℕ) (rest : Record → ℕ → Lines) (l : Line) → lineRead i q t rest l
+    ≡ follow t rest (stepAt q t i (numbered i l))
 unfolding enteredStep
 step-follow i q t rest End = refl
 step-follow i q t rest Bad = refl
 step-follow i q t rest (Good r next) = go (above q r) (noSlot (findOf t (r .at)))
   where
-    go : (a b : Bool) → cond a (cond b (Fault 8 i) (after r (rest r next))) (Fault 10 i) ≡ follow t rest (cond a (cond b (Faulty 8 i) (Entered r next (i + 1))) (Faulty 10 i))
+    go : (a b : Bool) → cond a (cond b (Fault 8 i) (after r (rest r next))) (Fault 10 i)
+        ≡ follow t rest (cond a (cond b (Faulty 8 i) (Entered r next (i + 1))) (Faulty 10 i))
     go true true = refl
     go true false = refl
     go false b = refl
@@ -124,7 +127,8 @@ module _ (f : List ℕ) (p i : ℕ) (q : Option Record) (t : List ℕ) where
       over : {A : Type 0} → Entered r next j ≡ Over → A
       over e = absurd (let z : _≡_ {A = ℕ} 0 1 = cc in omega arith)
 
-      good : (s : Record) (m : ℕ) (a b : Bool) → Entered r next j ≡ cond a (cond b (Faulty 8 i) (Entered s m (i + 1))) (Faulty 10 i) → (Good s m ≡ Good r next) × (j ≡ i + 1)
+      good : (s : Record) (m : ℕ) (a b : Bool) → Entered r next j ≡ cond a (cond b (Faulty 8 i) (Entered s m (i + 1))) (Faulty 10 i)
+          → (Good s m ≡ Good r next) × (j ≡ i + 1)
       good s m true true e = never e
       good s m true false e = same s m e
       good s m false b e = never e
@@ -137,38 +141,39 @@ module _ (f : List ℕ) (p i : ℕ) (q : Option Record) (t : List ℕ) where
 -- ---- all lines
 
 -- what reading ends with: the table with all records, or a fault
-pub data Ended (x : Lines) (number line : ℕ) (t : List ℕ) : Type 0 where
-  all-read : (rs : List Record) → x ≡ Read rs t → number ≡ 0 → line ≡ 0 → Ended x number line t
-  at-fault : x ≡ Fault number line → (number ≡ 0 → ⊥) → Ended x number line t
+pub data EndsAs (x : Lines) (number line : ℕ) (t : List ℕ) : Type 0 where
+  all-read : (rs : List Record) → x ≡ Read rs t → number ≡ 0 → line ≡ 0 → EndsAs x number line t
+  at-fault : x ≡ Fault number line → (number ≡ 0 → ⊥) → EndsAs x number line t
 
-pub ended-as : (x : Lines) {a a′ b b′ : ℕ} {t t′ : List ℕ} → a ≡ a′ → b ≡ b′ → t ≡ t′ → Ended x a′ b′ t′ → Ended x a b t
-ended-as x {a} {a′} {b} {b′} {t} {t′} e f g d = subst (λ (k : ℕ). Ended x k b t) (sym e) (subst (λ (k : ℕ). Ended x a′ k t) (sym f) (subst (Ended x a′ b′) (sym g) d))
+pub ends-as : (x : Lines) {a a′ b b′ : ℕ} {t t′ : List ℕ} → a ≡ a′ → b ≡ b′ → t ≡ t′ → EndsAs x a′ b′ t′ → EndsAs x a b t
+ends-as x {a} {a′} {b} {b′} {t} {t′} e f g d =
+    subst (λ (k : ℕ). EndsAs x k b t) (sym e) (subst (λ (k : ℕ). EndsAs x a′ k t) (sym f) (subst (EndsAs x a′ b′) (sym g) d))
 
 -- the two cases, by the number
-pub ended-read : (x : Lines) {number line : ℕ} {t : List ℕ} → Ended x number line t → number ≡ 0 → (rs : List Record) × (x ≡ Read rs t) × (line ≡ 0)
-ended-read x (all-read rs e a b) h = (rs, e, b)
-ended-read x (at-fault e a) h = absurd (a h)
+pub ends-read : (x : Lines) {number line : ℕ} {t : List ℕ} → EndsAs x number line t → number ≡ 0 → (rs : List Record) × (x ≡ Read rs t) × (line ≡ 0)
+ends-read x (all-read rs e a b) h = (rs, e, b)
+ends-read x (at-fault e a) h = absurd (a h)
 
-pub ended-fault : (x : Lines) {number line : ℕ} {t : List ℕ} → Ended x number line t → (number ≡ 0 → ⊥) → x ≡ Fault number line
-ended-fault x (all-read rs e a b) h = absurd (h a)
-ended-fault x (at-fault e a) h = e
+pub ends-fault : (x : Lines) {number line : ℕ} {t : List ℕ} → EndsAs x number line t → (number ≡ 0 → ⊥) → x ≡ Fault number line
+ends-fault x (all-read rs e a b) h = absurd (h a)
+ends-fault x (at-fault e a) h = e
 
-ended-after : (r : Record) (x : Lines) {number line : ℕ} {t : List ℕ} → Ended x number line t → Ended (after r x) number line t
-ended-after r x (all-read rs e a b) = all-read (r ∷ rs) (ap (after r) e) a b
-ended-after r x (at-fault e a) = at-fault (ap (after r) e) a
+ends-after : (r : Record) (x : Lines) {number line : ℕ} {t : List ℕ} → EndsAs x number line t → EndsAs (after r x) number line t
+ends-after r x (all-read rs e a b) = all-read (r ∷ rs) (ap (after r) e) a b
+ends-after r x (at-fault e a) = at-fault (ap (after r) e) a
 
 -- line i stands at p, and what is read from there on is what is read of the whole
-pub record Reading (f t₀ : List ℕ) (p i : ℕ) (q : Option Record) (t : List ℕ) : Type 0 where
+pub record Underway (f t₀ : List ℕ) (p i : ℕ) (q : Option Record) (t : List ℕ) : Type 0 where
   pub left : ℕ
   pub enough : length f ≤ p + left
-  pub whole : (number line : ℕ) (u : List ℕ) → Ended (linesFrom f left p i q t) number line u → Ended (readLines f t₀) number line u
+  pub whole : (number line : ℕ) (u : List ℕ) → EndsAs (linesFrom f left p i q t) number line u → EndsAs (readLines f t₀) number line u
   pub within : p ≤ length f
   pub first : 1 ≤ i
   pub count : 12 * i ≤ p + 12
   pub long : length t ≡ length t₀
 
-pub reading-start : (f t : List ℕ) → Reading f t 0 1 none t
-reading-start f t = record {
+pub underway-start : (f t : List ℕ) → Underway f t 0 1 none t
+underway-start f t = record {
   left = length f;
   enough = let h : length f ≤ 0 + length f = omega arith in h;
   whole = λ number line u e. e;
@@ -178,36 +183,38 @@ reading-start f t = record {
   long = refl;
 }
 
-module _ (f t₀ : List ℕ) (p i : ℕ) (q : Option Record) (t : List ℕ) (w : Reading f t₀ p i q t) where
+module _ (f t₀ : List ℕ) (p i : ℕ) (q : Option Record) (t : List ℕ) (w : Underway f t₀ p i q t) where
   step : (s : Step) → s ≡ stepAt q t i (metAt f p i) → linesFrom f (w .left) p i q t ≡ follow t (onward f p i q t (w .left - 1)) s
   step s e = lines-step f p i q t (w .left) (w .enough) s e
 
-  pub reading-over : Over ≡ stepAt q t i (metAt f p i) → Ended (readLines f t₀) 0 0 t
-  reading-over e = w .whole 0 0 t (all-read [] (step Over e) refl refl)
+  pub underway-over : Over ≡ stepAt q t i (metAt f p i) → EndsAs (readLines f t₀) 0 0 t
+  underway-over e = w .whole 0 0 t (all-read [] (step Over e) refl refl)
 
-  pub reading-fault : (number j : ℕ) (u : List ℕ) → Faulty number j ≡ stepAt q t i (metAt f p i) → Ended (readLines f t₀) number j u
-  reading-fault number j u e =
+  pub underway-fault : (number j : ℕ) (u : List ℕ) → Faulty number j ≡ stepAt q t i (metAt f p i) → EndsAs (readLines f t₀) number j u
+  underway-fault number j u e =
       let h = step (Faulty number j) e in
       let l = fault-number f (w .left) p i q t number j h in
       w .whole number j u (at-fault h (λ z. omega arith))
 
   module _ (r : Record) (next j : ℕ) (e : Entered r next j ≡ stepAt q t i (metAt f p i)) where
     -- the next line stands further on
-    pub reading-next : (p + 12 ≤ next) × (next ≤ length f)
-    reading-next = line-next f p next r (step-good f p i q t r next j e .0)
+    pub underway-next : (p + 12 ≤ next) × (next ≤ length f)
+    underway-next = line-next f p next r (step-good f p i q t r next j e .0)
 
-    pub reading-more : Reading f t₀ next j (lineBefore j r) (enterOf t r)
-    reading-more =
-        let n = reading-next in
+    pub underway-more : Underway f t₀ next j (lineBefore j r) (enterOf t r)
+    underway-more =
+        let n = underway-next in
         let h = w .enough in
         let c = w .count in
         let o : lineBefore (i + 1) r ≡ some r = ap (λ (b : Bool). cond b none (some r)) (ne-eqb (i + 1) 1 (omega (arith, w .first))) in
-        subst (λ (k : ℕ). Reading f t₀ next k (lineBefore k r) (enterOf t r)) (sym (step-good f p i q t r next j e .1))
-        (subst (λ (x : Option Record). Reading f t₀ next (i + 1) x (enterOf t r)) (sym o)
+        subst (λ (k : ℕ). Underway f t₀ next k (lineBefore k r) (enterOf t r)) (sym (step-good f p i q t r next j e .1))
+        (subst (λ (x : Option Record). Underway f t₀ next (i + 1) x (enterOf t r)) (sym o)
         (record {
           left = w .left - 1;
           enough = omega (arith, n .0);
-          whole = λ number line u d. w .whole number line u (subst (λ (x : Lines). Ended x number line u) (sym (step (Entered r next j) e)) (ended-after r (onward f p i q t (w .left - 1) r next) d));
+          whole = λ number line u d.
+              w .whole number line u
+              (subst (λ (x : Lines). EndsAs x number line u) (sym (step (Entered r next j) e)) (ends-after r (onward f p i q t (w .left - 1) r next) d));
           within = n .1;
           first = omega (arith, w .first);
           count = omega (arith, n .0);

@@ -1,4 +1,5 @@
--- What reading the lines of a file obeys: a file is read where it is the lines of valid records that rise strictly, and no more of them than slots; the table then holds those records and no other.
+-- What reading the lines of a file obeys: a file is read where it is the lines of valid records that rise strictly, and no more of them than
+-- slots; the table then holds those records and no other.
 -- `read-lines` what a file that was read is (`Lined`) · `lines-read` such a file is read · `lines-one` valid records are told by their lines.
 -- The line before is a bound on the order of lines (writers' specs/LineOrder): what the table holds lies below it, so the point of the next line is absent.
 -- Assumes nothing.
@@ -21,7 +22,8 @@ use Rattle.table.specs.Slots.{Table, slotsIn, slotsOf, clearedOf, freeSlots}
 use Rattle.table.specs.Search.{findOf}
 use Rattle.table.specs.Order.{InOrder}
 use Rattle.table.specs.Entries.{lookUp, enterOf, recordsOf}
-use Rattle.table.specs.MapLaws.{Searched, there, room, full, searched, find-free, enter-finds, enter-free, enter-records, lookup-point, records-count, table-of, table-slots, clear-order, clear-absent, clear-free, clear-length}
+use Rattle.table.specs.MapLaws.{Searched, there, room, full, searched, find-free, enter-finds, enter-free, enter-records, lookup-point, records-count}
+use Rattle.table.specs.MapLaws.{table-of, table-slots, clear-order, clear-absent, clear-free, clear-length}
 use Rattle.table.specs.declared.entries.Looked.{Looked}
 use Rattle.table.specs.declared.entries.Looked.the-variants.{Absent, Held}
 use Rattle.text.specs.Line.{lineOf, lines, lineAt}
@@ -147,7 +149,8 @@ module _ (t : List ℕ) (o : InOrder t) (q : Option Record) (low : Below t q) (r
         go (inr k) = let l : orderOf (x .at) ≡ orderOf (r .at) = ap (λ (y : Record). orderOf (y .at)) k in omega arith
 
     -- the records behind it, with it
-    line-from : (f : List ℕ) (p next : ℕ) (rs : List Record) (u : List ℕ) → lineAt f p ≡ Good r next → From f next (some r) (enterOf t r) rs u → From f p q t (r ∷ rs) u
+    line-from : (f : List ℕ) (p next : ℕ) (rs : List Record) (u : List ℕ) → lineAt f p ≡ Good r next → From f next (some r) (enterOf t r) rs u
+        → From f p q t (r ∷ rs) u
     unfolding lines
     line-from f p next rs u e w =
         let s = line-read f p next r e .1 in
@@ -158,7 +161,8 @@ module _ (t : List ℕ) (o : InOrder t) (q : Option Record) (low : Below t q) (r
           rises = (λ x m. order-before r x ok (w .valid x m) (w .later x m), w .rises);
           valid = λ x m. sound x (List·Memᴰ·cases-cons m);
           later = λ x m. late x (List·Memᴰ·cases-cons m);
-          adds = adds-then (λ x. List·Memᴰ x (r ∷ rs)) t (enterOf t r) u (line-adds (λ x. List·Memᴰ x (r ∷ rs)) (List·Memᴰ·head refl)) (adds-as (λ x. List·Memᴰ x rs) (λ x. List·Memᴰ x (r ∷ rs)) (enterOf t r) u (λ x m. List·Memᴰ·tail m) (w .adds));
+          adds = adds-then (λ x. List·Memᴰ x (r ∷ rs)) t (enterOf t r) u (line-adds (λ x. List·Memᴰ x (r ∷ rs)) (List·Memᴰ·head refl))
+              (adds-as (λ x. List·Memᴰ x rs) (λ x. List·Memᴰ x (r ∷ rs)) (enterOf t r) u (λ x m. List·Memᴰ·tail m) (w .adds));
           held = λ x m. stays x (List·Memᴰ·cases-cons m);
           count = omega arith;
         }
@@ -177,17 +181,22 @@ module _ (t : List ℕ) (o : InOrder t) (q : Option Record) (low : Below t q) (r
 
 -- ---- what was read
 
-pub lines-told : (f : List ℕ) (left p i : ℕ) (q : Option Record) (t : List ℕ) → InOrder t → Sound q → Below t q → length f ≤ p + left → Told f p q t (linesFrom f left p i q t)
+pub lines-told : (f : List ℕ) (left p i : ℕ) (q : Option Record) (t : List ℕ) → InOrder t → Sound q → Below t q → length f ≤ p + left
+    → Told f p q t (linesFrom f left p i q t)
 unfolding linesFrom
 lines-told f zero p i q t o s low h = from-end f p q t o (omega arith)
 lines-told f (suc left) p i q t o s low h = go (lineAt f p) refl (λ r next. lines-told f left next (i + 1) (some r) (enterOf t r))
   where
-    with-it : (r : Record) (next : ℕ) (ok : validOf r ≡ true) (high : bound q ≤ orderOf (r .at)) (free : 0 < freeSlots t) → lineAt f p ≡ Good r next → (x : Lines) → Told f next (some r) (enterOf t r) x → Told f p q t (after r x)
+    with-it : (r : Record) (next : ℕ) (ok : validOf r ≡ true) (high : bound q ≤ orderOf (r .at)) (free : 0 < freeSlots t) → lineAt f p ≡ Good r next
+        → (x : Lines) → Told f next (some r) (enterOf t r) x → Told f p q t (after r x)
     with-it r next ok high free e (Fault number line) w = tt
     with-it r next ok high free e (Read rs u) w = line-from t o q low r ok high free f p next rs u e w
 
-    judge : (r : Record) (next : ℕ) → lineAt f p ≡ Good r next → (InOrder (enterOf t r) → Sound (some r) → Below (enterOf t r) (some r) → length f ≤ next + left → Told f next (some r) (enterOf t r) (linesFrom f left next (i + 1) (some r) (enterOf t r)))
-        → (a b : Bool) → above q r ≡ a → noSlot (findOf t (r .at)) ≡ b → Told f p q t (cond a (cond b (Fault 8 i) (after r (linesFrom f left next (i + 1) (some r) (enterOf t r)))) (Fault 10 i))
+    judge : (r : Record) (next : ℕ) → lineAt f p ≡ Good r next
+        → (InOrder (enterOf t r) → Sound (some r) → Below (enterOf t r) (some r) → length f ≤ next + left
+        → Told f next (some r) (enterOf t r) (linesFrom f left next (i + 1) (some r) (enterOf t r)))
+        → (a b : Bool) → above q r ≡ a → noSlot (findOf t (r .at)) ≡ b
+        → Told f p q t (cond a (cond b (Fault 8 i) (after r (linesFrom f left next (i + 1) (some r) (enterOf t r)))) (Fault 10 i))
     judge r next e ih false b x y = tt
     judge r next e ih true true x y = tt
     judge r next e ih true false x y =
@@ -199,7 +208,8 @@ lines-told f (suc left) p i q t o s low h = go (lineAt f p) refl (λ r next. lin
         (ih (line-adds t o q low r ok high free (λ z. Unit) tt .order) ok (line-below t o q low r ok high free) (omega arith))
 
     go : (l : Line) → lineAt f p ≡ l
-        → ((r : Record) (next : ℕ) → InOrder (enterOf t r) → Sound (some r) → Below (enterOf t r) (some r) → length f ≤ next + left → Told f next (some r) (enterOf t r) (linesFrom f left next (i + 1) (some r) (enterOf t r)))
+        → ((r : Record) (next : ℕ) → InOrder (enterOf t r) → Sound (some r) → Below (enterOf t r) (some r) → length f ≤ next + left
+        → Told f next (some r) (enterOf t r) (linesFrom f left next (i + 1) (some r) (enterOf t r)))
         → Told f p q t (lineRead i q t (λ r next. linesFrom f left next (i + 1) (some r) (enterOf t r)) l)
     go End e ih = from-end f p q t o (end-line f p e)
     go Bad e ih = tt
@@ -208,12 +218,14 @@ lines-told f (suc left) p i q t o s low h = go (lineAt f p) refl (λ r next. lin
 -- ---- what is read
 
 -- a line above the one before, with a slot for it
-lines-good : (f : List ℕ) (left p i : ℕ) (q : Option Record) (t : List ℕ) (r : Record) (next : ℕ) → lineAt f p ≡ Good r next → above q r ≡ true → noSlot (findOf t (r .at)) ≡ false
+lines-good : (f : List ℕ) (left p i : ℕ) (q : Option Record) (t : List ℕ) (r : Record) (next : ℕ) → lineAt f p ≡ Good r next → above q r ≡ true
+    → noSlot (findOf t (r .at)) ≡ false
     → linesFrom f (suc left) p i q t ≡ after r (linesFrom f left next (i + 1) (some r) (enterOf t r))
 unfolding linesFrom
 lines-good f left p i q t r next e a b =
     let rest = linesFrom f left next (i + 1) (some r) (enterOf t r) in
-    ap (lineRead i q t (λ r next. linesFrom f left next (i + 1) (some r) (enterOf t r))) e ∙ (λ j. cond (a j) (cond (b j) (Fault 8 i) (after r rest)) (Fault 10 i))
+    ap (lineRead i q t (λ r next. linesFrom f left next (i + 1) (some r) (enterOf t r))) e
+    ∙ (λ j. cond (a j) (cond (b j) (Fault 8 i) (after r rest)) (Fault 10 i))
 
 pub from-lines : (f : List ℕ) (left p i : ℕ) (q : Option Record) (t : List ℕ) (rs : List Record) → InOrder t → Sound q → Below t q → Rising Before rs → Valid rs
     → ((r : Record) → List·Memᴰ r rs → bound q ≤ orderOf (r .at)) → length rs ≤ freeSlots t → Stands f p (lines rs) (length f) → length f ≤ p + left
@@ -221,7 +233,8 @@ pub from-lines : (f : List ℕ) (left p i : ℕ) (q : Option Record) (t : List �
 unfolding linesFrom lines
 from-lines f zero p i q t [] o s low rise ok late free st h = (t, refl)
 from-lines f zero p i q t (r ∷ rs) o s low rise ok late free st h = absurd (omega (arith, st .past, lines-least (r ∷ rs)))
-from-lines f (suc left) p i q t [] o s low rise ok late free st h = (t, ap (lineRead i q t (λ r next. linesFrom f left next (i + 1) (some r) (enterOf t r))) (line-end f p (omega (arith, st .past))))
+from-lines f (suc left) p i q t [] o s low rise ok late free st h =
+    (t, ap (lineRead i q t (λ r next. linesFrom f left next (i + 1) (some r) (enterOf t r))) (line-end f p (omega (arith, st .past))))
 from-lines f (suc left) p i q t (r ∷ rs) o s low rise ok late free st h =
     let valid = ok r (List·Memᴰ·head refl) in
     let high = late r (List·Memᴰ·head refl) in
@@ -232,7 +245,8 @@ from-lines f (suc left) p i q t (r ∷ rs) o s low rise ok late free st h =
     let less = enter-free t o r valid absent some-free in
     let on = line-next f p next r (e .0) in
     let w =
-    from-lines f left next (i + 1) (some r) (enterOf t r) rs (line-adds t o q low r valid high some-free (λ z. Unit) tt .order) valid (line-below t o q low r valid high some-free) (rise .1)
+    from-lines f left next (i + 1) (some r) (enterOf t r) rs (line-adds t o q low r valid high some-free (λ z. Unit) tt .order) valid
+    (line-below t o q low r valid high some-free) (rise .1)
     (λ x m. ok x (List·Memᴰ·tail m))
     (λ x m. before-order r x valid (ok x (List·Memᴰ·tail m)) (rise .0 x m))
     (omega arith)
@@ -271,7 +285,8 @@ module _ (t : List ℕ) (n : ℕ) (w : Table t n) where
   -- what a file that was read is
   pub read-lines : (f : List ℕ) (rs : List Record) (u : List ℕ) → readLines f (clearedOf t) ≡ Read rs u → Lined f n rs u
   read-lines f rs u e =
-      let x : From f 0 none (clearedOf t) rs u = subst (Told f 0 none (clearedOf t)) e (lines-told f (length f) 0 1 none (clearedOf t) (clear-order t fits) tt nothing (omega arith)) in
+      let x : From f 0 none (clearedOf t) rs u =
+      subst (Told f 0 none (clearedOf t)) e (lines-told f (length f) 0 1 none (clearedOf t) (clear-order t fits) tt nothing (omega arith)) in
       record {
         text = x .text;
         rises = x .rises;

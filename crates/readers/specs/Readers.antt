@@ -1,19 +1,22 @@
 -- Document 01, "Files" and "Numbers given back": what the readers do. What the promises cite: `readFullOf`, `readReducedOf`.
--- `Lines`, `readLines` the lines of a file entered, or refused · `restoredOf`, `Restored`, `restoreAll` what a reduced file leaves out, entered · `Outcome` number, line, table and scratch.
+-- `Lines`, `readLines` the lines of a file entered, or refused · `Restored`, `restoreAll` what a reduced file leaves out, entered · `Outcome`
+-- number, line, table and scratch.
 -- Assumes nothing.
 use mathlib.Core.Bool.{Bool, true, false, cond, _&&_}
 use mathlib.Core.List.{List, [], _∷_}
 use mathlib.Core.Option.{Option, none, some}
-use Prim.Native.Nat.{ℕ, zero, suc, _+_, _*_, _%_}
+use Prim.Native.Nat.{ℕ, zero, suc, _+_}
 use lib.Dec.{eqb}
 use lib.ListN.{length}
+use Rattle.laws.specs.Choices.{unless}
+use Rattle.laws.specs.Some.{someOf}
 use Rattle.lattice.specs.Records.{validOf}
-use Rattle.lattice.specs.Stars.{adjacentAt}
+use Rattle.lattice.specs.Subdivision.{bornOf}
 use Rattle.table.specs.Slots.{fitsLength, clearedOf}
 use Rattle.table.specs.Search.{findOf}
 use Rattle.table.specs.Entries.{enterOf}
 use Rattle.text.specs.Line.{lineAt}
-use Rattle.writers.specs.Files.{before, someOf, redundant}
+use Rattle.writers.specs.Files.{before, redundant}
 use Rattle.grown.specs.Grown.{isGrown}
 use Rattle.lattice.specs.declared.records.Record.{Record}
 use Rattle.table.specs.declared.probe.Found.{Found}
@@ -47,7 +50,7 @@ noSlot found.Full = true
 abbrev pub lineRead : ℕ → Option Record → List ℕ → (Record → ℕ → Lines) → Line → Lines
 lineRead i q t rest End = Read [] t
 lineRead i q t rest Bad = Fault 9 i
-lineRead i q t rest (Good r next) = cond (above q r) (cond (noSlot (findOf t (r .at))) (Fault 8 i) (after r (rest r next))) (Fault 10 i)
+lineRead i q t rest (Good r next) = unless (above q r) (Fault 10 i) (cond (noSlot (findOf t (r .at))) (Fault 8 i) (after r (rest r next)))
 
 -- the lines of file f from position p on: no more than so many are left
 unfoldable pub linesFrom : List ℕ → ℕ → ℕ → ℕ → Option Record → List ℕ → Lines
@@ -58,9 +61,9 @@ linesFrom f (suc left) p i q t = lineRead i q t (λ r next. linesFrom f left nex
 abbrev pub readLines : List ℕ → List ℕ → Lines
 readLines f t = linesFrom f (length f) 0 1 none t
 
--- ---- "The reduced reader then takes the degree 6 records in file order and enters each absent adjacent point, j rising, as d 3, level n, orientation (6+2j+k) mod 4."
-unfoldable pub restoredOf : Record → ℕ → Record
-restoredOf v j = record { at = adjacentAt v j; d = 3; k = (6 + 2 * j + v .k) % 4; n = v .n }
+-- ---- "The reduced reader then takes the degree 6 records in file order and enters each absent adjacent point, j rising, as d 3, level n,
+-- orientation (6+2j+k) mod 4."
+-- that record is `bornOf v j`, the one that a subdivision enters round its centre
 
 -- the table so far; or the number of the refusal
 pub data Restored : Type 0 where
@@ -70,8 +73,8 @@ pub data Restored : Type 0 where
 -- "then restoring, at the first point met, 11 if the new record is not valid, else 8 if no slot is free"
 abbrev pub restoreAt : List ℕ → Record → Found → Restored
 restoreAt t r (found.At i) = With t
-restoreAt t r (found.Free i) = cond (validOf r) (With (enterOf t r)) (Stopped 11)
-restoreAt t r found.Full = Stopped (cond (validOf r) 8 11)
+restoreAt t r (found.Free i) = unless (validOf r) (Stopped 11) (With (enterOf t r))
+restoreAt t r found.Full = Stopped (unless (validOf r) 11 8)
 
 abbrev pub restore : Restored → Record → Restored
 restore (Stopped number) r = Stopped number
@@ -80,7 +83,7 @@ restore (With t) r = restoreAt t r (findOf t (r .at))
 -- the first j adjacent points of v
 unfoldable pub restoreTo : Record → ℕ → Restored → Restored
 restoreTo v zero x = x
-restoreTo v (suc j) x = restore (restoreTo v j x) (restoredOf v j)
+restoreTo v (suc j) x = restore (restoreTo v j x) (bornOf v j)
 
 abbrev pub restoreStar : Record → Restored → Restored
 restoreStar v x = cond (eqb (v .d) 6) (restoreTo v 6 x) x
@@ -115,15 +118,15 @@ lengthsFit t s = fitsLength (length t) && eqb (length s) (length t)
 -- "then 11"
 abbrev pub endFull : List ℕ → List ℕ → Lines → Outcome
 endFull t s (Fault number line) = refused number line t s
-endFull t s (Read rs u) = cond (isGrown u) (accepted u s) (refused 11 0 t s)
+endFull t s (Read rs u) = unless (isGrown u) (refused 11 0 t s) (accepted u s)
 
 unfoldable pub readFullOf : List ℕ → List ℕ → List ℕ → Outcome
-readFullOf t s f = cond (lengthsFit t s) (endFull t s (readLines f (clearedOf t))) (outcome 1 0 t s)
+readFullOf t s f = unless (lengthsFit t s) (outcome 1 0 t s) (endFull t s (readLines f (clearedOf t)))
 
 -- "12: grown, but a redundant record was kept in a reduced file": one of the file's records rs is redundant in the table with all of them
 abbrev pub endRestored : List ℕ → List ℕ → List Record → Restored → Outcome
 endRestored t s rs (Stopped number) = refused number 0 t s
-endRestored t s rs (With u) = cond (isGrown u) (cond (someOf (redundant u) rs) (refused 12 0 t s) (accepted u s)) (refused 11 0 t s)
+endRestored t s rs (With u) = unless (isGrown u) (refused 11 0 t s) (cond (someOf (redundant u) rs) (refused 12 0 t s) (accepted u s))
 
 -- "then restoring ..; then 11, 12"
 abbrev pub endReduced : List ℕ → List ℕ → Lines → Outcome
@@ -131,4 +134,4 @@ endReduced t s (Fault number line) = refused number line t s
 endReduced t s (Read rs u) = endRestored t s rs (restoreAll rs (With u))
 
 unfoldable pub readReducedOf : List ℕ → List ℕ → List ℕ → Outcome
-readReducedOf t s f = cond (lengthsFit t s) (endReduced t s (readLines f (clearedOf t))) (outcome 1 0 t s)
+readReducedOf t s f = unless (lengthsFit t s) (outcome 1 0 t s) (endReduced t s (readLines f (clearedOf t)))

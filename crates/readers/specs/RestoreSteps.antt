@@ -1,6 +1,8 @@
 -- What a reduced file leaves out, step by step as the code enters it.
--- `restoredBy` a number and a table as what restoring has come to · `restore-there`, `restore-entered`, `restore-invalid`, `restore-full`, `restore-neither` one record · `to-none`,
--- `to-more`, `to-stopped` one star · `star-six`, `star-other` · `fileRecords` the records of a file, read again: `read-records` · `Restoring` so far: `restoring-start`, `restoring-end`,
+-- `restoredBy` a number and a table as what restoring has come to · `restore-there`, `restore-entered`, `restore-invalid`, `restore-full`,
+-- `restore-neither` one record · `to-none`,
+-- `to-more`, `to-stopped` one star · `star-six`, `star-other` · `fileRecords` the records of a file, read again: `read-records` · `Restoring` so
+-- far: `restoring-start`, `restoring-end`,
 -- `restoring-more`, `restoring-stopped`.
 -- Assumes nothing.
 use mathlib.Core.Path.{_≡_, refl, sym, ap, _∙_, subst}
@@ -28,7 +30,8 @@ use Rattle.text.specs.Line.{lineAt}
 use Rattle.text.specs.LineLaws.{line-end, line-next}
 use Rattle.text.specs.declared.line.Line.{Line}
 use Rattle.text.specs.declared.line.Line.the-variants.{Good, Bad, End}
-use Rattle.readers.specs.Readers.{Lines, Read, Fault, after, above, noSlot, lineRead, linesFrom, readLines, restoredOf, Restored, With, Stopped, restoreAt, restore, restoreTo, restoreStar, restoreAll}
+use Rattle.readers.specs.Readers.{Lines, Read, Fault, after, above, noSlot, lineRead, linesFrom, readLines, Restored, With, Stopped, restoreAt}
+use Rattle.readers.specs.Readers.{restore, restoreTo, restoreStar, restoreAll}
 use Rattle.readers.specs.RestoreLaws.{stopped-stays}
 
 -- a number and a table, as what restoring has come to
@@ -67,10 +70,6 @@ module _ (t : List ℕ) (r : Record) where
 pub six-inner : (v : Record) → validOf v ≡ true → v .d ≡ 6 → Inner v
 six-inner v ok e = inner v (of-true ok) (λ z. let q : _≡_ {A = ℕ} 6 0 = sym e ∙ z in omega arith)
 
-pub born-restored : (v : Record) (j : ℕ) → bornOf v j ≡ restoredOf v j
-unfolding restoredOf
-born-restored v j = refl
-
 -- ---- one star
 
 module _ (v : Record) (x : Restored) where
@@ -78,9 +77,9 @@ module _ (v : Record) (x : Restored) where
   unfolding restoreTo
   to-none = refl
 
-  pub to-more : (j : ℕ) (y : Restored) → restoreTo v j x ≡ y → restoreTo v (j + 1) x ≡ restore y (restoredOf v j)
+  pub to-more : (j : ℕ) (y : Restored) → restoreTo v j x ≡ y → restoreTo v (j + 1) x ≡ restore y (bornOf v j)
   unfolding restoreTo
-  to-more j y e = let s : j + 1 ≡ suc j = omega arith in ap (λ (i : ℕ). restoreTo v i x) s ∙ ap (λ (z : Restored). restore z (restoredOf v j)) e
+  to-more j y e = let s : j + 1 ≡ suc j = omega arith in ap (λ (i : ℕ). restoreTo v i x) s ∙ ap (λ (z : Restored). restore z (bornOf v j)) e
 
   pub to-stopped : (n j number : ℕ) → j ≤ n → restoreTo v j x ≡ Stopped number → restoreTo v n x ≡ Stopped number
   unfolding restoreTo
@@ -89,7 +88,7 @@ module _ (v : Record) (x : Restored) where
     where
       go : Dec (j ≡ suc n) → (j ≤ n → restoreTo v n x ≡ Stopped number) → restoreTo v (suc n) x ≡ Stopped number
       go (yes s) ih = ap (λ (i : ℕ). restoreTo v i x) (sym s) ∙ e
-      go (no s) ih = ap (λ (y : Restored). restore y (restoredOf v n)) (ih (omega arith))
+      go (no s) ih = ap (λ (y : Restored). restore y (bornOf v n)) (ih (omega arith))
 
   pub star-six : v .d ≡ 6 → restoreTo v 6 x ≡ restoreStar v x
   star-six e = ap (λ (b : Bool). cond b (restoreTo v 6 x) x) (sym (eq-eqb (v .d) 6 e))
@@ -136,13 +135,15 @@ same-lines f (suc left) p i q t = go (lineAt f p) (λ r next. same-lines f left 
         → Same (lineRecord (λ r next. recordsAt f left next) l) (lineRead i q t (λ r next. linesFrom f left next (i + 1) (some r) (enterOf t r)) l)
     go End ih = refl
     go Bad ih = tt
-    go (Good r next) ih = judge r (recordsAt f left next) (linesFrom f left next (i + 1) (some r) (enterOf t r)) (ih r next) (above q r) (noSlot (findOf t (r .at)))
+    go (Good r next) ih =
+        judge r (recordsAt f left next) (linesFrom f left next (i + 1) (some r) (enterOf t r)) (ih r next) (above q r) (noSlot (findOf t (r .at)))
 
 pub read-records : (f t : List ℕ) (rs : List Record) (u : List ℕ) → readLines f t ≡ Read rs u → fileRecords f ≡ rs
 read-records f t rs u e = subst (Same (fileRecords f)) e (same-lines f (length f) 0 1 none t)
 
 -- one line, where enough are left
-records-step : (f : List ℕ) (left p : ℕ) → length f ≤ p + left → (l : Line) → lineAt f p ≡ l → recordsAt f left p ≡ lineRecord (λ r next. recordsAt f (left - 1) next) l
+records-step : (f : List ℕ) (left p : ℕ) → length f ≤ p + left → (l : Line) → lineAt f p ≡ l → recordsAt f left p
+    ≡ lineRecord (λ r next. recordsAt f (left - 1) next) l
 unfolding recordsAt
 records-step f zero p h l e = ap (lineRecord (λ r next. [])) (sym (line-end f p (omega arith)) ∙ e)
 records-step f (suc left) p h l e =

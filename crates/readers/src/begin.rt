@@ -5,6 +5,8 @@ ghost use Rattle.readers.specs.BeginLaws.{Prepared, Begun};
 use crate::lines::ReadBack;
 use crate::lines::answer;
 use crate::lines::read_lines;
+use lattice::DONE;
+use lattice::NOT_IN_ORDER;
 use table::clear;
 use table::slots_of;
 
@@ -38,11 +40,11 @@ pub fn begin(table: &mut [u8], scratch: &mut [u8], file: &[u8]) -> ReadBack
 {
     let n = prepare(table, scratch);
     if n == 0 {
-        return answer(1, 0);
+        return answer(NOT_IN_ORDER, 0);
     }
     let read = read_lines(table, n, file);
     let number = read.number;
-    if number != 0 {
+    if number != DONE {
         return refuse(table, number, read.line);
     }
     read

@@ -4,6 +4,9 @@ ghost use Rattle.readers.specs.RestoreSteps.{fileRecords};
 ghost use Rattle.readers.specs.CallLaws.{Closes};
 use crate::redundant::keeps_redundant;
 use crate::restore::restore_all;
+use lattice::DONE;
+use lattice::NOT_GROWN;
+use lattice::REDUNDANT;
 use local::all_pass;
 
 // The table of a file's records, completed: 11 or 8 from restoring, 11 where it is no grown mesh, 12 where a redundant record was kept, else 0.
@@ -14,14 +17,14 @@ pub fn complete(table: &mut [u8], n: usize, file: &[u8]) -> u8
 {
     let kept = keeps_redundant(table, n);
     let number = restore_all(table, n, file);
-    if number != 0 {
+    if number != DONE {
         return number;
     }
     if !all_pass(table, n) {
-        return 11;
+        return NOT_GROWN;
     }
     if kept {
-        return 12;
+        return REDUNDANT;
     }
-    0
+    DONE
 }

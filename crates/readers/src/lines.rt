@@ -5,9 +5,13 @@ ghost use Rattle.table.specs.Slots.{Table};
 ghost use Rattle.reader.specs.Met.{metAt};
 ghost use Rattle.writers.specs.Files.{earlier};
 ghost use Rattle.readers.specs.Readers.{above, readLines};
-ghost use Rattle.readers.specs.LineSteps.{lineBefore, enteredStep, stepAt, tableAfter, Ended};
+ghost use Rattle.readers.specs.LineSteps.{lineBefore, enteredStep, stepAt, tableAfter, EndsAs};
+use lattice::DONE;
 use lattice::Depth;
 use lattice::Level;
+use lattice::NO_ROOM;
+use lattice::NOT_ABOVE;
+use lattice::NOT_VALID;
 use lattice::Point;
 use lattice::Record;
 use reader::Met;
@@ -27,7 +31,8 @@ pub fn answer(number: u8, line: u64) -> ReadBack
     ReadBack { number, line }
 }
 
-// What became of a line: its record is entered, and the next line stands at a position and has a number; there is none; or it is refused with a number, and this line is at fault.
+// What became of a line: its record is entered, and the next line stands at a position and has a number; there is none; or it is refused with a
+// number, and this line is at fault.
 pub enum Step {
     Entered(Record, usize, u64),
     Over,
@@ -61,7 +66,7 @@ fn enter_line(table: &mut [u8], n: usize, line: u64, r: Record, next: usize, aft
     match f {
         Found::At(_) => Step::Entered(r, next, after),
         Found::Free(_) => Step::Entered(r, next, after),
-        Found::Full => Step::Faulty(8, line),
+        Found::Full => Step::Faulty(NO_ROOM, line),
     }
 }
 
@@ -73,10 +78,10 @@ fn read_line(table: &mut [u8], n: usize, file: &[u8], at: usize, line: u64, last
 {
     match line_at(file, at, line) {
         Met::Over => Step::Over,
-        Met::Fault(i) => Step::Faulty(9, i),
+        Met::Fault(i) => Step::Faulty(NOT_VALID, i),
         Met::Entry(r, next, after) => {
             if !rises(line, last, r) {
-                return Step::Faulty(10, line);
+                return Step::Faulty(NOT_ABOVE, line);
             }
             enter_line(table, n, line, r, next, after)
         }
@@ -100,7 +105,7 @@ fn nothing() -> Record {
 // Enters the records of a file, in its order, up to the first fault.
 pub fn read_lines(table: &mut [u8], n: usize, file: &[u8]) -> ReadBack
     requires { ⌜ Table (now table) n ⌝ }
-    ensures { λ r. ⌜ Ended (readLines (now (file .entry)) (now (table .entry))) (r .number) (r .line) (now (table .exit)) ⌝ }
+    ensures { λ r. ⌜ EndsAs (readLines (now (file .entry)) (now (table .entry))) (r .number) (r .line) (now (table .exit)) ⌝ }
 {
     let mut at = 0;
     let mut line: u64 = 1;
@@ -108,7 +113,7 @@ pub fn read_lines(table: &mut [u8], n: usize, file: &[u8]) -> ReadBack
     loop {
         let s = read_line(table, n, file, at, line, last);
         match s {
-            Step::Over => return answer(0, 0),
+            Step::Over => return answer(DONE, 0),
             Step::Faulty(number, i) => return answer(number, i),
             Step::Entered(r, next, after) => {
                 last = r;

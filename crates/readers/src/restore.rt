@@ -5,6 +5,9 @@ ghost use Rattle.lattice.specs.Records.{validOf};
 ghost use Rattle.table.specs.Slots.{Table};
 ghost use Rattle.readers.specs.Readers.{With, restore, restoreTo, restoreStar, restoreAll};
 ghost use Rattle.readers.specs.RestoreSteps.{restoredBy, fileRecords};
+use lattice::DONE;
+use lattice::NO_ROOM;
+use lattice::NOT_GROWN;
 use lattice::Record;
 use lattice::born;
 use lattice::valid;
@@ -22,19 +25,19 @@ fn restore_record(table: &mut [u8], n: usize, r: Record) -> u8
     let q = r.at;
     let f = find(table, q, n);
     match f {
-        Found::At(_) => 0,
+        Found::At(_) => DONE,
         Found::Free(i) => {
             if !valid(r) {
-                return 11;
+                return NOT_GROWN;
             }
             write_slot(table, i, r);
-            0
+            DONE
         }
         Found::Full => {
             if !valid(r) {
-                return 11;
+                return NOT_GROWN;
             }
-            8
+            NO_ROOM
         }
     }
 }
@@ -47,12 +50,12 @@ fn restore_round(table: &mut [u8], n: usize, v: Record) -> u8
     let mut j: u8 = 0;
     while j < 6 {
         let number = restore_record(table, n, born(v, j));
-        if number != 0 {
+        if number != DONE {
             return number;
         }
         j += 1;
     }
-    0
+    DONE
 }
 
 // The same where v has degree 6; else nothing.
@@ -62,7 +65,7 @@ fn restore_star(table: &mut [u8], n: usize, v: Record) -> u8
 {
     let d = v.d;
     if d != 6 {
-        return 0;
+        return DONE;
     }
     restore_round(table, n, v)
 }
@@ -76,11 +79,11 @@ pub fn restore_all(table: &mut [u8], n: usize, file: &[u8]) -> u8
     loop {
         let l = parse_line(file, at);
         match l {
-            Line::End => return 0,
-            Line::Bad => return 0,
+            Line::End => return DONE,
+            Line::Bad => return DONE,
             Line::Good(v, next) => {
                 let number = restore_star(table, n, v);
-                if number != 0 {
+                if number != DONE {
                     return number;
                 }
                 at = next;

@@ -1,7 +1,9 @@
 -- One slot changed: slots f become g, which differ at slot j only.
--- `Stands` a record stands in some slot · `enter-ordered`, `enter-stands`, `enter-old` a record put into the free slot where the search for its point ended · `replace-ordered`,
--- `replace-seek`, `replace-stands`, `replace-old` one put in place of another of the same point · `count-change`, `count-all`, `free-one`, `some-free`, `none-free` the number of free slots.
--- Why entering keeps order: the search for the new point passed other points' records only, so no slot on its way is free; the slots of old records stay taken, and fewer are free.
+-- `Stands` a record stands in some slot · `enter-ordered`, `enter-stands`, `enter-old` a record put into the free slot where the search for its point
+-- ended · `replace-ordered`, `replace-seek`, `replace-stands`, `replace-old` one put in place of another of the same point · `count-change`,
+-- `count-all`, `free-one`, `some-free`, `none-free` the number of free slots.
+-- Why entering keeps order: the search for the new point passed other points' records only, so no slot on its way is free; the slots of old records
+-- stay taken, and fewer are free.
 -- Assumes nothing.
 use mathlib.Core.Path.{_≡_, refl, sym, ap, _∙_, subst, fun-ext}
 use mathlib.Core.Bool.{true, cond}
@@ -150,8 +152,12 @@ module _ (n : ℕ) (some : 0 < n) (f g : ℕ → Slot) (j : ℕ) (old : (i : ℕ
       pub replace-ordered : Ordered n f → validOf r ≡ true → Ordered n g
       replace-ordered ord ok = record {
         valid = valid-kept (ord .valid) ok;
-        once = λ i k a b hi hk ea eb s. ord .once i k (back i a ea .rec) (back k b eb .rec) hi hk (back i a ea .holds) (back k b eb .holds) (sym (back i a ea .point) ∙ s ∙ back k b eb .point);
-        reach = nearer n g (λ i s q hi hs e fr. subst (λ (p : Point). steps n (homeOf p n) i < steps n (homeOf p n) s) (sym (back i q e .point)) (far n f (ord .reach) i s (back i q e .rec) hi hs (back i q e .holds) (free-was s fr)));
+        once =
+            λ i k a b hi hk ea eb s. ord .once i k (back i a ea .rec) (back k b eb .rec) hi hk
+            (back i a ea .holds) (back k b eb .holds) (sym (back i a ea .point) ∙ s ∙ back k b eb .point);
+        reach =
+            nearer n g (λ i s q hi hs e fr. subst (λ (p : Point). steps n (homeOf p n) i < steps n (homeOf p n) s)
+            (sym (back i q e .point)) (far n f (ord .reach) i s (back i q e .rec) hi hs (back i q e .holds) (free-was s fr)));
       }
 
       pub replace-new : Stands n g r
@@ -187,7 +193,8 @@ module _ (f g : ℕ → Slot) (j : ℕ) (old : (i : ℕ) → (i ≡ j → ⊥) �
   count-change zero h = absurd (omega arith)
   count-change (suc n) h = go (ℕ-discrete n j) (λ l. count-change n l)
     where
-      go : Dec (n ≡ j) → (j < n → freeBelow g n + isFree (f j) ≡ freeBelow f n + isFree (g j)) → freeBelow g n + isFree (g n) + isFree (f j) ≡ freeBelow f n + isFree (f n) + isFree (g j)
+      go : Dec (n ≡ j) → (j < n → freeBelow g n + isFree (f j) ≡ freeBelow f n + isFree (g j))
+          → freeBelow g n + isFree (g n) + isFree (f j) ≡ freeBelow f n + isFree (f n) + isFree (g j)
       go (yes x) ih =
           let a = count-before n (omega arith) in
           let b : isFree (g n) ≡ isFree (g j) = ap (λ (y : ℕ). isFree (g y)) x in

@@ -1,5 +1,6 @@
 -- The table as a map from points to records. Document 01: "A new record takes the first free slot so met."
--- `lookUp` the record at a point · `enterOf` a record entered · `replaceOf` one put in place of that at its point · `recordsOf` all of them · `holds` a point is there.
+-- `lookUp` the record at a point · `enterOf` a record entered · `replaceOf` one put in place of that at its point · `recordsOf` all of them · `holds`
+-- a point is there.
 -- Assumes nothing.
 use mathlib.Core.Bool.{Bool, true, false}
 use mathlib.Core.List.{List, [], _∷_, _++_}

@@ -25,7 +25,9 @@ entered t [] = t
 entered t (r ∷ rs) = entered (enterOf t r) rs
 
 hexagon : List Record
-hexagon = vertex (pos 0) (pos 0) 3 ∷ vertex (pos 1) (pos 0) 0 ∷ vertex (pos 0) (pos 1) 0 ∷ vertex (negsuc 0) (pos 1) 0 ∷ vertex (negsuc 0) (pos 0) 0 ∷ vertex (pos 0) (negsuc 0) 0 ∷ vertex (pos 1) (negsuc 0) 0 ∷ []
+hexagon =
+    vertex (pos 0) (pos 0) 3 ∷ vertex (pos 1) (pos 0) 0 ∷ vertex (pos 0) (pos 1) 0 ∷ vertex (negsuc 0) (pos 1) 0
+    ∷ vertex (negsuc 0) (pos 0) 0 ∷ vertex (pos 0) (negsuc 0) 0 ∷ vertex (pos 1) (negsuc 0) 0 ∷ []
 
 empty : List ℕ
 empty = replicate 192 255
@@ -45,10 +47,12 @@ homes = (refl, refl, refl)
 
 -- a cleared table is in order, and so is one hexagon's: seven records, each found
 in-order : (inOrderOf empty ≡ true) × (inOrderOf one ≡ true) × (freeSlots one ≡ 9)
-unfolding inOrderOf allPlaced placedAt findOf entered hexagon vertex empty one slotsIn slotAt freeAt recordAt wordAt putSlot recordBytes homeOf samePoint searchFrom enterOf freeBelow
+unfolding inOrderOf allPlaced placedAt findOf entered hexagon vertex empty one slotsIn slotAt freeAt recordAt wordAt putSlot recordBytes homeOf
+    samePoint searchFrom enterOf freeBelow
 in-order = (refl, refl, refl)
 
-found-there : (findOf one (pt (negsuc 0) (pos 1) 0) ≡ found.At 10) × (lookUp one (pt (pos 0) (pos 0) 0) ≡ Held (vertex (pos 0) (pos 0) 3)) × (lookUp one (pt (pos 2) (pos 0) 0) ≡ Absent)
+found-there : (findOf one (pt (negsuc 0) (pos 1) 0) ≡ found.At 10) × (lookUp one (pt (pos 0) (pos 0) 0) ≡ Held (vertex (pos 0) (pos 0) 3)) ×
+    (lookUp one (pt (pos 2) (pos 0) 0) ≡ Absent)
 unfolding findOf lookUp entered hexagon vertex empty one slotsIn slotAt freeAt recordAt wordAt putSlot recordBytes homeOf samePoint searchFrom enterOf
 found-there = (refl, refl, refl)
 
@@ -58,6 +62,8 @@ unfolding findOf lookUp entered hexagon vertex empty one slotsIn slotAt freeAt r
 replaced = refl
 
 -- the same point twice, a free slot between a record and its home, a length that doesn't fit: none is in order
-not-in-order : (inOrderOf (putSlot one 3 (vertex (pos 0) (pos 0) 3)) ≡ false) × (inOrderOf (putSlot empty 3 (vertex (pos 0) (pos 0) 3)) ≡ false) × (inOrderOf (255 ∷ empty) ≡ false)
-unfolding inOrderOf allPlaced placedAt findOf entered hexagon vertex empty one slotsIn slotAt freeAt recordAt wordAt putSlot recordBytes homeOf samePoint searchFrom enterOf
+not-in-order : (inOrderOf (putSlot one 3 (vertex (pos 0) (pos 0) 3)) ≡ false) × (inOrderOf (putSlot empty 3 (vertex (pos 0) (pos 0) 3)) ≡ false) ×
+    (inOrderOf (255 ∷ empty) ≡ false)
+unfolding inOrderOf allPlaced placedAt findOf entered hexagon vertex empty one slotsIn slotAt freeAt recordAt wordAt putSlot recordBytes homeOf
+    samePoint searchFrom enterOf
 not-in-order = (refl, refl, refl)

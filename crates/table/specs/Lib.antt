@@ -15,5 +15,8 @@ pub mod EntryLaws
 pub mod ChangeLaws
 pub mod WriteLaws
 pub mod RecordLaws
--- what the floors above cite
+pub mod LookLaws
+pub mod PutLaws
+pub mod AllLaws
+-- what the floors above cite: the index of the three before
 pub mod MapLaws

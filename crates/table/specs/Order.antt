@@ -38,8 +38,8 @@ module _ (n : ℕ) (f : ℕ → Slot) where
   abbrev pub NoneFreeBefore : Type 0
   NoneFreeBefore = (i s : ℕ) (r : Record) → i < n → s < n → f i ≡ Holds r → OnTheWay n (homeOf (r .at) n) i s → f s ≡ Free → ⊥
 
--- "A table is in order when its length fits, each slot is free or holds a valid record, no point stands twice, and no slot from a record's home (itself included) on
--- to its own slot, wrapping, is free."
+-- "A table is in order when its length fits, each slot is free or holds a valid record, no point stands twice, and no slot from a record's home
+-- (itself included) on to its own slot, wrapping, is free."
 pub record InOrder (t : List ℕ) : Type 0 where
   pub fits : Table t (slotsOf t)
   pub valid : EachValid (slotsOf t) (slotAt t)

@@ -1,8 +1,9 @@
 -- The laws of a table in order, over its slots: slot i is `f i`, and no byte is opened.
--- `Result`, `result` what a search tells · `Ordered` the three conditions on slots, `far` the last of them as an inequality, `nearer` back · `present` the search for a record's point ends at
--- its slot · `order-test`, `test-order` the test is true where and only where the table is in order.
--- The test asks one thing of each record, that its own search ends at it. A search that ends at slot i met other records only: so no slot on the way is free; and of two records of one
--- point the search finds one slot only, so there are no two.
+-- `Result`, `result` what a search tells · `Ordered` the three conditions on slots, `far` the last of them as an inequality, `nearer` back ·
+-- `present` the search for a record's point ends at its slot · `order-test`, `test-order` the test is true where and only where the table is in
+-- order.
+-- The test asks one thing of each record, that its own search ends at it. A search that ends at slot i met other records only: so no slot on the way
+-- is free; and of two records of one point the search finds one slot only, so there are no two.
 -- Assumes nothing.
 use mathlib.Core.Path.{_≡_, refl, sym, ap, _∙_, subst}
 use mathlib.Core.Bool.{Bool, true, false, _&&_}
@@ -20,7 +21,8 @@ use Rattle.table.specs.Slots.{Table, fitsLength, slotsOf, slotAt}
 use Rattle.table.specs.Search.{homeOf, meets, settle, seek, findOf}
 use Rattle.table.specs.Order.{steps, EachValid, NoneTwice, NoneFreeBefore, InOrder, isAt, placedSlot, placedAt, allPlaced, inOrderOf}
 use Rattle.table.specs.SlotLaws.{home-below, table-test, test-table, slots-table, no-slots}
-use Rattle.table.specs.SearchLaws.{walk, Others, search-found, search-full, walk-below, steps-below, steps-walk, walk-steps, Kind, kind, free, own, alien, own-hit, End, ends, hits, gaps, full}
+use Rattle.table.specs.SearchLaws.{walk, Others, search-found, search-full, walk-below, steps-below, steps-walk, walk-steps, Kind, kind, free}
+use Rattle.table.specs.SearchLaws.{own, alien, own-hit, End, ends, hits, gaps, full}
 use Rattle.table.specs.declared.slots.Slot.{Slot}
 use Rattle.table.specs.declared.slots.Slot.the-variants.{Free, Holds}
 use Rattle.table.specs.declared.probe.Meet.{Meet}
@@ -91,7 +93,8 @@ module _ (n : ℕ) (some : 0 < n) (f : ℕ → Slot) (p : Point) where
           (record { below = walk-below n (homeOf p n) (home-below n some p) k h; free = free-of (walk n (homeOf p n) k) e; others = passed k h os })
       go (full os) =
           none (search-full (λ i. meets (f i) p) n n (homeOf p n) (home-below n some p) (let l : n ≤ n = omega arith in l) os)
-          (λ s h. ap (λ (x : ℕ). meets (f x) p) (sym (walk-steps n (homeOf p n) (home-below n some p) s h)) ∙ os (steps n (homeOf p n) s) (steps-below n (homeOf p n) (home-below n some p) s h))
+          (λ s h. ap (λ (x : ℕ). meets (f x) p) (sym (walk-steps n (homeOf p n) (home-below n some p) s h))
+          ∙ os (steps n (homeOf p n) s) (steps-below n (homeOf p n) (home-below n some p) s h))
 
   pub found-at : (i : ℕ) → seek n f p ≡ found.At i → Hits i
   found-at i e = go result
@@ -113,7 +116,8 @@ module _ (n : ℕ) (some : 0 < n) (f : ℕ → Slot) (p : Point) where
   pub free-far : (i s : ℕ) → i < n → s < n → Passed i → f s ≡ Free → (s ≡ i → ⊥) → steps n (homeOf p n) i < steps n (homeOf p n) s
   free-far i s hi hs os e ne = go (decLt (steps n (homeOf p n) i) (steps n (homeOf p n) s)) (decLt (steps n (homeOf p n) s) (steps n (homeOf p n) i))
     where
-      go : Dec (steps n (homeOf p n) i < steps n (homeOf p n) s) → Dec (steps n (homeOf p n) s < steps n (homeOf p n) i) → steps n (homeOf p n) i < steps n (homeOf p n) s
+      go : Dec (steps n (homeOf p n) i < steps n (homeOf p n) s) → Dec (steps n (homeOf p n) s < steps n (homeOf p n) i)
+          → steps n (homeOf p n) i < steps n (homeOf p n) s
       go (yes l) d = l
       go (no l) (yes m) =
           let o : meets (f s) p ≡ Other = os s hs m in
@@ -121,7 +125,8 @@ module _ (n : ℕ) (some : 0 < n) (f : ℕ → Slot) (p : Point) where
           absurd (let q : _≡_ {A = ℕ} 0 1 = cc in omega arith)
       go (no l) (no m) =
           let d : steps n (homeOf p n) s ≡ steps n (homeOf p n) i = omega arith in
-          absurd (ne (sym (walk-steps n (homeOf p n) (home-below n some p) s hs) ∙ ap (walk n (homeOf p n)) d ∙ walk-steps n (homeOf p n) (home-below n some p) i hi))
+          absurd (ne (sym (walk-steps n (homeOf p n) (home-below n some p) s hs)
+          ∙ ap (walk n (homeOf p n)) d ∙ walk-steps n (homeOf p n) (home-below n some p) i hi))
 
 -- ---- a table in order
 
@@ -166,7 +171,8 @@ module _ (n : ℕ) (some : 0 < n) (f : ℕ → Slot) where
       go j hj s sb sd (alien q a b) = b
 
   -- where each record is valid and its own search ends at it, the slots are in order
-  pub placed-order : ((i : ℕ) (r : Record) → i < n → f i ≡ Holds r → validOf r ≡ true) → ((i : ℕ) (r : Record) → i < n → f i ≡ Holds r → seek n f (r .at) ≡ found.At i) → Ordered n f
+  pub placed-order : ((i : ℕ) (r : Record) → i < n → f i ≡ Holds r → validOf r ≡ true)
+      → ((i : ℕ) (r : Record) → i < n → f i ≡ Holds r → seek n f (r .at) ≡ found.At i) → Ordered n f
   placed-order ok finds = record { valid = ok; once = once; reach = nearer n f reach }
     where
       once : NoneTwice n f
@@ -204,7 +210,9 @@ module _ (t : List ℕ) where
 
   pub order-test : InOrder t → inOrderOf t ≡ true
   unfolding inOrderOf allPlaced findOf
-  order-test o = ap (λ (b : Bool). b && allPlaced t (slotsOf t)) (table-test t (slotsOf t) (o .fits)) ∙ each-upto (placedAt t) (slotsOf t) (λ i h. go i h (slotAt t i) refl)
+  order-test o =
+      ap (λ (b : Bool). b && allPlaced t (slotsOf t)) (table-test t (slotsOf t) (o .fits))
+      ∙ each-upto (placedAt t) (slotsOf t) (λ i h. go i h (slotAt t i) refl)
     where
       go : (i : ℕ) → i < slotsOf t → (s : Slot) → slotAt t i ≡ s → placedAt t i ≡ true
       go i h Free e = placed-slot i Free e

@@ -28,7 +28,8 @@ four s t u v w h =
 
 pub valid-inside : (r : Record) → validOf r ≡ true → inRanges (r .at) ≡ true
 valid-inside r h =
-    four (normalAt (r .at .a) (r .at .b) (r .at .m .0)) (leb (r .at .m .0) 6) (within (r .at .a) (r .at .m .0)) (within (r .at .b) (r .at .m .0)) (suitsOf (r .d) (r .k) (r .n .0)) h
+    four (normalAt (r .at .a) (r .at .b) (r .at .m .0)) (leb (r .at .m .0) 6)
+    (within (r .at .a) (r .at .m .0)) (within (r .at .b) (r .at .m .0)) (suitsOf (r .d) (r .k) (r .n .0)) h
 
 -- a point whose numbers fit their bytes, and whose depth is not 255
 pub record Writes (p : Point) : Type 0 where

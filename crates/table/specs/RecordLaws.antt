@@ -1,10 +1,11 @@
 -- The list of a table's records, slot by slot.
--- `Apart` no two records of a list have one point · `listed-stands`, `stands-listed` what is listed of the first k slots stands there, and back · `counted-below`, `apart-below`
--- · `apart-fewer` a list without two of one point is no longer than one that holds all of it.
+-- `Apart` no two records of a list have one point · `listed-stands`, `stands-listed` what is listed of the first k slots stands there, and back ·
+-- `counted-below`, `apart-below` · `apart-fewer` a list without two of one point is no longer than one that holds all of it.
 -- Assumes nothing.
 use mathlib.Core.Path.{_≡_, refl, sym, ap, _∙_, subst}
 use mathlib.Core.Logic.{_⊎_, inl, inr}
-use mathlib.Core.List.{List, [], _∷_, _++_, append-nil, List·Memᴰ, Memᴰ·append-left, Memᴰ·append-right, List·Memᴰ·head, List·Memᴰ·tail, List·Memᴰ·append-cases, List·Memᴰ·eq-of-singleton, List·Memᴰ·not-nil, List·Memᴰ·cases-cons}
+use mathlib.Core.List.{List, [], _∷_, _++_, append-nil, List·Memᴰ, Memᴰ·append-left, Memᴰ·append-right, List·Memᴰ·head, List·Memᴰ·tail}
+use mathlib.Core.List.{List·Memᴰ·append-cases, List·Memᴰ·eq-of-singleton, List·Memᴰ·not-nil, List·Memᴰ·cases-cons}
 use Prim.Native.Nat.{ℕ, zero, suc, _+_, _≤_, _<_}
 use native.Mathlib.Omega.{arith}
 use native.Mathlib.Decide.{ℕ-discrete}
@@ -37,10 +38,12 @@ module _ (t : List ℕ) where
   listed-stands zero r m = absurd (List·Memᴰ·not-nil m)
   listed-stands (suc k) r m = go (slotAt t k) refl (List·Memᴰ·append-cases (recordsBelow t k) m) (λ l. listed-stands k r l)
     where
-      go : (s : Slot) → slotAt t k ≡ s → List·Memᴰ r (recordsBelow t k) ⊎ List·Memᴰ r (listed (slotAt t k)) → (List·Memᴰ r (recordsBelow t k) → Stands k (slotAt t) r) → Stands (suc k) (slotAt t) r
+      go : (s : Slot) → slotAt t k ≡ s → List·Memᴰ r (recordsBelow t k) ⊎ List·Memᴰ r (listed (slotAt t k))
+          → (List·Memᴰ r (recordsBelow t k) → Stands k (slotAt t) r) → Stands (suc k) (slotAt t) r
       go s e (inl l) ih = let x = ih l in record { slot = x .slot; below = omega (arith, x .below); holds = x .holds }
       go Free e (inr l) ih = absurd (List·Memᴰ·not-nil (subst (λ (s : Slot). List·Memᴰ r (listed s)) e l))
-      go (Holds q) e (inr l) ih = record { slot = k; below = omega arith; holds = e ∙ ap Holds (sym (List·Memᴰ·eq-of-singleton (subst (λ (s : Slot). List·Memᴰ r (listed s)) e l))) }
+      go (Holds q) e (inr l) ih =
+          record { slot = k; below = omega arith; holds = e ∙ ap Holds (sym (List·Memᴰ·eq-of-singleton (subst (λ (s : Slot). List·Memᴰ r (listed s)) e l))) }
 
   pub stands-listed : (k : ℕ) (r : Record) → Stands k (slotAt t) r → List·Memᴰ r (recordsBelow t k)
   unfolding recordsBelow
@@ -48,7 +51,8 @@ module _ (t : List ℕ) where
   stands-listed (suc k) r s = go (ℕ-discrete (s .slot) k) (λ x. stands-listed k r x)
     where
       go : Dec (s .slot ≡ k) → (Stands k (slotAt t) r → List·Memᴰ r (recordsBelow t k)) → List·Memᴰ r (recordsBelow t k ++ listed (slotAt t k))
-      go (yes e) ih = Memᴰ·append-right (recordsBelow t k) (subst (λ (x : Slot). List·Memᴰ r (listed x)) (sym (ap (slotAt t) (sym e) ∙ s .holds)) (List·Memᴰ·head refl))
+      go (yes e) ih =
+          Memᴰ·append-right (recordsBelow t k) (subst (λ (x : Slot). List·Memᴰ r (listed x)) (sym (ap (slotAt t) (sym e) ∙ s .holds)) (List·Memᴰ·head refl))
       go (no e) ih = Memᴰ·append-left (listed (slotAt t k)) (ih (record { slot = s .slot; below = omega (arith, s .below); holds = s .holds }))
 
   pub counted-below : (k : ℕ) → length (recordsBelow t k) + freeBelow (slotAt t) k ≡ k

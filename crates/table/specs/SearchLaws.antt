@@ -1,6 +1,7 @@
 -- The laws of a search.
--- `search-none`, `search-meets` one turn of the loop · `walk n i k` the slot k steps after slot i, `walk-steps`, `steps-walk` its inverse · `search-found`, `search-full` where a search
--- ends · `End`, `ends` how it can end · `same-refl`, `same-true`, `same-or-not` the test of two points · `Kind`, `kind`, `own-hit` what a slot is to a search.
+-- `search-none`, `search-meets` one turn of the loop · `walk n i k` the slot k steps after slot i, `walk-steps`, `steps-walk` its inverse ·
+-- `search-found`, `search-full` where a search ends · `End`, `ends` how it can end · `same-refl`, `same-true`, `same-or-not` the test of two points ·
+-- `Kind`, `kind`, `own-hit` what a slot is to a search.
 -- Assumes nothing.
 use mathlib.Core.Path.{_≡_, refl, sym, ap, _∙_}
 use mathlib.Core.Bool.{Bool, true, false, cond, _&&_}
@@ -10,7 +11,8 @@ use native.Mathlib.Decide.{decLt}
 use lib.Dec.{eqb, ltb}
 use borrow.Author.Tests.{lt-ltb, le-ltb, le-leb, lt-leb, eq-eqb, ne-eqb, eqb-true, eqb-false}
 use Rattle.laws.specs.Rules.{eqZ, eqZ→eq, eqZ-refl}
-use Rattle.laws.specs.Each.{both-left, both-right, true-fact, fact-true, not-both}
+use Rattle.laws.specs.Choices.{of-true, is-true}
+use Rattle.laws.specs.Each.{both-left, both-right, not-both}
 use Rattle.lattice.specs.Points.{pt}
 use Rattle.lattice.specs.declared.points.Point.{Point}
 use Rattle.lattice.specs.declared.records.Record.{Record}
@@ -127,7 +129,8 @@ pub search-found : (look : ℕ → Meet) (n k i left : ℕ) (o : Found) → i < 
     → ((r : Found) → settle (look (walk n i k)) (walk n i k) r ≡ o) → searchFrom look n i left ≡ o
 search-found look n zero i left o hi hk hl os e =
     let more : 0 < left = omega arith in
-    search-turn look n i left more ∙ ap (λ (x : ℕ). settle (look x) x (searchFrom look n (next n i) (left - 1))) (sym (walk-zero n i hi)) ∙ e (searchFrom look n (next n i) (left - 1))
+    search-turn look n i left more
+    ∙ ap (λ (x : ℕ). settle (look x) x (searchFrom look n (next n i) (left - 1))) (sym (walk-zero n i hi)) ∙ e (searchFrom look n (next n i) (left - 1))
 search-found look n (suc k) i left o hi hk hl os e =
     let more : 0 < left = omega arith in
     let here : look i ≡ Other = ap look (sym (walk-zero n i hi)) ∙ os 0 (omega arith) in
@@ -152,14 +155,14 @@ search-full look n (suc left) i hi hl os =
 
 pub same-refl : (p : Point) → samePoint p p ≡ true
 unfolding samePoint
-same-refl p = rw (fact-true (eqZ (p .a) (p .a)) (eqZ-refl (p .a)), fact-true (eqZ (p .b) (p .b)) (eqZ-refl (p .b)), eq-eqb (p .m .0) (p .m .0) refl)
+same-refl p = rw (is-true (eqZ (p .a) (p .a)) (eqZ-refl (p .a)), is-true (eqZ (p .b) (p .b)) (eqZ-refl (p .b)), eq-eqb (p .m .0) (p .m .0) refl)
 
 pub same-true : (p q : Point) → samePoint p q ≡ true → p ≡ q
 unfolding samePoint
 same-true p q h =
     let ab = both-left (eqZ (p .a) (q .a) && eqZ (p .b) (q .b)) (eqb (p .m .0) (q .m .0)) h in
-    let ea : p .a ≡ q .a = eqZ→eq (p .a) (q .a) (true-fact (eqZ (p .a) (q .a)) (both-left (eqZ (p .a) (q .a)) (eqZ (p .b) (q .b)) ab)) in
-    let eb : p .b ≡ q .b = eqZ→eq (p .b) (q .b) (true-fact (eqZ (p .b) (q .b)) (both-right (eqZ (p .a) (q .a)) (eqZ (p .b) (q .b)) ab)) in
+    let ea : p .a ≡ q .a = eqZ→eq (p .a) (q .a) (of-true (both-left (eqZ (p .a) (q .a)) (eqZ (p .b) (q .b)) ab)) in
+    let eb : p .b ≡ q .b = eqZ→eq (p .b) (q .b) (of-true (both-right (eqZ (p .a) (q .a)) (eqZ (p .b) (q .b)) ab)) in
     let em : p .m .0 ≡ q .m .0 = eqb-true (p .m .0) (q .m .0) (both-right (eqZ (p .a) (q .a) && eqZ (p .b) (q .b)) (eqb (p .m .0) (q .m .0)) h) in
     λ i. pt (ea i) (eb i) (em i)
 

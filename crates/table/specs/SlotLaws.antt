@@ -1,6 +1,7 @@
 -- The laws of the slots. What stands above cites these and never opens a byte.
--- `table-slots`, `slots-table`, `test-table` the fit of a length · `free-words`, `slot-free`, `slot-held` a slot read word by word · `slot-written` one written in three parts
--- · `put-same`, `put-other`, `put-length` a slot written and read back · `free-none`, `free-more` a count of free slots · `cleared-free` · `home-below` · `slot-same` equal bytes, equal slots.
+-- `table-slots`, `slots-table`, `test-table` the fit of a length · `free-words`, `slot-free`, `slot-held` a slot read word by word · `slot-written`
+-- one written in three parts · `put-same`, `put-other`, `put-length` a slot written and read back · `free-none`, `free-more` a count of free slots ·
+-- `cleared-free` · `home-below` · `slot-same` equal bytes, equal slots.
 -- Assumes nothing.
 use mathlib.Core.Path.{_≡_, refl, sym, ap, _∙_}
 use mathlib.Core.Bool.{Bool, true, false, cond, _&&_}
@@ -88,7 +89,8 @@ module _ (t : List ℕ) (p w : ℕ) (W : Word t p w) where
   ones-bytes : w ≡ 4294967295 → (getD t p 0 ≡ 255) × (getD t (p + 1) 0 ≡ 255) × (getD t (p + 2) 0 ≡ 255) × (getD t (p + 3) 0 ≡ 255)
   ones-bytes e = all (getD t p 0) (getD t (p + 1) 0) (getD t (p + 2) 0) (getD t (p + 3) 0) (W .byte0) (W .byte1) (W .byte2) (W .byte3) (sym word-bytes ∙ e)
     where
-      all : (a b c d : ℕ) → a < 256 → b < 256 → c < 256 → d < 256 → a + 256 * b + 65536 * c + 16777216 * d ≡ 4294967295 → (a ≡ 255) × (b ≡ 255) × (c ≡ 255) × (d ≡ 255)
+      all : (a b c d : ℕ) → a < 256 → b < 256 → c < 256 → d < 256 → a + 256 * b + 65536 * c + 16777216 * d ≡ 4294967295
+          → (a ≡ 255) × (b ≡ 255) × (c ≡ 255) × (d ≡ 255)
       all a b c d ha hb hc hd e = omega arith
 
   bytes-ones : getD t p 0 ≡ 255 → getD t (p + 1) 0 ≡ 255 → getD t (p + 2) 0 ≡ 255 → getD t (p + 3) 0 ≡ 255 → w ≡ 4294967295
@@ -123,10 +125,14 @@ module _ (t : List ℕ) (p a b c : ℕ) (A : Word t p a) (B : Word t (p + 4) b) 
   free-all : freeAt t p ≡ true → allOnes a b c ≡ true
   unfolding freeAt
   free-all h =
-      let e : (x k : ℕ) → x ≡ p + k → k < slotWidth → _≡_ {A = ℕ} (getD t x 0) 255 = λ x k q l. at x k q ∙ eqb-true (getD t (p + k) 0) 255 (upto-each (λ j. eqb (getD t (p + j) 0) 255) slotWidth k h l) in
-      let ea = bytes-ones t p a A (e p 0 (omega arith) (omega arith)) (e (p + 1) 1 refl (omega arith)) (e (p + 2) 2 refl (omega arith)) (e (p + 3) 3 refl (omega arith)) in
-      let eb = bytes-ones t (p + 4) b B (e (p + 4) 4 refl (omega arith)) (e (p + 4 + 1) 5 (omega arith) (omega arith)) (e (p + 4 + 2) 6 (omega arith) (omega arith)) (e (p + 4 + 3) 7 (omega arith) (omega arith)) in
-      let ec = bytes-ones t (p + 8) c C (e (p + 8) 8 refl (omega arith)) (e (p + 8 + 1) 9 (omega arith) (omega arith)) (e (p + 8 + 2) 10 (omega arith) (omega arith)) (e (p + 8 + 3) 11 (omega arith) (omega arith)) in
+      let e : (x k : ℕ) → x ≡ p + k → k < slotWidth → _≡_ {A = ℕ} (getD t x 0) 255 = λ x k q l. at x k q
+      ∙ eqb-true (getD t (p + k) 0) 255 (upto-each (λ j. eqb (getD t (p + j) 0) 255) slotWidth k h l) in
+      let ea = bytes-ones t p a A (e p 0 (omega arith) (omega arith))
+      (e (p + 1) 1 refl (omega arith)) (e (p + 2) 2 refl (omega arith)) (e (p + 3) 3 refl (omega arith)) in
+      let eb = bytes-ones t (p + 4) b B (e (p + 4) 4 refl (omega arith))
+      (e (p + 4 + 1) 5 (omega arith) (omega arith)) (e (p + 4 + 2) 6 (omega arith) (omega arith)) (e (p + 4 + 3) 7 (omega arith) (omega arith)) in
+      let ec = bytes-ones t (p + 8) c C (e (p + 8) 8 refl (omega arith))
+      (e (p + 8 + 1) 9 (omega arith) (omega arith)) (e (p + 8 + 2) 10 (omega arith) (omega arith)) (e (p + 8 + 3) 11 (omega arith) (omega arith)) in
       rw (ea, eb, ec)
 
   -- twelve bytes of 255 are three words of ones
@@ -139,15 +145,23 @@ module _ (t : List ℕ) (i a b c : ℕ) (A : Word t (slotWidth * i) a) (B : Word
   slot-free h = sym (ap (λ (x : Bool). cond x Free (Holds (recordAt t (slotWidth * i)))) (free-words t (slotWidth * i) a b c A B C ∙ h))
 
   pub slot-held : (x y : ℤ) → x ≡ signed a → y ≡ signed b → allOnes a b c ≡ false
-      → Holds (record { at = pt x y (getD t (slotWidth * i + 8) 0); d = getD t (slotWidth * i + 9) 0; k = getD t (slotWidth * i + 10) 0; n = record { 0 = getD t (slotWidth * i + 11) 0 } }) ≡ slotAt t i
+      → Holds (record {
+        at = pt x y (getD t (slotWidth * i + 8) 0);
+        d = getD t
+            (slotWidth * i + 9) 0;
+        k = getD t (slotWidth * i + 10) 0;
+        n = record { 0 = getD t (slotWidth * i + 11) 0 };
+      }) ≡ slotAt t i
   unfolding slotAt recordAt
   slot-held x y ea eb h =
-      let e : cond (freeAt t (slotWidth * i)) Free (Holds (recordAt t (slotWidth * i))) ≡ Holds (recordAt t (slotWidth * i)) = ap (λ (z : Bool). cond z Free (Holds (recordAt t (slotWidth * i)))) (free-words t (slotWidth * i) a b c A B C ∙ h) in
+      let e : cond (freeAt t (slotWidth * i)) Free (Holds (recordAt t (slotWidth * i))) ≡ Holds (recordAt t (slotWidth * i)) = ap
+      (λ (z : Bool). cond z Free (Holds (recordAt t (slotWidth * i)))) (free-words t (slotWidth * i) a b c A B C ∙ h) in
       rw (ea, eb, A .is, B .is) (sym e)
 
 -- ---- a record that is written in three parts
 
-pub slot-written : (t t1 t2 t3 : List ℕ) (i : ℕ) (r : Record) → t1 ≡ sets t (slotWidth * i) (wordBytes (ofZ w32 (r .at .a))) → t2 ≡ sets t1 (slotWidth * i + 4) (wordBytes (ofZ w32 (r .at .b)))
+pub slot-written : (t t1 t2 t3 : List ℕ) (i : ℕ) (r : Record) → t1 ≡ sets t (slotWidth * i) (wordBytes (ofZ w32 (r .at .a)))
+    → t2 ≡ sets t1 (slotWidth * i + 4) (wordBytes (ofZ w32 (r .at .b)))
     → t3 ≡ sets t2 (slotWidth * i + 8) (r .at .m .0 ∷ r .d ∷ r .k ∷ r .n .0 ∷ []) → t3 ≡ putSlot t i r
 unfolding putSlot recordBytes
 slot-written t t1 t2 t3 i r e1 e2 e3 =
@@ -207,7 +221,8 @@ module _ (t : List ℕ) (i : ℕ) (r : Record) (room : slotWidth * i + slotWidth
     unfolding freeAt recordBytes
     put-taken =
         let e : getD (putSlot t i r) (slotWidth * i + 8) 0 ≡ r .at .m .0 = put-byte (slotWidth * i + 8) 8 refl (omega arith) in
-        upto-fails (λ c. eqb (getD (putSlot t i r) (slotWidth * i + c) 0) 255) 8 slotWidth (omega arith) (ne-eqb (getD (putSlot t i r) (slotWidth * i + 8) 0) 255 (λ q. omega (arith, w .depth)))
+        upto-fails (λ c. eqb (getD (putSlot t i r) (slotWidth * i + c) 0) 255) 8 slotWidth (omega arith)
+        (ne-eqb (getD (putSlot t i r) (slotWidth * i + 8) 0) 255 (λ q. omega (arith, w .depth)))
 
     put-a : wordAt (putSlot t i r) (slotWidth * i) ≡ ofZ w32 (r .at .a)
     unfolding recordBytes
@@ -258,7 +273,8 @@ free-more f i {k} {b} a c = let e : suc i ≡ i + 1 = omega arith in rw (a, c) (
 pub cleared-free : (l i : ℕ) → slotWidth * i + slotWidth ≤ l → slotAt (replicate l 255) i ≡ Free
 unfolding slotAt freeAt
 cleared-free l i h =
-    let b : (c : ℕ) → c < slotWidth → _≡_ {A = ℕ} (getD (replicate l 255) (slotWidth * i + c) 0) 255 = λ c k. getD-replicate l (slotWidth * i + c) 255 0 (omega arith) in
+    let b : (c : ℕ) → c < slotWidth
+    → _≡_ {A = ℕ} (getD (replicate l 255) (slotWidth * i + c) 0) 255 = λ c k. getD-replicate l (slotWidth * i + c) 255 0 (omega arith) in
     rw (
       b 0 (omega arith),
       b 1 (omega arith),

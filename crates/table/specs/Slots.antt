@@ -1,5 +1,6 @@
 -- Document 01, "Table in memory", to "A free slot is twelve bytes of 255": the bytes of a table, slot by slot.
--- `slotWidth` · `Table t n` t is a table of n slots, `slotsOf` how many · `slotAt` what a slot holds, `putSlot` a slot written · `clearedOf` all free · `freeSlots` their number.
+-- `slotWidth` · `Table t n` t is a table of n slots, `slotsOf` how many · `slotAt` what a slot holds, `putSlot` a slot written · `clearedOf` all free
+-- · `freeSlots` their number.
 -- Assumes nothing.
 use mathlib.Core.Path.{_≡_}
 use mathlib.Core.Bool.{Bool, cond, _&&_}

@@ -1,6 +1,7 @@
 -- One slot of a table's bytes written, with a valid record: ChangeLaws on bytes.
--- `StandsIn` a record stands in a slot of the table · `entered-order`, `entered-new`, `entered-stands`, `entered-old`, `entered-free` the slot is the free one where the search for the record's
--- point ended · `replaced-order`, `replaced-find`, `replaced-new`, `replaced-stands`, `replaced-old`, `replaced-free` it held a record of the same point.
+-- `StandsIn` a record stands in a slot of the table · `entered-order`, `entered-new`, `entered-stands`, `entered-old`, `entered-free` the slot is the
+-- free one where the search for the record's point ended · `replaced-order`, `replaced-find`, `replaced-new`, `replaced-stands`, `replaced-old`,
+-- `replaced-free` it held a record of the same point.
 -- Assumes nothing.
 use mathlib.Core.Path.{_≡_, sym, ap, _∙_, subst}
 use mathlib.Core.Bool.{true}
@@ -17,7 +18,8 @@ use Rattle.table.specs.Order.{InOrder}
 use Rattle.table.specs.Ranges.{valid-inside, inside-fits}
 use Rattle.table.specs.SlotLaws.{table-slots, table-same, put-same, put-other, put-length}
 use Rattle.table.specs.OrderLaws.{slots-some, Ordered, order-slots, slots-order}
-use Rattle.table.specs.ChangeLaws.{Stands, enter-ordered, enter-new, enter-stands, enter-old, replace-ordered, replace-seek, replace-new, replace-stands, replace-old, count-change}
+use Rattle.table.specs.ChangeLaws.{Stands, enter-ordered, enter-new, enter-stands, enter-old, replace-ordered, replace-seek, replace-new}
+use Rattle.table.specs.ChangeLaws.{replace-stands, replace-old, count-change}
 use Rattle.table.specs.declared.slots.Slot.the-variants.{Free, Holds}
 use Rattle.table.specs.declared.probe.Found.the-variants as found
 
@@ -47,7 +49,9 @@ module _ (t : List ℕ) (o : InOrder t) (r : Record) (ok : validOf r ≡ true) (
   others-kept = put-other t j r in-table
 
   in-order : Ordered (slotsOf t) (slotAt written) → InOrder written
-  in-order h = slots-order written (table-of written (slotsOf t) (table-same t written (slotsOf t) (put-length t j r) (o .fits))) (subst (λ (k : ℕ). Ordered k (slotAt written)) (sym slots-kept) h)
+  in-order h =
+      slots-order written (table-of written (slotsOf t) (table-same t written (slotsOf t) (put-length t j r) (o .fits)))
+      (subst (λ (k : ℕ). Ordered k (slotAt written)) (sym slots-kept) h)
 
   to-written : (q : Record) → Stands (slotsOf t) (slotAt written) q → StandsIn written q
   to-written q = subst (λ (k : ℕ). Stands k (slotAt written) q) (sym slots-kept)
@@ -56,7 +60,8 @@ module _ (t : List ℕ) (o : InOrder t) (r : Record) (ok : validOf r ≡ true) (
   of-written q = subst (λ (k : ℕ). Stands k (slotAt written) q) slots-kept
 
   counted : freeSlots written + isFree (slotAt t j) ≡ freeSlots t + isFree (slotAt written j)
-  counted = ap (λ (k : ℕ). freeBelow (slotAt written) k + isFree (slotAt t j)) slots-kept ∙ count-change (slotAt t) (slotAt written) j others-kept (slotsOf t) here
+  counted =
+      ap (λ (k : ℕ). freeBelow (slotAt written) k + isFree (slotAt t j)) slots-kept ∙ count-change (slotAt t) (slotAt written) j others-kept (slotsOf t) here
 
   -- a record entered: slot j is where the search ended, and free
   module _ (gap : findOf t (r .at) ≡ found.Free j) where
@@ -65,17 +70,25 @@ module _ (t : List ℕ) (o : InOrder t) (r : Record) (ok : validOf r ≡ true) (
     found-gap = gap
 
     pub entered-order : InOrder written
-    entered-order = in-order (enter-ordered (slotsOf t) (slots-some t (slotsOf t) (o .fits)) (slotAt t) (slotAt written) j others-kept r now-held (order-slots t o) found-gap ok)
+    entered-order =
+        in-order (enter-ordered (slotsOf t) (slots-some t (slotsOf t) (o .fits)) (slotAt t)
+        (slotAt written) j others-kept r now-held (order-slots t o) found-gap ok)
 
     -- what stands then: the new record, and the old ones
     pub entered-new : StandsIn written r
-    entered-new = to-written r (enter-new (slotsOf t) (slots-some t (slotsOf t) (o .fits)) (slotAt t) (slotAt written) j others-kept r now-held (order-slots t o) found-gap)
+    entered-new =
+        to-written r (enter-new (slotsOf t) (slots-some t (slotsOf t) (o .fits)) (slotAt t)
+        (slotAt written) j others-kept r now-held (order-slots t o) found-gap)
 
     pub entered-stands : (q : Record) → StandsIn t q → StandsIn written q
-    entered-stands q s = to-written q (enter-stands (slotsOf t) (slots-some t (slotsOf t) (o .fits)) (slotAt t) (slotAt written) j others-kept r now-held (order-slots t o) found-gap q s)
+    entered-stands q s =
+        to-written q (enter-stands (slotsOf t) (slots-some t (slotsOf t) (o .fits)) (slotAt t)
+        (slotAt written) j others-kept r now-held (order-slots t o) found-gap q s)
 
     pub entered-old : (q : Record) → (q .at ≡ r .at → ⊥) → StandsIn written q → StandsIn t q
-    entered-old q ne s = enter-old (slotsOf t) (slots-some t (slotsOf t) (o .fits)) (slotAt t) (slotAt written) j others-kept r now-held (order-slots t o) found-gap q ne (of-written q s)
+    entered-old q ne s =
+        enter-old (slotsOf t) (slots-some t (slotsOf t) (o .fits)) (slotAt t)
+        (slotAt written) j others-kept r now-held (order-slots t o) found-gap q ne (of-written q s)
 
     pub entered-free : slotAt t j ≡ Free → freeSlots written + 1 ≡ freeSlots t
     entered-free fr =
@@ -87,21 +100,30 @@ module _ (t : List ℕ) (o : InOrder t) (r : Record) (ok : validOf r ≡ true) (
   -- a record replaced: slot j holds one of the same point
   module _ (was : Record) (held : slotAt t j ≡ Holds was) (same : r .at ≡ was .at) where
     pub replaced-order : InOrder written
-    replaced-order = in-order (replace-ordered (slotsOf t) (slots-some t (slotsOf t) (o .fits)) (slotAt t) (slotAt written) j others-kept r now-held was held same here (order-slots t o) ok)
+    replaced-order =
+        in-order (replace-ordered (slotsOf t) (slots-some t (slotsOf t) (o .fits)) (slotAt t)
+        (slotAt written) j others-kept r now-held was held same here (order-slots t o) ok)
 
     pub replaced-find : (p : Point) → findOf written p ≡ findOf t p
     unfolding findOf
-    replaced-find p = ap (λ (k : ℕ). seek k (slotAt written) p) slots-kept ∙ replace-seek (slotsOf t) (slots-some t (slotsOf t) (o .fits)) (slotAt t) (slotAt written) j others-kept r now-held was held same here p
+    replaced-find p =
+        ap (λ (k : ℕ). seek k (slotAt written) p) slots-kept
+        ∙ replace-seek (slotsOf t) (slots-some t (slotsOf t) (o .fits)) (slotAt t) (slotAt written) j others-kept r now-held was held same here p
 
     -- what stands then: the new record, and the old ones of other points
     pub replaced-new : StandsIn written r
-    replaced-new = to-written r (replace-new (slotsOf t) (slots-some t (slotsOf t) (o .fits)) (slotAt t) (slotAt written) j others-kept r now-held was held same here)
+    replaced-new =
+        to-written r (replace-new (slotsOf t) (slots-some t (slotsOf t) (o .fits)) (slotAt t) (slotAt written) j others-kept r now-held was held same here)
 
     pub replaced-stands : (q : Record) → (q .at ≡ r .at → ⊥) → StandsIn t q → StandsIn written q
-    replaced-stands q ne s = to-written q (replace-stands (slotsOf t) (slots-some t (slotsOf t) (o .fits)) (slotAt t) (slotAt written) j others-kept r now-held was held same here q ne s)
+    replaced-stands q ne s =
+        to-written q (replace-stands (slotsOf t) (slots-some t (slotsOf t) (o .fits))
+        (slotAt t) (slotAt written) j others-kept r now-held was held same here q ne s)
 
     pub replaced-old : (q : Record) → (q .at ≡ r .at → ⊥) → StandsIn written q → StandsIn t q
-    replaced-old q ne s = replace-old (slotsOf t) (slots-some t (slotsOf t) (o .fits)) (slotAt t) (slotAt written) j others-kept r now-held was held same here q ne (of-written q s)
+    replaced-old q ne s =
+        replace-old (slotsOf t) (slots-some t (slotsOf t) (o .fits)) (slotAt t)
+        (slotAt written) j others-kept r now-held was held same here q ne (of-written q s)
 
     pub replaced-free : freeSlots written ≡ freeSlots t
     replaced-free =

@@ -1,9 +1,11 @@
 // The table as a map from points to records: looked up, entered, replaced.
 ghost use mathlib.Core.Path.{_≡_};
+ghost use Prim.Native.Nat.{_+_, _*_, _≤_};
+ghost use lib.ListN.{length};
 ghost use Rattle.lattice.specs.Points.{normalOf};
-ghost use Rattle.table.specs.Slots.{Table};
+ghost use Rattle.table.specs.Slots.{slotWidth, Table, slotAt};
 ghost use Rattle.table.specs.Search.{findOf};
-ghost use Rattle.table.specs.Entries.{heldIn, lookUp, enterOf, replaceOf};
+ghost use Rattle.table.specs.Entries.{heldIn, lookUp, holds, enterOf, replaceOf};
 use crate::probe::Found;
 use crate::probe::find;
 use crate::slots::Slot;
@@ -19,10 +21,12 @@ pub enum Looked {
     Held(Record),
 }
 
-// The record that a slot holds, if any.
-fn held_in(s: Slot) -> Looked
-    ensures { λ r. ⌜ r ≡ heldIn s ⌝ }
+// The record in slot i, if any.
+pub fn held_in(t: &[u8], i: usize) -> Looked
+    requires { ⌜ slotWidth * i + slotWidth ≤ length (now t) ⌝ }
+    ensures { λ r. ⌜ r ≡ heldIn (slotAt (now (t .entry)) i) ⌝ }
 {
+    let s = read_slot(t, i);
     match s {
         Slot::Free => Looked::Absent,
         Slot::Holds(r) => Looked::Held(r),
@@ -36,9 +40,22 @@ pub fn look_up(t: &[u8], p: Point, n: usize) -> Looked
 {
     let f = find(t, p, n);
     match f {
-        Found::At(i) => held_in(read_slot(t, i)),
+        Found::At(i) => held_in(t, i),
         Found::Free(_) => Looked::Absent,
         Found::Full => Looked::Absent,
+    }
+}
+
+// Whether a record stands at a point.
+pub fn is_there(t: &[u8], p: Point, n: usize) -> bool
+    requires { ⌜ Table (now t) n ⌝ }
+    ensures { λ r. ⌜ r ≡ holds (now (t .entry)) p ⌝ }
+{
+    let f = find(t, p, n);
+    match f {
+        Found::At(_) => true,
+        Found::Free(_) => false,
+        Found::Full => false,
     }
 }
 
@@ -70,19 +87,15 @@ pub fn enter(t: &mut [u8], r: Record, n: usize) -> Found
 }
 
 // Puts a record in place of the one at its point. Where there is none, nothing changes.
-pub fn replace(t: &mut [u8], r: Record, n: usize) -> Found
+pub fn replace(t: &mut [u8], r: Record, n: usize)
     requires { ⌜ Table (now t) n ⌝ }
-    ensures { λ f. ⌜ f ≡ findOf (now (t .entry)) (r .at) ⌝ }
-    ensures { λ f. ⌜ now (t .exit) ≡ replaceOf (now (t .entry)) r ⌝ }
+    ensures { λ _. ⌜ now (t .exit) ≡ replaceOf (now (t .entry)) r ⌝ }
 {
     let q = r.at;
     let f = find(t, q, n);
     match f {
-        Found::At(i) => {
-            write_slot(t, i, r);
-            Found::At(i)
-        }
-        Found::Free(i) => Found::Free(i),
-        Found::Full => Found::Full,
+        Found::At(i) => write_slot(t, i, r),
+        Found::Free(_) => {}
+        Found::Full => {}
     }
 }

@@ -1,7 +1,9 @@
 // The table in memory: document 01, "Table in memory", over lent bytes.
 //
-// A caller asks `in_order` whether the bytes are a table in order, and `slots_of` once for the number of slots, which it hands on.
-// `find`, `look_up` and `look_up_request` read, `enter`, `replace`, `write_slot` and `clear` write, `read_slot` and `free_slots` go through the slots.
+// A caller asks `in_order` whether the bytes are a table in order, or `check_order` also how many slots are free, and `slots_of` once for the
+// number of slots, which it hands on.
+// `find`, `look_up`, `look_up_request`, `is_there` and `held_in` read, `enter`, `replace`, `write_slot` and `clear` write, `read_slot` and
+// `free_slots` go through the slots.
 // The promises cite specs/: Slots, Search, Order, Entries. What follows from them, for whoever stands above, is specs/MapLaws.
 mod bytes;
 mod entries;
@@ -14,9 +16,13 @@ pub use bytes::put_word;
 pub use bytes::word;
 pub use entries::Looked;
 pub use entries::enter;
+pub use entries::held_in;
+pub use entries::is_there;
 pub use entries::look_up;
 pub use entries::look_up_request;
 pub use entries::replace;
+pub use order::Ordered;
+pub use order::check_order;
 pub use order::in_order;
 pub use probe::Found;
 pub use probe::find;

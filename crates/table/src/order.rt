@@ -1,11 +1,13 @@
 // Whether a table is in order.
 ghost use mathlib.Core.Path.{_≡_};
+ghost use mathlib.Core.Bool.{true};
 ghost use Prim.Native.Nat.{_<_};
-ghost use Rattle.table.specs.Slots.{Table};
+ghost use Rattle.table.specs.Slots.{Table, freeSlots};
 ghost use Rattle.table.specs.Order.{isAt, placedAt, allPlaced, inOrderOf};
 use crate::probe::Found;
 use crate::probe::find;
 use crate::slots::Slot;
+use crate::slots::one_if_free;
 use crate::slots::read_slot;
 use crate::slots::slots_of;
 use lattice::valid;
@@ -66,4 +68,40 @@ pub fn in_order(t: &[u8]) -> bool
         return false;
     }
     all_placed(t, n)
+}
+
+// Whether bytes are a table in order, and if so how many slots are free.
+pub struct Ordered {
+    pub ok: bool,
+    pub free: usize,
+}
+
+// The same of a table of n slots, in one pass.
+fn free_placed(t: &[u8], n: usize) -> Ordered
+    requires { ⌜ Table (now t) n ⌝ }
+    ensures { λ v. ⌜ v .ok ≡ allPlaced (now (t .entry)) n ⌝ }
+    ensures { λ v. ⌜ (v .ok ≡ true → v .free ≡ freeSlots (now (t .entry))) ⌝ }
+{
+    let mut i: usize = 0;
+    let mut free = 0;
+    while i < n {
+        if !placed(t, i, n) {
+            return Ordered { ok: false, free: 0 };
+        }
+        free += one_if_free(t, i);
+        i += 1;
+    }
+    Ordered { ok: true, free }
+}
+
+// `in_order` and `free_slots` together.
+pub fn check_order(t: &[u8]) -> Ordered
+    ensures { λ v. ⌜ v .ok ≡ inOrderOf (now (t .entry)) ⌝ }
+    ensures { λ v. ⌜ (v .ok ≡ true → v .free ≡ freeSlots (now (t .entry))) ⌝ }
+{
+    let n = slots_of(t);
+    if n == 0 {
+        return Ordered { ok: false, free: 0 };
+    }
+    free_placed(t, n)
 }

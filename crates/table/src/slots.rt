@@ -111,7 +111,7 @@ pub fn clear(t: &mut [u8])
 }
 
 // 1 where slot i is free, else 0.
-fn one_if_free(t: &[u8], i: usize) -> usize
+pub fn one_if_free(t: &[u8], i: usize) -> usize
     requires { ⌜ slotWidth * i + slotWidth ≤ length (now t) ⌝ }
     ensures { λ r. ⌜ (r ≡ isFree (slotAt (now (t .entry)) i)) × (r ≤ 1) ⌝ }
 {

@@ -1,6 +1,8 @@
 -- What the written numbers obey: the digits of a number are those of its tens and its last, so every law goes by tens.
--- `digits-small`, `digits-more` the two cases · `by-tens` induction · `Digits` bytes that are digits, `digits-are` · `digits-value` what the digits count, `value-digits` the
--- number that digits without a leading zero write · `digits-plain` no leading zero · `width-above`, `width-below`, `digits-some` how many there are · `numeral-minus`, `numeral-plus` the sign · `lastDigits` written from the last back.
+-- `digits-small`, `digits-more` the two cases · `by-tens` induction · `Digits` bytes that are digits, `digits-are` · `digits-value` what the
+-- digits count, `value-digits` the
+-- number that digits without a leading zero write · `digits-plain` no leading zero · `width-above`, `width-below`, `digits-some` how many there
+-- are · `numeral-minus`, `numeral-plus` the sign · `lastDigits` written from the last back.
 -- Assumes nothing.
 use mathlib.Core.Path.{_≡_, refl, sym, _∙_, subst, ap}
 use mathlib.Core.Bool.{Bool, true, false, cond}
@@ -106,7 +108,8 @@ pub digits-value : (n : ℕ) → value 0 (digits n) ≡ n
 digits-value =
     by-tens (λ n. value 0 (digits n) ≡ n)
     (λ n h. ap (value 0) (digits-small n h) ∙ one-more 0 n ∙ omega arith)
-    (λ n h r. ap (value 0) (digits-more n h) ∙ value-join 0 (digits (n / 10)) (digit (n % 10) ∷ []) ∙ ap (λ (v : ℕ). value v (digit (n % 10) ∷ [])) r ∙ one-more (n / 10) (n % 10) ∙ omega arith)
+    (λ n h r. ap (value 0) (digits-more n h) ∙ value-join 0 (digits (n / 10)) (digit (n % 10) ∷ []) ∙ ap (λ (v : ℕ). value v (digit (n % 10) ∷ [])) r
+    ∙ one-more (n / 10) (n % 10) ∙ omega arith)
 
 pub value-grows : (v : ℕ) (s : List ℕ) → v ≤ value v s
 unfolding value
@@ -141,7 +144,8 @@ value-digits (c ∷ xs) (more e k) p = go (ℕ-discrete c 48) xs k p
         let v : 0 * 10 + (c - 48) ≡ 0 = omega arith in
         ap digits v ∙ digits-small 0 (omega arith) ∙ ap (λ (b : ℕ). b ∷ []) (sym z)
     go (yes z) (y ∷ ys) k p =
-        absurd (never (sym (ne-eqb (suc (suc (length ys))) 1 (omega arith)) ∙ sym (ap (λ (b : Bool). cond b (eqb (suc (suc (length ys))) 1) (ltb 0 (suc (suc (length ys))))) (eq-eqb c 48 z)) ∙ p))
+        absurd (never (sym (ne-eqb (suc (suc (length ys))) 1 (omega arith))
+        ∙ sym (ap (λ (b : Bool). cond b (eqb (suc (suc (length ys))) 1) (ltb 0 (suc (suc (length ys))))) (eq-eqb c 48 z)) ∙ p))
     go (no z) ys k p =
         let low = digit-low c e in
         let high = digit-high c e in
@@ -241,4 +245,5 @@ last-store o at j v =
     let xs = lastDigits j (v / 10) in
     let l : at + length xs ≡ at + j = omega (arith, last-length j (v / 10)) in
     let h : at + length xs ≤ at + j = omega arith in
-    sym (set-sets xs o at (at + j) (digit (v % 10)) h) ∙ ap (λ (k : ℕ). set (sets o at xs) k (digit (v % 10))) (sym l) ∙ sets-append xs (digit (v % 10) ∷ []) o at
+    sym (set-sets xs o at (at + j) (digit (v % 10)) h) ∙ ap (λ (k : ℕ). set (sets o at xs) k (digit (v % 10))) (sym l)
+    ∙ sets-append xs (digit (v % 10) ∷ []) o at

@@ -53,7 +53,8 @@ unfolding file lineAt spelledAt
 file-end = refl
 
 -- a longest line: -182978, 182977, 6, 4, 11, 11
-longest : lineAt (45 ∷ 49 ∷ 56 ∷ 50 ∷ 57 ∷ 55 ∷ 56 ∷ 9 ∷ 49 ∷ 56 ∷ 50 ∷ 57 ∷ 55 ∷ 55 ∷ 9 ∷ 54 ∷ 9 ∷ 52 ∷ 9 ∷ 49 ∷ 49 ∷ 9 ∷ 49 ∷ 49 ∷ 10 ∷ []) 0 ≡ Good (rec (pt (negsuc 182977) (pos 182977) 6) 4 11 11) 25
+longest : lineAt (45 ∷ 49 ∷ 56 ∷ 50 ∷ 57 ∷ 55 ∷ 56 ∷ 9 ∷ 49 ∷ 56 ∷ 50 ∷ 57 ∷ 55 ∷ 55 ∷ 9 ∷ 54 ∷ 9 ∷ 52 ∷ 9 ∷ 49 ∷ 49 ∷ 9 ∷ 49 ∷ 49 ∷ 10 ∷ []) 0
+    ≡ Good (rec (pt (negsuc 182977) (pos 182977) 6) 4 11 11) 25
 unfolding lineAt spelledAt placeAt starAt signedAt numberAt run value
 longest = refl
 

@@ -8,6 +8,7 @@ pub mod ReadingLaws
 -- lines
 pub mod Near
 pub mod LineLengths
+pub mod LineCount
 pub mod LineLaws
 -- examples, computed
 pub mod Examples

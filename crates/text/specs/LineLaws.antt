@@ -1,5 +1,7 @@
--- Why written and parsed lines are one format: a written line parses to its record (`line-write`), and only a written line parses (`line-read`). So the bytes at a
--- position settle the answer: `line-one` no two valid records' lines stand there, `line-prefix` no line begins another, `line-bad` all else is Bad, `line-end` the end of the file.
+-- Why written and parsed lines are one format: a written line parses to its record (`line-write`), and only a written line parses (`line-read`).
+-- So the bytes at a
+-- position settle the answer: `line-one` no two valid records' lines stand there, `line-prefix` no line begins another, `line-bad` all else is
+-- Bad, `line-end` the end of the file.
 -- `line-next` how far a line goes · `lines-join`, `lines-next` the lines of several records, one after the other.
 -- Assumes nothing.
 use mathlib.Core.Path.{_≡_, refl, sym, _∙_, subst, ap}
@@ -34,7 +36,8 @@ use Rattle.text.specs.declared.line.Line.the-variants.{Good, Bad, End}
 
 -- ---- a written line parses
 
-pub place-write : (t : List ℕ) (p q : ℕ) (x : Point) → natAbs (x .a) ≤ far → natAbs (x .b) ≤ far → x .m .0 ≤ near → Stands t p (pointText x) q → placeAt t p ≡ At x q
+pub place-write : (t : List ℕ) (p q : ℕ) (x : Point) → natAbs (x .a) ≤ far → natAbs (x .b) ≤ far → x .m .0 ≤ near → Stands t p (pointText x) q
+    → placeAt t p ≡ At x q
 unfolding placeAt pointText
 place-write t p q x ha hb hm s =
     let ta = ended (numeral (x .a)) tab in
@@ -44,9 +47,15 @@ place-write t p q x ha hb hm s =
     let rest = stands-then ta (tb ++ tm) s in
     let s₂ = stands-first tb tm rest in
     let s₃ = stands-then tb tm rest in
-    rw (signed-write t p far tab (x .a) _ refl ha s₁, signed-write t (p + length ta) far tab (x .b) _ refl hb s₂, number-write t (p + length ta + length tb) near tab (x .m .0) q refl hm s₃)
+    rw (
+      signed-write t p far tab (x .a) _ refl ha s₁,
+      signed-write t (p + length ta) far tab (x .b) _ refl hb s₂,
+      number-write t
+          (p + length ta + length tb) near tab (x .m .0) q refl hm s₃,
+    )
 
-pub star-write : (t : List ℕ) (p q : ℕ) (x : Point) (d k n : ℕ) → d ≤ near → k ≤ near → n ≤ near → Stands t p (starText d k n) q → starAt t p x ≡ Good (rec x d k n) q
+pub star-write : (t : List ℕ) (p q : ℕ) (x : Point) (d k n : ℕ) → d ≤ near → k ≤ near → n ≤ near → Stands t p (starText d k n) q → starAt t p x
+    ≡ Good (rec x d k n) q
 unfolding starAt starText
 star-write t p q x d k n hd hk hn s =
     let td = ended (digits d) tab in
@@ -56,7 +65,12 @@ star-write t p q x d k n hd hk hn s =
     let rest = stands-then td (tk ++ tn) s in
     let s₂ = stands-first tk tn rest in
     let s₃ = stands-then tk tn rest in
-    rw (number-write t p near tab d _ refl hd s₁, number-write t (p + length td) near tab k _ refl hk s₂, number-write t (p + length td + length tk) near feed n q refl hn s₃)
+    rw (
+      number-write t p near tab d _ refl hd s₁,
+      number-write t (p + length td) near tab k _ refl hk s₂,
+      number-write t
+          (p + length td + length tk) near feed n q refl hn s₃,
+    )
 
 stands-within : {t xs : List ℕ} {p q : ℕ} → Stands t p xs q → 0 < length xs → p < length t
 stands-within {t} {xs} {p} {q} s h = omega (arith, ap length (s .here), length-drop p t, length-append xs (drop q t))
@@ -67,7 +81,11 @@ spelled-write t p q r h s =
     let tp = pointText (r .at) in
     let ts = starText (r .d) (r .k) (r .n .0) in
     let within : p < length t = stands-within s (omega (arith, line-least r)) in
-    rw (lt-leb (length t) p within, place-write t p (p + length tp) (r .at) (omega (arith, h .a)) (omega (arith, h .b)) (omega (arith, h .m)) (stands-first tp ts s))
+    rw (
+      lt-leb (length t) p within,
+      place-write t p (p + length tp) (r .at) (omega (arith, h .a)) (omega (arith, h .b)) (omega (arith, h .m))
+          (stands-first tp ts s),
+    )
     (star-write t (p + length tp) q (r .at) (r .d) (r .k) (r .n .0) (omega (arith, h .d)) (omega (arith, h .k)) (omega (arith, h .n)) (stands-then tp ts s))
 
 -- the line of a valid record at p parses to it
@@ -107,7 +125,8 @@ module _ (t : List ℕ) (x : Point) (q : ℕ) where
   m-read a b p NoNumber e h = nowhere h
   m-read a b p (Natural m r) e h = let w = place-is h in (m, w .0, subst (Stands t p (ended (digits m) tab)) (w .1) (number-read t p near tab m r e))
 
-  b-read : (a : ℤ) (p : ℕ) (s : Signed) → signedAt t p far tab ≡ s → withB t a s ≡ At x q → (b : ℤ) × (m : ℕ) × (pt a b m ≡ x) × Stands t p (ended (numeral b) tab ++ ended (digits m) tab) q
+  b-read : (a : ℤ) (p : ℕ) (s : Signed) → signedAt t p far tab ≡ s → withB t a s ≡ At x q → (b : ℤ) × (m : ℕ) × (pt a b m ≡ x)
+      × Stands t p (ended (numeral b) tab ++ ended (digits m) tab) q
   b-read a p NoWhole e h = nowhere h
   b-read a p (Whole b r) e h =
       let w = m-read a b r (numberAt t r near tab) refl h in
@@ -139,7 +158,8 @@ module _ (t : List ℕ) (x : Point) (s : Record) (q : ℕ) where
   n-read d k p NoNumber e h = not-bad h
   n-read d k p (Natural n r) e h = let w = good-is h in (n, w .0, subst (Stands t p (ended (digits n) feed)) (w .1) (number-read t p near feed n r e))
 
-  k-read : (d p : ℕ) (v : Number) → numberAt t p near tab ≡ v → withK t x d v ≡ Good s q → (k : ℕ) × (n : ℕ) × (rec x d k n ≡ s) × Stands t p (ended (digits k) tab ++ ended (digits n) feed) q
+  k-read : (d p : ℕ) (v : Number) → numberAt t p near tab ≡ v → withK t x d v ≡ Good s q → (k : ℕ) × (n : ℕ) × (rec x d k n ≡ s)
+      × Stands t p (ended (digits k) tab ++ ended (digits n) feed) q
   k-read d p NoNumber e h = not-bad h
   k-read d p (Natural k r) e h =
       let w = n-read d k r (numberAt t r near feed) refl h in
@@ -170,7 +190,8 @@ pub line-read : (t : List ℕ) (p q : ℕ) (r : Record) → lineAt t p ≡ Good 
 unfolding lineAt
 line-read t p q r = go (spelledAt t p) refl
   where
-    sure : (s : Record) (k : ℕ) (b : Bool) → validOf s ≡ b → spelledAt t p ≡ Good s k → cond b (Good s k) Bad ≡ Good r q → (validOf r ≡ true) × Stands t p (lineOf r) q
+    sure : (s : Record) (k : ℕ) (b : Bool) → validOf s ≡ b → spelledAt t p ≡ Good s k → cond b (Good s k) Bad ≡ Good r q → (validOf r ≡ true)
+        × Stands t p (lineOf r) q
     sure s k true v e h =
         let w = good-is h in
         (subst (λ (y : Record). validOf y ≡ true) (w .0) v, spelled-read t p q r (e ∙ h))
@@ -192,7 +213,8 @@ line-next t p q r e =
 -- ---- the bytes settle the answer
 
 -- no two valid records' lines stand at one position
-pub line-one : (t : List ℕ) (p q q′ : ℕ) (r s : Record) → validOf r ≡ true → validOf s ≡ true → Stands t p (lineOf r) q → Stands t p (lineOf s) q′ → (r ≡ s) × (q ≡ q′)
+pub line-one : (t : List ℕ) (p q q′ : ℕ) (r s : Record) → validOf r ≡ true → validOf s ≡ true → Stands t p (lineOf r) q → Stands t p (lineOf s) q′
+    → (r ≡ s) × (q ≡ q′)
 line-one t p q q′ r s v w h k = good-is (sym (line-write t p q r v h) ∙ line-write t p q′ s w k)
 
 -- no valid record's line begins another's
@@ -203,7 +225,8 @@ line-prefix r s xs ys v w e =
     let k = stands-at t (lineOf s) ys 0 e in
     let u = line-one t 0 _ _ r s v w h k in (
       u .0,
-      sym (drop-append-seam (lineOf r) xs) ∙ ap (drop (length (lineOf r))) e ∙ ap (λ (y : Record). drop (length (lineOf y)) (lineOf s ++ ys)) (u .0) ∙ drop-append-seam (lineOf s) ys,
+      sym (drop-append-seam (lineOf r) xs) ∙ ap (drop (length (lineOf r))) e ∙ ap (λ (y : Record). drop (length (lineOf y)) (lineOf s ++ ys)) (u .0)
+          ∙ drop-append-seam (lineOf s) ys,
     )
 
 pub line-end : (t : List ℕ) (p : ℕ) → length t ≤ p → lineAt t p ≡ End
@@ -224,7 +247,8 @@ star-over : (t : List ℕ) (p : ℕ) (x : Point) → over (starAt t p x) ≡ fal
 unfolding starAt over
 star-over t p x =
     on-over (λ d past-d. withK t x d (numberAt t past-d near tab))
-    (λ d past-d. on-over (λ k past-k. withN x d k (numberAt t past-k near feed)) (λ k past-k. on-over (λ n next. Good (rec x d k n) next) (λ n next. refl) (numberAt t past-k near feed)) (numberAt t past-d near tab))
+    (λ d past-d. on-over (λ k past-k. withN x d k (numberAt t past-k near feed))
+    (λ k past-k. on-over (λ n next. Good (rec x d k n) next) (λ n next. refl) (numberAt t past-k near feed)) (numberAt t past-d near tab))
     (numberAt t p near tab)
 
 judged-over : (l : Line) → over l ≡ false → over (judged l) ≡ false

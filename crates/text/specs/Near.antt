@@ -33,7 +33,8 @@ within-near z m h e = le-trans (leb-true (natAbs z) (251 * 3 ^ m) e) (le-trans (
 turns-near : (d k : ℕ) → ltb k (orientationsOf d) ≡ true → (d ≤ 6) × (k ≤ 11)
 turns-near d k = go (eqb d 3) (eqb d 4) (eqb d 5) (eqb d 6) refl refl refl refl
   where
-    go : (s t u v : Bool) → eqb d 3 ≡ s → eqb d 4 ≡ t → eqb d 5 ≡ u → eqb d 6 ≡ v → ltb k (cond s 4 (cond t 12 (cond u 12 (cond v 2 0)))) ≡ true → (d ≤ 6) × (k ≤ 11)
+    go : (s t u v : Bool) → eqb d 3 ≡ s → eqb d 4 ≡ t → eqb d 5 ≡ u → eqb d 6 ≡ v → ltb k (cond s 4 (cond t 12 (cond u 12 (cond v 2 0)))) ≡ true
+        → (d ≤ 6) × (k ≤ 11)
     go true t u v e e₁ e₂ e₃ h = (omega (arith, eqb-true d 3 e), omega (arith, ltb-true k 4 h))
     go false true u v e e₁ e₂ e₃ h = (omega (arith, eqb-true d 4 e₁), omega (arith, ltb-true k 12 h))
     go false false true v e e₁ e₂ e₃ h = (omega (arith, eqb-true d 5 e₂), omega (arith, ltb-true k 12 h))
@@ -43,7 +44,8 @@ turns-near d k = go (eqb d 3) (eqb d 4) (eqb d 5) (eqb d 6) refl refl refl refl
 suits-near : (d k n : ℕ) → suitsOf d k n ≡ true → (d ≤ 6) × (k ≤ 11) × (n ≤ 12)
 suits-near d k n = go (eqb d 0) refl
   where
-    go : (z : Bool) → eqb d 0 ≡ z → cond z (eqb k 0 && eqb n 0) (ltb k (orientationsOf d) && (leb n 12 && sameParity k n)) ≡ true → (d ≤ 6) × (k ≤ 11) × (n ≤ 12)
+    go : (z : Bool) → eqb d 0 ≡ z → cond z (eqb k 0 && eqb n 0) (ltb k (orientationsOf d) && (leb n 12 && sameParity k n)) ≡ true → (d ≤ 6)
+        × (k ≤ 11) × (n ≤ 12)
     go true e h = (
       omega (arith, eqb-true d 0 e),
       omega (arith, eqb-true k 0 (both-left (eqb k 0) (eqb n 0) h)),

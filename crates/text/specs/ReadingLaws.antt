@@ -1,6 +1,6 @@
 -- What reading a number obeys: a written number is read back, and only a written number is read.
 -- `Stands` bytes stand at a position of a file · `number-write`, `number-read`, `signed-write`, `signed-read` the two laws, without a sign and with one ·
--- `Reading` where a reader of digits is, with `reading-..` what each byte does to it.
+-- `Scanned` where a reader of digits is, with `scan-..` what each byte does to it.
 -- Assumes nothing.
 use mathlib.Core.Path.{_≡_, refl, sym, _∙_, subst, ap}
 use mathlib.Core.Bool.{Bool, true, false, cond, _&&_}
@@ -119,12 +119,14 @@ number-read t p most stop v q e =
     subst (λ (l : List ℕ). Stands t p (ended l stop) q) spelt (subst (Stands t p (ended s stop)) (h .2) (stands-join front end))
 
 -- a written number is read back
-pub number-write : (t : List ℕ) (p most stop v q : ℕ) → isDigit stop ≡ false → v ≤ most → Stands t p (ended (digits v) stop) q → numberAt t p most stop ≡ Natural v q
+pub number-write : (t : List ℕ) (p most stop v q : ℕ) → isDigit stop ≡ false → v ≤ most → Stands t p (ended (digits v) stop) q
+    → numberAt t p most stop ≡ Natural v q
 unfolding numberAt
 number-write t p most stop v q h small s =
     let whole : drop p t ≡ digits v ++ stop ∷ drop q t = s .here ∙ append-snoc (digits v) stop (drop q t) in
     let spelt : run (drop p t) ≡ digits v = ap run whole ∙ run-all (digits v) (drop q t) stop (digits-are v) h in
-    let met : begins stop (drop (p + length (digits v)) t) ≡ true = byte-stands t (p + length (digits v)) stop (drop q t) (stands-rest t (digits v) (stop ∷ drop q t) p whole) in
+    let met : begins stop (drop (p + length (digits v)) t) ≡ true =
+    byte-stands t (p + length (digits v)) stop (drop q t) (stands-rest t (digits v) (stop ∷ drop q t) p whole) in
     let past : p + length (digits v) + 1 ≡ q = omega (arith, s .past, length-append (digits v) (stop ∷ [])) in
     ap (λ (l : List ℕ). numberOf l t p most stop) spelt ∙ rw (digits-value v, le-leb v most small, met, digits-plain v) (ap (Natural v) past)
 
@@ -134,7 +136,8 @@ whole-is : {x z : ℤ} {r q : ℕ} → Whole x r ≡ Whole z q → (x ≡ z) × 
 whole-is e = (cc, cc)
 
 -- what reading with a sign finds: a minus before a number that is not 0, or a number
-minus-read : (t : List ℕ) (p most stop : ℕ) (n : Number) (z : ℤ) (q : ℕ) → begins minus (drop p t) ≡ true → numberAt t (p + 1) most stop ≡ n → asMinus n ≡ Whole z q → Stands t p (ended (numeral z) stop) q × (natAbs z ≤ most)
+minus-read : (t : List ℕ) (p most stop : ℕ) (n : Number) (z : ℤ) (q : ℕ) → begins minus (drop p t) ≡ true → numberAt t (p + 1) most stop ≡ n
+    → asMinus n ≡ Whole z q → Stands t p (ended (numeral z) stop) q × (natAbs z ≤ most)
 minus-read t p most stop NoNumber z q b e h = absurd (let k : _≡_ {A = ℕ} 0 1 = cc in omega arith)
 minus-read t p most stop (Natural zero r) z q b e h = absurd (let k : _≡_ {A = ℕ} 0 1 = cc in omega arith)
 minus-read t p most stop (Natural (suc n) r) z q b e h =
@@ -144,16 +147,19 @@ minus-read t p most stop (Natural (suc n) r) z q b e h =
       subst (λ (x : ℤ). natAbs x ≤ most) (w .0) (number-most t (p + 1) most stop (suc n) r e),
     )
 
-plus-read : (t : List ℕ) (p most stop : ℕ) (n : Number) (z : ℤ) (q : ℕ) → numberAt t p most stop ≡ n → asWhole n ≡ Whole z q → Stands t p (ended (numeral z) stop) q × (natAbs z ≤ most)
+plus-read : (t : List ℕ) (p most stop : ℕ) (n : Number) (z : ℤ) (q : ℕ) → numberAt t p most stop ≡ n → asWhole n ≡ Whole z q
+    → Stands t p (ended (numeral z) stop) q × (natAbs z ≤ most)
 plus-read t p most stop NoNumber z q e h = absurd (let k : _≡_ {A = ℕ} 0 1 = cc in omega arith)
 plus-read t p most stop (Natural n r) z q e h =
     let w = whole-is h in (
-      subst (λ (x : ℤ). Stands t p (ended (numeral x) stop) q) (w .0) (subst (Stands t p (ended (numeral (pos n)) stop)) (w .1) (number-read t p most stop n r e)),
+      subst (λ (x : ℤ). Stands t p (ended (numeral x) stop) q) (w .0)
+          (subst (Stands t p (ended (numeral (pos n)) stop)) (w .1) (number-read t p most stop n r e)),
       subst (λ (x : ℤ). natAbs x ≤ most) (w .0) (number-most t p most stop n r e),
     )
 
 -- only a written number is read
-pub signed-read : (t : List ℕ) (p most stop : ℕ) (z : ℤ) (q : ℕ) → signedAt t p most stop ≡ Whole z q → Stands t p (ended (numeral z) stop) q × (natAbs z ≤ most)
+pub signed-read : (t : List ℕ) (p most stop : ℕ) (z : ℤ) (q : ℕ) → signedAt t p most stop ≡ Whole z q → Stands t p (ended (numeral z) stop) q
+    × (natAbs z ≤ most)
 unfolding signedAt
 signed-read t p most stop z q = go (begins minus (drop p t)) refl
   where
@@ -163,11 +169,13 @@ signed-read t p most stop z q = go (begins minus (drop p t)) refl
     go false b h = plus-read t p most stop (numberAt t p most stop) z q refl h
 
 -- the two cases of a reader with a sign
-pub signed-minus : (t : List ℕ) (p most stop : ℕ) (n : Number) → begins minus (drop p t) ≡ true → numberAt t (p + 1) most stop ≡ n → asMinus n ≡ signedAt t p most stop
+pub signed-minus : (t : List ℕ) (p most stop : ℕ) (n : Number) → begins minus (drop p t) ≡ true → numberAt t (p + 1) most stop ≡ n → asMinus n
+    ≡ signedAt t p most stop
 unfolding signedAt
 signed-minus t p most stop n b e = rw (b, e)
 
-pub signed-plus : (t : List ℕ) (p most stop : ℕ) (n : Number) → begins minus (drop p t) ≡ false → numberAt t p most stop ≡ n → asWhole n ≡ signedAt t p most stop
+pub signed-plus : (t : List ℕ) (p most stop : ℕ) (n : Number) → begins minus (drop p t) ≡ false → numberAt t p most stop ≡ n → asWhole n
+    ≡ signedAt t p most stop
 unfolding signedAt
 signed-plus t p most stop n b e = rw (b, e)
 
@@ -184,7 +192,8 @@ no-minus [] rest none h = absurd (omega arith)
 no-minus (c ∷ s) rest (more e k) h = let low = digit-low c e in ne-eqb c minus (omega arith)
 
 -- a written number is read back
-pub signed-write : (t : List ℕ) (p most stop : ℕ) (z : ℤ) (q : ℕ) → isDigit stop ≡ false → natAbs z ≤ most → Stands t p (ended (numeral z) stop) q → signedAt t p most stop ≡ Whole z q
+pub signed-write : (t : List ℕ) (p most stop : ℕ) (z : ℤ) (q : ℕ) → isDigit stop ≡ false → natAbs z ≤ most → Stands t p (ended (numeral z) stop) q
+    → signedAt t p most stop ≡ Whole z q
 unfolding signedAt
 signed-write t p most stop (pos n) q h small s =
     let whole : drop p t ≡ digits n ++ stop ∷ drop q t = s .here ∙ append-snoc (digits n) stop (drop q t) in
@@ -198,7 +207,7 @@ signed-write t p most stop (negsuc n) q h small s =
 -- ---- a reader of digits, byte by byte
 
 -- from `at` on, the reader has come to i with the number v
-pub record Reading (t : List ℕ) (at most i v : ℕ) : Type 0 where
+pub record Scanned (t : List ℕ) (at most i v : ℕ) : Type 0 where
   pub from : at ≤ i
   pub small : v ≤ most
   pub long : at + length (run (drop at t)) ≡ i + length (run (drop i t))
@@ -235,56 +244,59 @@ first-plain x y at i h = go (decLt at i)
         let e : i - at ≡ 0 = omega arith in
         ap (plainly x) e ∙ nothing (eqb x 48) ∙ sym (nothing (eqb y 48)) ∙ sym (ap (plainly y) e)
 
-pub reading-begins : (t : List ℕ) (at most : ℕ) → Reading t at most at 0
-reading-begins t at most = record { from = omega arith; small = omega arith; long = refl; counts = refl; first = λ h. absurd (omega arith) }
+pub scan-begins : (t : List ℕ) (at most : ℕ) → Scanned t at most at 0
+scan-begins t at most = record { from = omega arith; small = omega arith; long = refl; counts = refl; first = λ h. absurd (omega arith) }
 
-module _ (t : List ℕ) (at most i v : ℕ) (r : Reading t at most i v) where
-  pub reading-next : i < length t → isDigit (getD t i 0) ≡ true → value 0 (run (drop at t)) ≡ value (v * 10 + (getD t i 0 - 48)) (run (drop (i + 1) t))
+module _ (t : List ℕ) (at most i v : ℕ) (r : Scanned t at most i v) where
+  pub scan-next : i < length t → isDigit (getD t i 0) ≡ true → value 0 (run (drop at t)) ≡ value (v * 10 + (getD t i 0 - 48)) (run (drop (i + 1) t))
   unfolding value
-  reading-next h e = r .counts ∙ ap (value v) (run-step t i h e)
+  scan-next h e = r .counts ∙ ap (value v) (run-step t i h e)
 
   -- a digit that keeps the number small
-  pub reading-goes : i < length t → isDigit (getD t i 0) ≡ true → v * 10 + (getD t i 0 - 48) ≤ most → Reading t at most (i + 1) (v * 10 + (getD t i 0 - 48))
-  reading-goes h e s =
+  pub scan-goes : i < length t → isDigit (getD t i 0) ≡ true → v * 10 + (getD t i 0 - 48) ≤ most → Scanned t at most (i + 1) (v * 10 + (getD t i 0 - 48))
+  scan-goes h e s =
       record {
         from = omega (arith, r .from);
         small = s;
         long = r .long ∙ omega (arith, ap length (run-step t i h e));
-        counts = reading-next h e;
+        counts = scan-next h e;
         first = λ k. go (decLt at i);
       }
     where
       go : Dec (at < i) → getD (run (drop at t)) 0 0 ≡ getD t at 0
       go (yes l) = r .first l
-      go (no l) = let same : i ≡ at = omega (arith, r .from) in subst (λ (j : ℕ). getD (run (drop j t)) 0 0 ≡ getD t j 0) same (ap (λ (s : List ℕ). getD s 0 0) (run-step t i h e))
+      go (no l) = let same : i ≡ at = omega (arith, r .from) in
+          subst (λ (j : ℕ). getD (run (drop j t)) 0 0 ≡ getD t j 0) same (ap (λ (s : List ℕ). getD s 0 0) (run-step t i h e))
 
   -- a digit that takes it above what is wanted: so is the whole
-  pub reading-over : (stop : ℕ) → i < length t → isDigit (getD t i 0) ≡ true → most < v * 10 + (getD t i 0 - 48) → NoNumber ≡ numberAt t at most stop
+  pub scan-over : (stop : ℕ) → i < length t → isDigit (getD t i 0) ≡ true → most < v * 10 + (getD t i 0 - 48) → NoNumber ≡ numberAt t at most stop
   unfolding numberAt
-  reading-over stop h e s =
-      let over : most < value 0 (run (drop at t)) = omega (arith, reading-next h e, value-grows (v * 10 + (getD t i 0 - 48)) (run (drop (i + 1) t))) in
+  scan-over stop h e s =
+      let over : most < value 0 (run (drop at t)) = omega (arith, scan-next h e, value-grows (v * 10 + (getD t i 0 - 48)) (run (drop (i + 1) t))) in
       rw (lt-leb (value 0 (run (drop at t))) most over)
 
   -- the file's end: no byte ends the number
-  pub reading-lacks : (stop : ℕ) → length t ≤ i → NoNumber ≡ numberAt t at most stop
+  pub scan-lacks : (stop : ℕ) → length t ≤ i → NoNumber ≡ numberAt t at most stop
   unfolding numberAt
-  reading-lacks stop h =
+  scan-lacks stop h =
       let s = run (drop at t) in
       let long : at + length s ≡ i = r .long ∙ ap (λ (l : List ℕ). i + length l) (run-past t i h) ∙ omega arith in
       let off : begins stop (drop (at + length s) t) ≡ false = ap (λ (k : ℕ). begins stop (drop k t)) long ∙ ap (begins stop) (drop-of-length-le t {i = i} h) in
-      unended (leb (value 0 s) most) (plain s) (Natural (value 0 s) (at + length s + 1)) ∙ (λ j. cond (leb (value 0 s) most && (sym off j && plain s)) (Natural (value 0 s) (at + length s + 1)) NoNumber)
+      unended (leb (value 0 s) most) (plain s) (Natural (value 0 s) (at + length s + 1))
+      ∙ (λ j. cond (leb (value 0 s) most && (sym off j && plain s)) (Natural (value 0 s) (at + length s + 1)) NoNumber)
 
   -- a byte that is no digit: it is to be the one that ends the number
-  pub reading-ends : (stop : ℕ) → i < length t → isDigit (getD t i 0) ≡ false
+  pub scan-ends : (stop : ℕ) → i < length t → isDigit (getD t i 0) ≡ false
       → cond (eqb (getD t i 0) stop && plainly (getD t at 0) (i - at)) (Natural v (i + 1)) NoNumber ≡ numberAt t at most stop
   unfolding numberAt value
-  reading-ends stop h e =
+  scan-ends stop h e =
       let s = run (drop at t) in
       let none = run-stop t i h e in
       let long : at + length s ≡ i = r .long ∙ ap (λ (l : List ℕ). i + length l) none ∙ omega arith in
       let counts : value 0 s ≡ v = r .counts ∙ ap (value v) none in
       let fits : leb (value 0 s) most ≡ true = ap (λ (n : ℕ). leb n most) counts ∙ le-leb v most (r .small) in
-      let next : begins stop (drop (at + length s) t) ≡ eqb (getD t i 0) stop = ap (λ (k : ℕ). begins stop (drop k t)) long ∙ ap (begins stop) (drop-cons t i 0 h) in
+      let next : begins stop (drop (at + length s) t) ≡ eqb (getD t i 0) stop = ap (λ (k : ℕ). begins stop (drop k t)) long
+      ∙ ap (begins stop) (drop-cons t i 0 h) in
       let size : length s ≡ i - at = omega arith in
       let form : plain s ≡ plainly (getD t at 0) (i - at) = ap (plainly (getD s 0 0)) size ∙ first-plain (getD s 0 0) (getD t at 0) at i (r .first) in
       sym (λ j. cond (fits j && (next j && form j)) (Natural (counts j) (long j + 1)) NoNumber)

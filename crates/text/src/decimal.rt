@@ -1,4 +1,5 @@
-// Decimal numbers in bytes: no plus sign, no leading zero, minus only before a nonzero number. Each ends with a byte of the caller's choice, a tab or a line feed.
+// Decimal numbers in bytes: no plus sign, no leading zero, minus only before a nonzero number. Each ends with a byte of the caller's choice, a tab
+// or a line feed.
 ghost use mathlib.Core.Path.{_≡_};
 ghost use Prim.Native.Nat.{_+_, _-_, _≤_, _<_};
 ghost use lib.IntN.{negℤ, pos, natAbs};

@@ -18,9 +18,9 @@ use lattice::Point;
 use lattice::Record;
 use lattice::valid;
 
-const TAB: u8 = b'\t';
+pub const TAB: u8 = b'\t';
 
-const FEED: u8 = b'\n';
+pub const FEED: u8 = b'\n';
 
 // The most that a numerator, and any other field, is read as: a record past these is not valid, so it is refused unread.
 const FAR: u32 = 9999999;

@@ -56,13 +56,18 @@ file =
     ∷ []
 
 -- "and its reduced file is the same"; two bytes past the file stay
-hexagon-written : (writeFullOf one (replicate 90 7) ≡ outcome 0 88 (file ++ (7 ∷ 7 ∷ []))) × (writeReducedOf one (replicate 90 7) ≡ outcome 0 88 (file ++ (7 ∷ 7 ∷ [])))
-unfolding vertex entered empty hexagon one file earlier redundant leaveOut putOf writeOf insertBy sortBy wordAt normalOf turns slotsIn freeAt recordAt slotAt recordBytes putSlot homeOf samePoint searchFrom findOf placedAt allPlaced inOrderOf enterOf recordsBelow digitsBy digits pointText starText lineOf lines
+hexagon-written : (writeFullOf one (replicate 90 7) ≡ outcome 0 88 (file ++ (7 ∷ 7 ∷ [])))
+    × (writeReducedOf one (replicate 90 7) ≡ outcome 0 88 (file ++ (7 ∷ 7 ∷ [])))
+unfolding vertex entered empty hexagon one file earlier redundant leaveOut putOf writeOf insertBy sortBy wordAt normalOf turns slotsIn freeAt recordAt
+    slotAt recordBytes putSlot homeOf samePoint searchFrom findOf placedAt allPlaced inOrderOf enterOf recordsBelow digitsBy digits pointText starText
+    lineOf lines
 hexagon-written = (refl, refl)
 
 -- refused: an output one byte short, and a table that is not in order
 refused : (writeFullOf one (replicate 87 7) ≡ outcome 13 0 (replicate 87 7)) × (writeReducedOf (255 ∷ one) [] ≡ outcome 1 0 [])
-unfolding vertex entered empty hexagon one earlier redundant leaveOut putOf writeOf insertBy sortBy wordAt normalOf turns slotsIn freeAt recordAt slotAt recordBytes putSlot homeOf samePoint searchFrom findOf placedAt allPlaced inOrderOf enterOf recordsBelow digitsBy digits pointText starText lineOf lines
+unfolding vertex entered empty hexagon one earlier redundant leaveOut putOf writeOf insertBy sortBy wordAt normalOf turns slotsIn freeAt recordAt
+    slotAt recordBytes putSlot homeOf samePoint searchFrom findOf placedAt allPlaced inOrderOf enterOf recordsBelow digitsBy digits pointText starText
+    lineOf lines
 refused = (refl, refl)
 
 -- a vertex of degree 6 and its six adjacent ones, one of them a boundary vertex: five records of degree 3 go, whatever their level
@@ -80,5 +85,6 @@ six =
     ∷ [])
 
 six-reduced : sorted (leaveOut (redundant six) (recordsOf six)) ≡ vertex (pos 1) (pos 0) 6 0 ∷ vertex (pos 2) (pos 0) 0 0 ∷ vertex (pos 3) (pos 0) 3 0 ∷ []
-unfolding vertex entered empty six earlier redundant leaveOut insertBy sortBy wordAt normalOf turns slotsIn freeAt recordAt slotAt recordBytes putSlot homeOf samePoint searchFrom findOf enterOf recordsBelow orient patternOf
+unfolding vertex entered empty six earlier redundant leaveOut insertBy sortBy wordAt normalOf turns slotsIn freeAt recordAt slotAt recordBytes putSlot
+    homeOf samePoint searchFrom findOf enterOf recordsBelow orient patternOf
 six-reduced = refl

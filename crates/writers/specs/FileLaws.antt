@@ -1,5 +1,6 @@
 -- The file depends on the set of records alone, not on where they stand in the table.
--- `sorted-rises` the records of a table rise strictly in their file, `sorted-holds`, `holds-sorted` and are the table's · `sorted-one` no other list does so · `left-rises`, `left-holds`, `holds-left`,
+-- `sorted-rises` the records of a table rise strictly in their file, `sorted-holds`, `holds-sorted` and are the table's · `sorted-one` no other
+-- list does so · `left-rises`, `left-holds`, `holds-left`,
 -- `left-one` the same of those that a test leaves · `full-same`, `reduced-same` two tables that hold the same at every point have the same files.
 -- Assumes nothing.
 use mathlib.Core.Path.{_≡_, refl, sym, ap, _∙_}
@@ -11,6 +12,7 @@ use native.Mathlib.Omega.{arith}
 use borrow.Author.Tests.{ltb-true, ltb-false, lt-ltb}
 use lib.Dec.{eqb}
 use Rattle.laws.specs.Each.{same-test, not-both}
+use Rattle.laws.specs.Some.{someOf, some-at, at-some}
 use Rattle.lattice.specs.declared.points.Point.{Point}
 use Rattle.lattice.specs.declared.records.Record.{Record}
 use Rattle.table.specs.Order.{InOrder}
@@ -18,8 +20,7 @@ use Rattle.table.specs.Entries.{lookUp, recordsOf}
 use Rattle.table.specs.MapLaws.{Apart, records-looked, looked-records, records-apart, lookup-valid}
 use Rattle.text.specs.Line.{lines}
 use Rattle.writers.specs.SortLaws.{mem-sort, sort-mem, Rising, Decides, sort-rising, rising-one}
-use Rattle.writers.specs.Files.{before, sorted, fullFile, sixNames, someOf, redundant, leaveOut, reducedFile}
-use Rattle.writers.specs.RedundantLaws.{some-at, at-some}
+use Rattle.writers.specs.Files.{before, sorted, fullFile, sixNames, redundant, leaveOut, reducedFile}
 use Rattle.writers.specs.LineOrder.{orderOf, Close, order-earlier, order-one}
 use Rattle.writers.specs.KeptLaws.{close}
 
@@ -61,7 +62,8 @@ before-sorted rs a c = go (sorted rs) (λ r m. c r (mem-sort before rs r m)) (lo
       go qs (λ s m. c s (List·Memᴰ·tail m)) (h .1),
     )
 
-before-one : (rs : List Record) → Apart rs → Closes rs → (qs : List Record) → Rising Before qs → ((r : Record) → List·Memᴰ r qs → List·Memᴰ r rs) → ((r : Record) → List·Memᴰ r rs → List·Memᴰ r qs) → qs ≡ sorted rs
+before-one : (rs : List Record) → Apart rs → Closes rs → (qs : List Record) → Rising Before qs → ((r : Record) → List·Memᴰ r qs → List·Memᴰ r rs)
+    → ((r : Record) → List·Memᴰ r rs → List·Memᴰ r qs) → qs ≡ sorted rs
 before-one rs a c qs h f g =
     rising-one Lower (λ x y p q. omega arith) qs (sorted rs) (go qs (λ r m. c r (f r m)) h) (lower-sorted rs a c)
     (λ r m. sort-mem before rs r (f r m))
@@ -75,7 +77,8 @@ before-one rs a c qs h f g =
     )
 
 -- two lists of the same records, none with two of one point, have one file
-sorted-same : (rs qs : List Record) → Apart rs → Apart qs → Closes rs → Closes qs → ((r : Record) → List·Memᴰ r rs → List·Memᴰ r qs) → ((r : Record) → List·Memᴰ r qs → List·Memᴰ r rs) → sorted rs ≡ sorted qs
+sorted-same : (rs qs : List Record) → Apart rs → Apart qs → Closes rs → Closes qs → ((r : Record) → List·Memᴰ r rs → List·Memᴰ r qs)
+    → ((r : Record) → List·Memᴰ r qs → List·Memᴰ r rs) → sorted rs ≡ sorted qs
 sorted-same rs qs a b c d f g =
     rising-one Lower (λ x y p q. omega arith) (sorted rs) (sorted qs) (lower-sorted rs a c) (lower-sorted qs b d)
     (λ r m. sort-mem before qs r (f r (mem-sort before rs r m)))
@@ -91,11 +94,13 @@ mem-leave f (q ∷ rs) r m = go (f q) refl m (λ k. mem-leave f rs r k)
     later : List·Memᴰ r rs × (f r ≡ false) → List·Memᴰ r (q ∷ rs) × (f r ≡ false)
     later w = (List·Memᴰ·tail (w .0), w .1)
 
-    first : f q ≡ false → (r ≡ q) ⊎ List·Memᴰ r (leaveOut f rs) → (List·Memᴰ r (leaveOut f rs) → List·Memᴰ r rs × (f r ≡ false)) → List·Memᴰ r (q ∷ rs) × (f r ≡ false)
+    first : f q ≡ false → (r ≡ q) ⊎ List·Memᴰ r (leaveOut f rs) → (List·Memᴰ r (leaveOut f rs) → List·Memᴰ r rs × (f r ≡ false))
+        → List·Memᴰ r (q ∷ rs) × (f r ≡ false)
     first e (inl h) ih = (List·Memᴰ·head h, ap f h ∙ e)
     first e (inr k) ih = later (ih k)
 
-    go : (b : Bool) → f q ≡ b → List·Memᴰ r (cond b (leaveOut f rs) (q ∷ leaveOut f rs)) → (List·Memᴰ r (leaveOut f rs) → List·Memᴰ r rs × (f r ≡ false)) → List·Memᴰ r (q ∷ rs) × (f r ≡ false)
+    go : (b : Bool) → f q ≡ b → List·Memᴰ r (cond b (leaveOut f rs) (q ∷ leaveOut f rs))
+        → (List·Memᴰ r (leaveOut f rs) → List·Memᴰ r rs × (f r ≡ false)) → List·Memᴰ r (q ∷ rs) × (f r ≡ false)
     go true e k ih = later (ih k)
     go false e k ih = first e (List·Memᴰ·cases-cons k) ih
 
@@ -104,7 +109,8 @@ unfolding leaveOut
 leave-mem f [] r m h = absurd (List·Memᴰ·not-nil m)
 leave-mem f (q ∷ rs) r m h = go (f q) refl (List·Memᴰ·cases-cons m) (λ k. leave-mem f rs r k h)
   where
-    go : (b : Bool) → f q ≡ b → (r ≡ q) ⊎ List·Memᴰ r rs → (List·Memᴰ r rs → List·Memᴰ r (leaveOut f rs)) → List·Memᴰ r (cond b (leaveOut f rs) (q ∷ leaveOut f rs))
+    go : (b : Bool) → f q ≡ b → (r ≡ q) ⊎ List·Memᴰ r rs → (List·Memᴰ r rs → List·Memᴰ r (leaveOut f rs))
+        → List·Memᴰ r (cond b (leaveOut f rs) (q ∷ leaveOut f rs))
     go true e (inl k) ih = absurd (not-both e (sym (ap f k) ∙ h))
     go true e (inr k) ih = ih k
     go false e (inl k) ih = List·Memᴰ·head k
@@ -138,7 +144,8 @@ pub sorted-rises : (t : List ℕ) → InOrder t → Rising Before (sorted (recor
 sorted-rises t o = before-sorted (recordsOf t) (records-apart t o) (closes t o)
 
 -- no other list of the table's records rises so
-pub sorted-one : (t : List ℕ) → InOrder t → (rs : List Record) → Rising Before rs → ((r : Record) → List·Memᴰ r rs → List·Memᴰ r (recordsOf t)) → ((r : Record) → List·Memᴰ r (recordsOf t) → List·Memᴰ r rs)
+pub sorted-one : (t : List ℕ) → InOrder t → (rs : List Record) → Rising Before rs → ((r : Record) → List·Memᴰ r rs → List·Memᴰ r (recordsOf t))
+    → ((r : Record) → List·Memᴰ r (recordsOf t) → List·Memᴰ r rs)
     → rs ≡ sorted (recordsOf t)
 sorted-one t o rs h f g = before-one (recordsOf t) (records-apart t o) (closes t o) rs h f g
 
@@ -159,7 +166,8 @@ module _ (t : List ℕ) (o : InOrder t) (f : Record → Bool) where
   pub holds-left : (r : Record) → List·Memᴰ r (recordsOf t) → f r ≡ false → List·Memᴰ r (sorted (leaveOut f (recordsOf t)))
   holds-left r m e = sort-mem before (leaveOut f (recordsOf t)) r (leave-mem f (recordsOf t) r m e)
 
-  pub left-one : (rs : List Record) → Rising Before rs → ((r : Record) → List·Memᴰ r rs → List·Memᴰ r (recordsOf t) × (f r ≡ false)) → ((r : Record) → List·Memᴰ r (recordsOf t) → f r ≡ false → List·Memᴰ r rs)
+  pub left-one : (rs : List Record) → Rising Before rs → ((r : Record) → List·Memᴰ r rs → List·Memᴰ r (recordsOf t) × (f r ≡ false))
+      → ((r : Record) → List·Memᴰ r (recordsOf t) → f r ≡ false → List·Memᴰ r rs)
       → rs ≡ sorted (leaveOut f (recordsOf t))
   left-one rs h into from =
       before-one (leaveOut f (recordsOf t)) apart near rs h
@@ -180,7 +188,8 @@ module _ (t u : List ℕ) (o : InOrder t) (v : InOrder u) (same : (p : Point) �
   unfolding redundant
   redundant-same r =
       ap (λ (b : Bool). eqb (r .d) 3 && b)
-      (same-test (someOf (sixNames (r .at)) (recordsOf t)) (someOf (sixNames (r .at)) (recordsOf u)) (some-mem (sixNames (r .at)) (recordsOf t) (recordsOf u) into) (some-mem (sixNames (r .at)) (recordsOf u) (recordsOf t) back))
+      (same-test (someOf (sixNames (r .at)) (recordsOf t)) (someOf (sixNames (r .at)) (recordsOf u))
+      (some-mem (sixNames (r .at)) (recordsOf t) (recordsOf u) into) (some-mem (sixNames (r .at)) (recordsOf u) (recordsOf t) back))
 
   pub reduced-same : reducedFile t ≡ reducedFile u
   reduced-same =

@@ -1,14 +1,17 @@
 -- Document 01, "Files": the full and the reduced file of a table, and what the writers do. What the promises cite: `writeFullOf`, `writeReducedOf`.
--- `before` the order of lines, `sorted` records in it · `fullFile` · `redundant` the records that the reduced file leaves out, `reducedFile` · `Outcome`, `writeOf` a file
+-- `before` the order of lines, `sorted` records in it · `fullFile` · `redundant` the records that the reduced file leaves out, `reducedFile` ·
+-- `Outcome`, `writeOf` a file
 -- written, or refused.
 -- Assumes nothing.
-use mathlib.Core.Bool.{Bool, false, cond, _&&_, _||_}
+use mathlib.Core.Bool.{Bool, cond, _&&_, _||_}
 use mathlib.Core.List.{List, [], _∷_, _++_}
 use Prim.Native.Nat.{ℕ}
 use lib.Dec.{eqb, ltb}
 use lib.ListN.{length, drop}
 use lib.Signed.{ltZ}
+use Rattle.laws.specs.Choices.{unless}
 use Rattle.laws.specs.Rules.{eqZ, among}
+use Rattle.laws.specs.Some.{someOf}
 use Rattle.writers.specs.Sorting.{sortBy}
 use Rattle.lattice.specs.Stars.{adjacentAt}
 use Rattle.lattice.specs.declared.points.Point.{Point}
@@ -36,11 +39,6 @@ fullFile t = lines (sorted (recordsOf t))
 -- "adjacency read from the degree 6 star": p is one of the six adjacent points of q, and q has degree 6
 abbrev pub sixNames : Point → Record → Bool
 sixNames p q = eqb (q .d) 6 && among 6 (λ j. samePoint (adjacentAt q j) p)
-
--- the test passes at some record of a list
-abbrev pub someOf : (Record → Bool) → List Record → Bool
-someOf f [] = false
-someOf f (r ∷ rs) = f r || someOf f rs
 
 -- "each degree 3 record that is adjacent to a degree 6 record of the table"
 unfoldable pub redundant : List ℕ → Record → Bool
@@ -73,7 +71,7 @@ putOf file out = cond (ltb (length out) (length file)) (outcome 13 0 out) (outco
 -- "Writers 1, 13", "0 if refused", "Refused .. writers change no lent byte."
 unfoldable pub writeOf : List ℕ → List ℕ → List ℕ → Outcome
 unfolding putOf
-writeOf file t out = cond (inOrderOf t) (putOf file out) (outcome 1 0 out)
+writeOf file t out = unless (inOrderOf t) (outcome 1 0 out) (putOf file out)
 
 abbrev pub writeFullOf : List ℕ → List ℕ → Outcome
 writeFullOf t out = writeOf (fullFile t) t out

@@ -1,5 +1,6 @@
 -- Heaps: the first k values of a function, each at most the one above it. Value c stands below value (c - 1) / 2, and value 0 is the greatest.
--- `Heap f lo k` a heap from value lo on · `heap-top` · `Sunk f lo k i` a heap but for value i, which may be less than those below it: `sunk-start`, `sunk-step` (it changes
+-- `Heap f lo k` a heap from value lo on · `heap-top` · `Sunk f lo k i` a heap but for value i, which may be less than those below it:
+-- `sunk-start`, `sunk-step` (it changes
 -- places with the greater one below), `sunk-stop`.
 -- Assumes nothing.
 use mathlib.Core.Path.{_≡_, sym, ap, _∙_, subst}
@@ -56,7 +57,8 @@ sunk-stop f lo k i s h c p l a = go (ℕ-discrete (above c) i)
     go (no e) = s .rest c p l a e
 
 module _ (f g : ℕ → ℕ) (lo k i j : ℕ) (s : Sunk f lo k i) (from : lo ≤ i) (some : 0 < j) (in-k : j < k) (child : above j ≡ i)
-    (less : f i ≤ f j) (most : (c : ℕ) → 0 < c → c < k → above c ≡ i → f c ≤ f j) (at-i : g i ≡ f j) (at-j : g j ≡ f i) (else : (c : ℕ) → c < k → (c ≡ i → ⊥) → (c ≡ j → ⊥) → g c ≡ f c) where
+    (less : f i ≤ f j) (most : (c : ℕ) → 0 < c → c < k → above c ≡ i → f c ≤ f j) (at-i : g i ≡ f j) (at-j : g j ≡ f i)
+    (else : (c : ℕ) → c < k → (c ≡ i → ⊥) → (c ≡ j → ⊥) → g c ≡ f c) where
   apart : i < j
   apart = omega arith
 

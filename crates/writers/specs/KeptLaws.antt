@@ -1,6 +1,8 @@
 -- The records that are kept, their keys, and what sorting the keys does to the records.
--- `standing-more`, `keys-none`, `keys-more` slot by slot · `keys-length`, `keys-grow` · `keys-sorted` the records of the sorted keys are the records in file order ·
--- `keys-inside` a key's slot is in the table · `lines-sorted` as many bytes in any order · `Filled` the keys in the output: `filled-none`, `filled-more` · `kept-part`, `kept-valid`,
+-- `standing-more`, `keys-none`, `keys-more` slot by slot · `keys-length`, `keys-grow` · `keys-sorted` the records of the sorted keys are the
+-- records in file order ·
+-- `keys-inside` a key's slot is in the table · `lines-sorted` as many bytes in any order · `Filled` the keys in the output: `filled-none`,
+-- `filled-more` · `kept-part`, `kept-valid`,
 -- `kept-close` what is kept stands in the table and is valid.
 -- Assumes nothing.
 use mathlib.Core.Path.{_≡_, refl, sym, ap, _∙_, subst}
@@ -100,7 +102,8 @@ keys-come f (suc n) v m = go (f n) refl (List·Memᴰ·append-cases (keysBelow f
     go : (s : Slot) → f n ≡ s → List·Memᴰ v (keysBelow f n) ⊎ List·Memᴰ v (keyed n (f n)) → (List·Memᴰ v (keysBelow f n) → Comes f n v) → Comes f (suc n) v
     go s e (inl k) ih = let x = ih k in record { slot = x .slot; rec = x .rec; below = omega (arith, x .below); holds = x .holds; is = x .is }
     go Free e (inr k) ih = absurd (List·Memᴰ·not-nil (subst (λ (s : Slot). List·Memᴰ v (keyed n s)) e k))
-    go (Holds r) e (inr k) ih = record { slot = n; rec = r; below = omega arith; holds = e; is = List·Memᴰ·eq-of-singleton (subst (λ (s : Slot). List·Memᴰ v (keyed n s)) e k) }
+    go (Holds r) e (inr k) ih =
+        record { slot = n; rec = r; below = omega arith; holds = e; is = List·Memᴰ·eq-of-singleton (subst (λ (s : Slot). List·Memᴰ v (keyed n s)) e k) }
 
 key-slot : (r : Record) (i : ℕ) → i < places → keyOf r i % places ≡ i
 unfolding keyOf
@@ -138,13 +141,16 @@ module _ (t : List ℕ) (o : InOrder t) (f : ℕ → Slot) (part : (i : ℕ) (r 
       one Free e = refl
       one (Holds r) e = λ i. (ap (λ (x : ℕ). recordIn (slotAt t x)) (key-slot r k (few k (omega arith))) ∙ ap recordIn (part k r e)) i ∷ []
 
-  key-order : (r s : Record) (i j : ℕ) → i < places → j < places → (orderOf (r .at) ≡ orderOf (s .at) → i ≡ j) → ltb (keyOf r i) (keyOf s j) ≡ ltb (orderOf (r .at)) (orderOf (s .at))
+  key-order : (r s : Record) (i j : ℕ) → i < places → j < places → (orderOf (r .at) ≡ orderOf (s .at) → i ≡ j) → ltb (keyOf r i) (keyOf s j)
+      ≡ ltb (orderOf (r .at)) (orderOf (s .at))
   unfolding keyOf
   key-order r s i j hi hj one = go (decLt (orderOf (r .at)) (orderOf (s .at))) (decLt (orderOf (s .at)) (orderOf (r .at)))
     where
-      go : Dec (orderOf (r .at) < orderOf (s .at)) → Dec (orderOf (s .at) < orderOf (r .at)) → ltb (orderOf (r .at) * places + i) (orderOf (s .at) * places + j) ≡ ltb (orderOf (r .at)) (orderOf (s .at))
+      go : Dec (orderOf (r .at) < orderOf (s .at)) → Dec (orderOf (s .at) < orderOf (r .at))
+          → ltb (orderOf (r .at) * places + i) (orderOf (s .at) * places + j) ≡ ltb (orderOf (r .at)) (orderOf (s .at))
       go (yes l) m = lt-ltb (orderOf (r .at) * places + i) (orderOf (s .at) * places + j) (omega arith) ∙ sym (lt-ltb (orderOf (r .at)) (orderOf (s .at)) l)
-      go (no l) (yes m) = le-ltb (orderOf (r .at) * places + i) (orderOf (s .at) * places + j) (omega arith) ∙ sym (le-ltb (orderOf (r .at)) (orderOf (s .at)) (omega arith))
+      go (no l) (yes m) = le-ltb (orderOf (r .at) * places + i) (orderOf (s .at) * places + j) (omega arith)
+          ∙ sym (le-ltb (orderOf (r .at)) (orderOf (s .at)) (omega arith))
       go (no l) (no m) =
           let e : orderOf (r .at) ≡ orderOf (s .at) = omega arith in
           let q = one e in
@@ -175,7 +181,8 @@ unfolding insertBy lines
 lines-insert lt r [] = length-append (lineOf r) []
 lines-insert lt r (s ∷ rs) = go (lt r s) (lines-insert lt r rs)
   where
-    go : (b : Bool) → length (lines (insertBy lt r rs)) ≡ length (lineOf r) + length (lines rs) → length (lines (cond b (r ∷ s ∷ rs) (s ∷ insertBy lt r rs))) ≡ length (lineOf r) + length (lineOf s ++ lines rs)
+    go : (b : Bool) → length (lines (insertBy lt r rs)) ≡ length (lineOf r) + length (lines rs)
+        → length (lines (cond b (r ∷ s ∷ rs) (s ∷ insertBy lt r rs))) ≡ length (lineOf r) + length (lineOf s ++ lines rs)
     go true e = length-append (lineOf r) (lineOf s ++ lines rs)
     go false e =
         let a = length-append (lineOf s) (lines (insertBy lt r rs)) in
@@ -220,7 +227,8 @@ filled-put o ks o₁ o₂ k v f p = record {
     go j l (yes e) = ap (keyIn o₂) (e ∙ sym (f .count)) ∙ p .here ∙ sym (getD-append-seam ks v [] 0) ∙ ap (nth (ks ++ v ∷ [])) (sym e)
     go j l (no e) = let c = f .count in p .others j (λ q. e (q ∙ c)) ∙ f .keys j (omega arith) ∙ sym (nth-left ks (v ∷ []) j (omega arith))
 
-pub filled-more : (f : ℕ → Slot) (i : ℕ) (o o₁ o₂ : List ℕ) (k k₂ : ℕ) → Filled o (keysBelow f i) o₁ k → Added o₁ k (keyed i (f i)) o₂ k₂ → Filled o (keysBelow f (i + 1)) o₂ k₂
+pub filled-more : (f : ℕ → Slot) (i : ℕ) (o o₁ o₂ : List ℕ) (k k₂ : ℕ) → Filled o (keysBelow f i) o₁ k → Added o₁ k (keyed i (f i)) o₂ k₂
+    → Filled o (keysBelow f (i + 1)) o₂ k₂
 filled-more f i o o₁ o₂ k k₂ w a = subst (λ (ks : List ℕ). Filled o ks o₂ k₂) (sym (keys-more f i)) (go (f i) a)
   where
     go : (s : Slot) → Added o₁ k (keyed i s) o₂ k₂ → Filled o (keysBelow f i ++ keyed i s) o₂ k₂
@@ -273,14 +281,16 @@ written-none s e = ap (λ (x : Slot). length (lines (listed x))) (sym e)
 
 pub written-one : (s : Slot) (r : Record) → s ≡ Holds r → length (lineOf r) ≡ length (lines (listed s))
 unfolding lines
-written-one s r e = let a = length-append (lineOf r) [] in let b : length (lineOf r) ≡ length (lineOf r ++ []) = omega arith in b ∙ ap (λ (x : Slot). length (lines (listed x))) (sym e)
+written-one s r e = let a = length-append (lineOf r) [] in let b : length (lineOf r) ≡ length (lineOf r ++ []) = omega arith in b
+    ∙ ap (λ (x : Slot). length (lines (listed x))) (sym e)
 
 pub standing-start : (f : ℕ → Slot) → 0 ≡ length (lines (standing f 0))
 unfolding standing lines
 standing-start f = refl
 
 pub standing-length : (f : ℕ → Slot) (i : ℕ) → length (lines (standing f (i + 1))) ≡ length (lines (standing f i)) + length (lines (listed (f i)))
-standing-length f i = ap (λ (x : List Record). length (lines x)) (standing-more f i) ∙ ap length (lines-join (standing f i) (listed (f i))) ∙ length-append (lines (standing f i)) (lines (listed (f i)))
+standing-length f i = ap (λ (x : List Record). length (lines x)) (standing-more f i) ∙ ap length (lines-join (standing f i) (listed (f i)))
+    ∙ length-append (lines (standing f i)) (lines (listed (f i)))
 
 pub keys-room : (f : ℕ → Slot) (i n : ℕ) → i < n → length (keysBelow f i) + length (keyed i (f i)) ≤ length (keysBelow f n)
 keys-room f i n h =

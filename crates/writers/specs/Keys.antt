@@ -1,6 +1,8 @@
 -- The keys that stand in the output before its lines do: eight bytes each, one a record, sorted in place.
--- `keyIn` key i of some bytes · `Put` a key stored, `put-key`, `key-before` · `Swapped` two keys exchanged, `swap-keys`, `swap-tally` · `Greatest` the greater of those below a
--- place · `Sinking` a key on its way down: `sinking-start`, `sinking-step`, `sinking-none`, `sinking-rest` · `Sifted` what that keeps, `sifted-start`, `sifted-then` · `Popped` the
+-- `keyIn` key i of some bytes · `Put` a key stored, `put-key`, `key-before` · `Swapped` two keys exchanged, `swap-keys`, `swap-tally` · `Greatest`
+-- the greater of those below a
+-- place · `Sinking` a key on its way down: `sinking-start`, `sinking-step`, `sinking-none`, `sinking-rest` · `Sifted` what that keeps,
+-- `sifted-start`, `sifted-then` · `Popped` the
 -- greatest key taken off: `pop-heap`, `pop-popped`.
 -- Assumes nothing.
 use mathlib.Core.Path.{_≡_, refl, sym, ap, _∙_}
@@ -113,7 +115,8 @@ module _ (o : List ℕ) (i v : ℕ) (room : keyWidth * i + keyWidth ≤ length o
   unfolding keyIn
   stored-here =
       let l₁ : length o₁ ≡ length o = length-sets o (keyWidth * i) lo in
-      let a : wordAt o₂ (keyWidth * i) ≡ v % words = word-before hi o₁ (keyWidth * i + 4) (keyWidth * i) (omega arith) ∙ word-put o (keyWidth * i) (v % words) (omega arith) (omega arith) in
+      let a : wordAt o₂ (keyWidth * i) ≡ v % words = word-before hi o₁ (keyWidth * i + 4) (keyWidth * i) (omega arith)
+      ∙ word-put o (keyWidth * i) (v % words) (omega arith) (omega arith) in
       let b : wordAt o₂ (keyWidth * i + 4) ≡ v / words = word-put o₁ (keyWidth * i + 4) (v / words) (omega arith) (omega arith) in
       rw (a, b) (mod-add-div v words)
 
@@ -123,12 +126,16 @@ module _ (o : List ℕ) (i v : ℕ) (room : keyWidth * i + keyWidth ≤ length o
     where
       go : Dec (j < i) → wordAt o₂ (keyWidth * j) + words * wordAt o₂ (keyWidth * j + 4) ≡ wordAt o (keyWidth * j) + words * wordAt o (keyWidth * j + 4)
       go (yes l) =
-          let a : wordAt o₂ (keyWidth * j) ≡ wordAt o (keyWidth * j) = word-before hi o₁ (keyWidth * i + 4) (keyWidth * j) (omega arith) ∙ word-before lo o (keyWidth * i) (keyWidth * j) (omega arith) in
-          let b : wordAt o₂ (keyWidth * j + 4) ≡ wordAt o (keyWidth * j + 4) = word-before hi o₁ (keyWidth * i + 4) (keyWidth * j + 4) (omega arith) ∙ word-before lo o (keyWidth * i) (keyWidth * j + 4) (omega arith) in
+          let a : wordAt o₂ (keyWidth * j) ≡ wordAt o (keyWidth * j) = word-before hi o₁ (keyWidth * i + 4) (keyWidth * j) (omega arith)
+          ∙ word-before lo o (keyWidth * i) (keyWidth * j) (omega arith) in
+          let b : wordAt o₂ (keyWidth * j + 4) ≡ wordAt o (keyWidth * j + 4) = word-before hi o₁ (keyWidth * i + 4) (keyWidth * j + 4) (omega arith)
+          ∙ word-before lo o (keyWidth * i) (keyWidth * j + 4) (omega arith) in
           rw (a, b)
       go (no l) =
-          let a : wordAt o₂ (keyWidth * j) ≡ wordAt o (keyWidth * j) = word-after hi o₁ (keyWidth * i + 4) (keyWidth * j) (omega arith) ∙ word-after lo o (keyWidth * i) (keyWidth * j) (omega arith) in
-          let b : wordAt o₂ (keyWidth * j + 4) ≡ wordAt o (keyWidth * j + 4) = word-after hi o₁ (keyWidth * i + 4) (keyWidth * j + 4) (omega arith) ∙ word-after lo o (keyWidth * i) (keyWidth * j + 4) (omega arith) in
+          let a : wordAt o₂ (keyWidth * j) ≡ wordAt o (keyWidth * j) = word-after hi o₁ (keyWidth * i + 4) (keyWidth * j) (omega arith)
+          ∙ word-after lo o (keyWidth * i) (keyWidth * j) (omega arith) in
+          let b : wordAt o₂ (keyWidth * j + 4) ≡ wordAt o (keyWidth * j + 4) = word-after hi o₁ (keyWidth * i + 4) (keyWidth * j + 4) (omega arith)
+          ∙ word-after lo o (keyWidth * i) (keyWidth * j + 4) (omega arith) in
           rw (a, b)
 
   pub put-key : Put o i v (sets (sets o (keyWidth * i) (wordBytes (v % words))) (keyWidth * i + 4) (wordBytes (v / words)))
@@ -232,7 +239,8 @@ pub record Sinking (o : List ℕ) (lo k : ℕ) (o′ : List ℕ) (i : ℕ) : Typ
 pub sinking-start : (o : List ℕ) (lo k : ℕ) → Heap (keyIn o) (lo + 1) k → Sinking o lo k o lo
 sinking-start o lo k h = record { from = omega arith; sunk = sunk-start (keyIn o) lo k h; same = λ v. refl; long = refl; past = refl }
 
-pub sinking-step : (o o₁ o₂ : List ℕ) (lo k i j : ℕ) → Sinking o lo k o₁ i → Greatest (keyIn o₁) i k j → j < k → keyIn o₁ i ≤ keyIn o₁ j → Swapped o₁ i j o₂ → Sinking o lo k o₂ j
+pub sinking-step : (o o₁ o₂ : List ℕ) (lo k i j : ℕ) → Sinking o lo k o₁ i → Greatest (keyIn o₁) i k j → j < k → keyIn o₁ i ≤ keyIn o₁ j
+    → Swapped o₁ i j o₂ → Sinking o lo k o₂ j
 sinking-step o o₁ o₂ lo k i j s g l less w =
     let p = greatest-past g l in
     let f = s .from in
@@ -240,7 +248,8 @@ sinking-step o o₁ o₂ lo k i j s g l less w =
     let li : i < k = omega arith in
     record {
       from = omega arith;
-      sunk = sunk-step (keyIn o₁) (keyIn o₂) lo k i j (s .sunk) (s .from) (g .below l .0) l (g .below l .1) less (g .greatest l) (w .first) (w .second) (λ c b m n. w .others c m n);
+      sunk = sunk-step (keyIn o₁) (keyIn o₂) lo k i j (s .sunk) (s .from) (g .below l .0) l (g .below l .1) less (g .greatest l) (w .first)
+          (w .second) (λ c b m n. w .others c m n);
       same = λ v. swap-tally o₁ o₂ i j k v li l ne w ∙ s .same v;
       long = w .long ∙ s .long;
       past = w .past (keyWidth * k) (omega arith) (omega arith) ∙ s .past;
@@ -308,4 +317,5 @@ module _ (o o₁ : List ℕ) (k : ℕ) (h : Heap (keyIn o) 0 (k + 1)) (p : Put o
       past-both : drop (keyWidth * (k + 1)) o₂ ≡ drop (keyWidth * (k + 1)) o₁
       past-both =
           let e : keyWidth * (k + 1) ≡ keyWidth * k + keyWidth = omega arith in
-          ap (λ (n : ℕ). drop n o₂) e ∙ sym (drop-drop keyWidth (keyWidth * k) o₂) ∙ ap (drop keyWidth) (s .past) ∙ drop-drop keyWidth (keyWidth * k) o₁ ∙ ap (λ (n : ℕ). drop n o₁) (sym e)
+          ap (λ (n : ℕ). drop n o₂) e ∙ sym (drop-drop keyWidth (keyWidth * k) o₂) ∙ ap (drop keyWidth) (s .past)
+          ∙ drop-drop keyWidth (keyWidth * k) o₁ ∙ ap (λ (n : ℕ). drop n o₁) (sym e)

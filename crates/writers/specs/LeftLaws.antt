@@ -1,5 +1,6 @@
 -- Lines written from the last back, while the keys of those still to come stand as a heap at the output's beginning.
--- `fileOf` the file of what is kept · `Ready` the keys stand there, no line does · `Left` k keys are left, the lines of the others stand from `at` on: `left-start`, `left-top` the
+-- `fileOf` the file of what is kept · `Ready` the keys stand there, no line does · `Left` k keys are left, the lines of the others stand from `at`
+-- on: `left-start`, `left-top` the
 -- next key is the greatest left, `left-step`, `left-end`.
 -- Assumes nothing.
 use mathlib.Core.Path.{_≡_, sym, ap, _∙_, subst}
@@ -71,7 +72,8 @@ module _ (t : List ℕ) (in-order : InOrder t) (m : List ℕ) where
 
   -- the slot of a key of the list is in the table
   pub ordered-inside : (k : ℕ) → k < length (ordered t m) → slotWidth * (nth (ordered t m) k % places) + slotWidth ≤ length t
-  ordered-inside k l = keys-inside t in-order (keptAt t m) (kept-part t m) (nth (ordered t m) k) (mem-sort ltb (keysOf t m) (nth (ordered t m) k) (at-mem 0 (ordered t m) k l))
+  ordered-inside k l =
+      keys-inside t in-order (keptAt t m) (kept-part t m) (nth (ordered t m) k) (mem-sort ltb (keysOf t m) (nth (ordered t m) k) (at-mem 0 (ordered t m) k l))
 
   pub left-start : (o : List ℕ) (k total : ℕ) → Ready t m o k total → Left t (ordered t m) (drop total o) o k total
   unfolding lines
@@ -84,12 +86,14 @@ module _ (t : List ℕ) (in-order : InOrder t) (m : List ℕ) where
         place = r .long ∙ ap length (sym ordered-file) ∙ ap (λ (l : List ℕ). length (linesOf t l)) (sym a);
         done = ap (λ (l : List ℕ). linesOf t l ++ drop total o) (sym b);
         room = r .room;
-        same = λ v. r .same v ∙ ap (λ (n : ℕ). tally (nth (keysOf t m)) n v) (r .count) ∙ sym (tally-sort ltb (keysOf t m) v) ∙ ap (λ (n : ℕ). tally (nth (ordered t m)) n v) (sym (r .count));
+        same = λ v. r .same v ∙ ap (λ (n : ℕ). tally (nth (keysOf t m)) n v) (r .count) ∙ sym (tally-sort ltb (keysOf t m) v)
+            ∙ ap (λ (n : ℕ). tally (nth (ordered t m)) n v) (sym (r .count));
         heap = r .heap;
       }
 
 drop-stored : (o : List ℕ) (at : ℕ) (xs : List ℕ) → at + length xs ≤ length o → drop at (sets o at xs) ≡ xs ++ drop (at + length xs) o
-drop-stored o at xs h = ap (drop at) (sets-eq xs o at h ∙ append-assoc (take at o) xs (drop (at + length xs) o)) ∙ drop-at (take at o) (xs ++ drop (at + length xs) o) at (length-take-le at o (omega arith))
+drop-stored o at xs h = ap (drop at) (sets-eq xs o at h ∙ append-assoc (take at o) xs (drop (at + length xs) o))
+    ∙ drop-at (take at o) (xs ++ drop (at + length xs) o) at (length-take-le at o (omega arith))
 
 module _ (t K rest o : List ℕ) (k at : ℕ) (rises : Rising (λ x y. x ≤ y) K) (l : Left t K rest o (k + 1) at) where
   -- the key on top is the last of those left
@@ -107,7 +111,8 @@ module _ (t K rest o : List ℕ) (k at : ℕ) (rises : Rising (λ x y. x ≤ y) 
   unfolding lines
   split =
       let e : k + 1 ≡ suc k = omega arith in
-      ap (λ (n : ℕ). linesOf t (take n K)) e ∙ ap (linesOf t) (take-suc K k 0 (omega (arith, l .count))) ∙ ap lines (map-append (recordOf t) (take k K) (nth K k ∷ [])) ∙ lines-join (map (recordOf t) (take k K)) (top ∷ [])
+      ap (λ (n : ℕ). linesOf t (take n K)) e ∙ ap (linesOf t) (take-suc K k 0 (omega (arith, l .count)))
+      ∙ ap lines (map-append (recordOf t) (take k K) (nth K k ∷ [])) ∙ lines-join (map (recordOf t) (take k K)) (top ∷ [])
 
   -- its line ends at `at`
   pub left-place : at ≡ length (linesOf t (take k K)) + length (lineOf top)
@@ -137,7 +142,8 @@ module _ (t K rest o : List ℕ) (k at : ℕ) (rises : Rising (λ x y. x ≤ y) 
       let c = l .count in
       let s = left-place in
       let f = keys-end k (omega arith) in
-      let kept : (i : ℕ) → i < k → keyIn o₂ i ≡ keyIn o₁ i = λ i h. ap (λ (x : List ℕ). keyIn x i) (w .bytes) ∙ key-before (lineOf top) o₁ at′ i (omega arith) in
+      let kept : (i : ℕ) → i < k → keyIn o₂ i ≡ keyIn o₁ i = λ i h. ap (λ (x : List ℕ). keyIn x i) (w .bytes)
+      ∙ key-before (lineOf top) o₁ at′ i (omega arith) in
       let long₁ = p .long in
       let room₁ = l .room in
       record {
@@ -207,13 +213,15 @@ keys-all t m n e = subst (λ (x : ℕ). shortest * length (keysBelow (keptAt t m
 module _ (t m o : List ℕ) (total : ℕ) (long : total ≡ length (fileOf t m)) where
   pub put-short : length o < total → outcome 13 0 o ≡ putOf (fileOf t m) o
   unfolding putOf
-  put-short h = ap (λ (b : Bool). cond b (outcome 13 0 o) (outcome 0 (length (fileOf t m)) (fileOf t m ++ drop (length (fileOf t m)) o))) (sym (lt-ltb (length o) (length (fileOf t m)) (omega arith)))
+  put-short h = ap (λ (b : Bool). cond b (outcome 13 0 o) (outcome 0 (length (fileOf t m)) (fileOf t m ++ drop (length (fileOf t m)) o)))
+      (sym (lt-ltb (length o) (length (fileOf t m)) (omega arith)))
 
   pub put-done : (o′ : List ℕ) → total ≤ length o → o′ ≡ fileOf t m ++ drop total o → outcome 0 total o′ ≡ putOf (fileOf t m) o
   unfolding putOf
   put-done o′ h e =
       (λ i. outcome 0 (long i) (e i)) ∙ ap (λ (n : ℕ). outcome 0 (length (fileOf t m)) (fileOf t m ++ drop n o)) long
-      ∙ ap (λ (b : Bool). cond b (outcome 13 0 o) (outcome 0 (length (fileOf t m)) (fileOf t m ++ drop (length (fileOf t m)) o))) (sym (le-ltb (length o) (length (fileOf t m)) (omega arith)))
+      ∙ ap (λ (b : Bool). cond b (outcome 13 0 o) (outcome 0 (length (fileOf t m)) (fileOf t m ++ drop (length (fileOf t m)) o)))
+      (sym (le-ltb (length o) (length (fileOf t m)) (omega arith)))
 
   module _ (o₁ o₂ : List ℕ) (k : ℕ) (room : total ≤ length o) (f : Filled o (keysOf t m) o₁ k) (s : Sifted o₁ 0 k o₂) where
     pub ready : Ready t m o₂ k total
@@ -231,4 +239,5 @@ module _ (t m o : List ℕ) (total : ℕ) (long : total ≡ length (fileOf t m))
         let c = f .count in
         let d = keyWidth * k in
         let x : total ≡ d + (total - d) = omega arith in
-        ap (λ (n : ℕ). drop n o₂) x ∙ sym (drop-drop (total - d) d o₂) ∙ ap (drop (total - d)) (s .past) ∙ drop-drop (total - d) d o₁ ∙ ap (λ (n : ℕ). drop n o₁) (sym x) ∙ f .past total (omega arith)
+        ap (λ (n : ℕ). drop n o₂) x ∙ sym (drop-drop (total - d) d o₂) ∙ ap (drop (total - d)) (s .past) ∙ drop-drop (total - d) d o₁
+        ∙ ap (λ (n : ℕ). drop n o₁) (sym x) ∙ f .past total (omega arith)

@@ -10,7 +10,8 @@ use borrow.Author.Tests.{lt-ltb, le-ltb, eq-eqb, ne-eqb}
 use lib.Dec.{eqb, ltb, T}
 use lib.IntN.{ℤ, pos, natAbs, _+ℤ_}
 use lib.Signed.{ltZ}
-use Rattle.laws.specs.Each.{true-fact, fact-true, not-both}
+use Rattle.laws.specs.Choices.{of-true, is-true}
+use Rattle.laws.specs.Each.{not-both}
 use Rattle.laws.specs.Parts.{up, dn, apart, abs-is, add-is, eqℤ, lt-true, lt-false}
 use Rattle.laws.specs.Rules.{eqZ, eqZ→eq, eqZ-refl}
 use Rattle.lattice.specs.Points.{pt}
@@ -70,10 +71,10 @@ module _ (x y : ℤ) (hx : natAbs x ≤ widest) (hy : natAbs y ≤ widest) where
   lift-eq = go (eqZ x y) refl
     where
       other : eqZ x y ≡ false → lifted x ≡ lifted y → ⊥
-      other e q = not-both (fact-true (eqZ x y) (subst (λ (z : ℤ). T (eqZ x z)) (lift-one q) (eqZ-refl x))) e
+      other e q = not-both (is-true (eqZ x y) (subst (λ (z : ℤ). T (eqZ x z)) (lift-one q) (eqZ-refl x))) e
 
       go : (b : Bool) → eqZ x y ≡ b → eqZ x y ≡ eqb (lifted x) (lifted y)
-      go true e = e ∙ sym (eq-eqb (lifted x) (lifted y) (ap (λ (z : ℤ). lifted z) (eqZ→eq x y (true-fact (eqZ x y) e))))
+      go true e = e ∙ sym (eq-eqb (lifted x) (lifted y) (ap (λ (z : ℤ). lifted z) (eqZ→eq x y (of-true e))))
       go false e = e ∙ sym (ne-eqb (lifted x) (lifted y) (other e))
 
 -- numbers compared digit by digit
@@ -81,8 +82,10 @@ lex : (m a b m′ a′ b′ : ℕ) → a < span → b < span → a′ < span →
     → ltb m m′ || (eqb m m′ && (ltb a a′ || (eqb a a′ && ltb b b′))) ≡ ltb ((m * span + a) * span + b) ((m′ * span + a′) * span + b′)
 lex m a b m′ a′ b′ ha hb ha′ hb′ = go (decLt m m′) (decLt m′ m) (decLt a a′) (decLt a′ a) (decLt b b′)
   where
-    go : Dec (m < m′) → Dec (m′ < m) → Dec (a < a′) → Dec (a′ < a) → Dec (b < b′) → ltb m m′ || (eqb m m′ && (ltb a a′ || (eqb a a′ && ltb b b′))) ≡ ltb ((m * span + a) * span + b) ((m′ * span + a′) * span + b′)
-    go (yes p) q r s t = ap (λ (z : Bool). z || (eqb m m′ && (ltb a a′ || (eqb a a′ && ltb b b′)))) (lt-ltb m m′ p) ∙ sym (lt-ltb ((m * span + a) * span + b) ((m′ * span + a′) * span + b′) (omega arith))
+    go : Dec (m < m′) → Dec (m′ < m) → Dec (a < a′) → Dec (a′ < a) → Dec (b < b′) → ltb m m′ || (eqb m m′ && (ltb a a′ || (eqb a a′ && ltb b b′)))
+        ≡ ltb ((m * span + a) * span + b) ((m′ * span + a′) * span + b′)
+    go (yes p) q r s t = ap (λ (z : Bool). z || (eqb m m′ && (ltb a a′ || (eqb a a′ && ltb b b′)))) (lt-ltb m m′ p)
+        ∙ sym (lt-ltb ((m * span + a) * span + b) ((m′ * span + a′) * span + b′) (omega arith))
     go (no p) (yes q) r s t =
         let e₁ = le-ltb m m′ (omega arith) in
         let e₂ = ne-eqb m m′ (omega arith) in
@@ -121,7 +124,8 @@ module _ (p q : Point) (c : Close p) (d : Close q) where
       let e₂ = lift-eq (p .a) (q .a) (c .a) (d .a) in
       let e₃ = lift-lt (p .b) (q .b) (c .b) (d .b) in
       (λ i. ltb (p .m .0) (q .m .0) || (eqb (p .m .0) (q .m .0) && (e₁ i || (e₂ i && e₃ i))))
-      ∙ lex (p .m .0) (lifted (p .a)) (lifted (p .b)) (q .m .0) (lifted (q .a)) (lifted (q .b)) (lift-below (p .a) (c .a)) (lift-below (p .b) (c .b)) (lift-below (q .a) (d .a)) (lift-below (q .b) (d .b))
+      ∙ lex (p .m .0) (lifted (p .a)) (lifted (p .b)) (q .m .0) (lifted (q .a)) (lifted (q .b)) (lift-below (p .a) (c .a)) (lift-below (p .b) (c .b))
+      (lift-below (q .a) (d .a)) (lift-below (q .b) (d .b))
 
   pub order-one : orderOf p ≡ orderOf q → p ≡ q
   unfolding orderOf

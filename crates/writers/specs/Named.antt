@@ -8,9 +8,8 @@ use Prim.Native.Nat.{ℕ, _<_}
 use native.Mathlib.Omega.{arith}
 use borrow.Author.Tests.{eq-eqb, ne-eqb}
 use lib.Dec.{eqb}
-use Rattle.laws.specs.Each.{true-fact}
+use Rattle.laws.specs.Choices.{of-true}
 use Rattle.laws.specs.Rules.{among}
-use Rattle.lattice.specs.Records.{validOf}
 use Rattle.lattice.specs.RecordLaws.{Inner, inner}
 use Rattle.lattice.specs.Stars.{adjacentAt}
 use Rattle.lattice.specs.declared.records.Record.{Record}
@@ -35,7 +34,7 @@ tableFinds t n i = among n (λ k. slotFinds t (slotAt t k) i)
 
 module _ (t : List ℕ) (i : ℕ) (v : Record) (held : slotAt t i ≡ Holds v) where
   pub six-inner : InOrder t → i < slotsOf t → v .d ≡ 6 → Inner v
-  six-inner o l e = inner v (true-fact (validOf v) (o .valid i v l held)) (λ z. let q : _≡_ {A = ℕ} 6 0 = sym e ∙ z in omega arith)
+  six-inner o l e = inner v (of-true (o .valid i v l held)) (λ z. let q : _≡_ {A = ℕ} 6 0 = sym e ∙ z in omega arith)
 
   pub six-finds : v .d ≡ 6 → (j : ℕ) → starFinds t v 6 j ≡ slotFinds t (slotAt t i) j
   six-finds e j = sym (ap (λ (b : Bool). b && starFinds t v 6 j) (eq-eqb (v .d) 6 e)) ∙ ap (λ (s : Slot). slotFinds t s j) (sym held)

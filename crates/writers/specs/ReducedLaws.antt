@@ -2,7 +2,7 @@
 -- `found-same` · `finds-redundant` a record's slot is named exactly where the record is named · `marked-file` with these marked the file is the reduced one.
 -- Assumes nothing.
 use mathlib.Core.Path.{_≡_, refl, sym, ap, _∙_}
-use mathlib.Core.Bool.{Bool, true, false, cond, _&&_, _||_}
+use mathlib.Core.Bool.{Bool, true, false, cond, _&&_, _||_, or-comm}
 use mathlib.Core.List.{List, [], _∷_, _++_}
 use Prim.Native.Nat.{ℕ, zero, suc, _≤_, _<_}
 use native.Mathlib.Omega.{arith}
@@ -11,6 +11,7 @@ use lib.Dec.{eqb}
 use lib.ListN.{replicate}
 use Rattle.laws.specs.Each.{same-test, not-both}
 use Rattle.laws.specs.Rules.{among}
+use Rattle.laws.specs.Some.{someOf, some-append}
 use Rattle.lattice.specs.Stars.{adjacentAt}
 use Rattle.lattice.specs.declared.points.Point.{Point}
 use Rattle.lattice.specs.declared.records.Record.{Record}
@@ -25,7 +26,7 @@ use Rattle.table.specs.declared.probe.Found.{Found}
 use Rattle.table.specs.declared.probe.Found.the-variants as found
 use Rattle.text.specs.Line.{lines}
 use Rattle.marks.specs.Marks.{markedAt, Marks, marked-none}
-use Rattle.writers.specs.Files.{sorted, sixNames, someOf, redundant, leaveOut, reducedFile}
+use Rattle.writers.specs.Files.{sorted, sixNames, redundant, leaveOut, reducedFile}
 use Rattle.writers.specs.Kept.{markBytes, keptOf, keptAt, standing}
 use Rattle.writers.specs.Named.{slotFinds, tableFinds}
 use Rattle.writers.specs.LeftLaws.{fileOf}
@@ -42,25 +43,16 @@ among-same : (n : ℕ) (P Q : ℕ → Bool) → ((j : ℕ) → P j ≡ Q j) → 
 among-same zero P Q h = refl
 among-same (suc n) P Q h = λ i. h n i || among-same n P Q h i
 
-some-append : (f : Record → Bool) (rs qs : List Record) → someOf f (rs ++ qs) ≡ someOf f qs || someOf f rs
-some-append f [] qs = or-none (someOf f qs)
-  where
-    or-none : (b : Bool) → b ≡ b || false
-    or-none true = refl
-    or-none false = refl
-some-append f (r ∷ rs) qs = ap (λ (b : Bool). f r || b) (some-append f rs qs) ∙ swap (f r) (someOf f qs) (someOf f rs)
-  where
-    swap : (a b c : Bool) → a || (b || c) ≡ b || (a || c)
-    swap true true c = refl
-    swap true false c = refl
-    swap false b c = refl
+some-later : (f : Record → Bool) (rs qs : List Record) → someOf f (rs ++ qs) ≡ someOf f qs || someOf f rs
+some-later f rs qs = some-append f rs qs ∙ or-comm (someOf f rs) (someOf f qs)
 
 leave-append : (f : Record → Bool) (rs qs : List Record) → leaveOut f (rs ++ qs) ≡ leaveOut f rs ++ leaveOut f qs
 unfolding leaveOut
 leave-append f [] qs = refl
 leave-append f (r ∷ rs) qs = go (f r) (leave-append f rs qs)
   where
-    go : (b : Bool) → leaveOut f (rs ++ qs) ≡ leaveOut f rs ++ leaveOut f qs → cond b (leaveOut f (rs ++ qs)) (r ∷ leaveOut f (rs ++ qs)) ≡ cond b (leaveOut f rs) (r ∷ leaveOut f rs) ++ leaveOut f qs
+    go : (b : Bool) → leaveOut f (rs ++ qs) ≡ leaveOut f rs ++ leaveOut f qs → cond b (leaveOut f (rs ++ qs)) (r ∷ leaveOut f (rs ++ qs))
+        ≡ cond b (leaveOut f rs) (r ∷ leaveOut f rs) ++ leaveOut f qs
     go true e = e
     go false e = ap (λ (l : List Record). r ∷ l) e
 
@@ -87,7 +79,9 @@ module _ (t : List ℕ) (o : InOrder t) (k : ℕ) (in-table : k < slotsOf t) (r 
   slot-names : (s : Slot) → slotFinds t s k ≡ someOf (sixNames (r .at)) (listed s)
   slot-names Free = refl
   slot-names (Holds v) =
-      ap (λ (b : Bool). eqb (v .d) 6 && b) (among-same 6 (λ j. isAt (findOf t (adjacentAt v j)) k) (λ j. samePoint (adjacentAt v j) (r .at)) (λ j. found-same (adjacentAt v j))) ∙ or-none (sixNames (r .at) v)
+      ap (λ (b : Bool). eqb (v .d) 6 && b)
+      (among-same 6 (λ j. isAt (findOf t (adjacentAt v j)) k) (λ j. samePoint (adjacentAt v j) (r .at)) (λ j. found-same (adjacentAt v j)))
+      ∙ or-none (sixNames (r .at) v)
     where
       or-none : (b : Bool) → b ≡ b || false
       or-none true = refl
@@ -97,7 +91,7 @@ module _ (t : List ℕ) (o : InOrder t) (k : ℕ) (in-table : k < slotsOf t) (r 
   pub finds-names : (n : ℕ) → tableFinds t n k ≡ someOf (sixNames (r .at)) (recordsBelow t n)
   unfolding recordsBelow
   finds-names zero = refl
-  finds-names (suc n) = (λ i. slot-names (slotAt t n) i || finds-names n i) ∙ sym (some-append (sixNames (r .at)) (recordsBelow t n) (listed (slotAt t n)))
+  finds-names (suc n) = (λ i. slot-names (slotAt t n) i || finds-names n i) ∙ sym (some-later (sixNames (r .at)) (recordsBelow t n) (listed (slotAt t n)))
 
   pub finds-redundant : tableFinds t (slotsOf t) k && eqb (r .d) 3 ≡ redundant t r
   unfolding redundant

@@ -20,6 +20,9 @@ use crate::keys::make_heap;
 use crate::lines::write_lines;
 use crate::named::MARK_BYTES;
 use crate::named::mark_all;
+use lattice::DONE;
+use lattice::NOT_IN_ORDER;
+use lattice::SHORT;
 use table::in_order;
 use table::slots_of;
 
@@ -42,12 +45,12 @@ fn write_kept(table: &[u8], marks: &[u8; MARK_BYTES], n: usize, out: &mut [u8]) 
 {
     let total = file_length(table, marks, n);
     if out.len() < total {
-        return answer(13, 0);
+        return answer(SHORT, 0);
     }
     let k = put_keys(table, marks, n, out);
     make_heap(out, k);
     write_lines(table, out, k, total);
-    answer(0, total as u64)
+    answer(DONE, total as u64)
 }
 
 // Writes the full file of a table: every record, in the order of lines. Refused with 1 or 13, no byte is changed; bytes past the file never are.
@@ -56,7 +59,7 @@ pub fn write_full(table: &[u8], out: &mut [u8]) -> Written
     ensures { λ r. ⌜ outcome (r .number) (r .bytes) (now (out .exit)) ≡ writeFullOf (now (table .entry)) (now (out .entry)) ⌝ }
 {
     if !in_order(table) {
-        return answer(1, 0);
+        return answer(NOT_IN_ORDER, 0);
     }
     let n = slots_of(table);
     let marks = [0; MARK_BYTES];
@@ -68,7 +71,7 @@ pub fn write_reduced(table: &[u8], out: &mut [u8]) -> Written
     ensures { λ r. ⌜ outcome (r .number) (r .bytes) (now (out .exit)) ≡ writeReducedOf (now (table .entry)) (now (out .entry)) ⌝ }
 {
     if !in_order(table) {
-        return answer(1, 0);
+        return answer(NOT_IN_ORDER, 0);
     }
     let n = slots_of(table);
     let mut marks = [0; MARK_BYTES];

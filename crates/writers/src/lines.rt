@@ -1,4 +1,5 @@
-// The lines of a file, from the last back: each key is taken off the heap at the output's beginning, and its line written at the end, which never meets the keys.
+// The lines of a file, from the last back: each key is taken off the heap at the output's beginning, and its line written at the end, which never
+// meets the keys.
 ghost use mathlib.Core.Path.{_≡_};
 ghost use mathlib.Core.List.{List, _++_};
 ghost use Prim.Native.Nat.{ℕ, _+_, _*_, _%_, _≤_};
@@ -43,7 +44,8 @@ fn record_of(table: &[u8], v: u64) -> Record
 // Writes the lines of k keys, which are a heap, whatever marks m left them; total is how long the lines are.
 pub fn write_lines(table: &[u8], out: &mut [u8], k: usize, total: usize)
     requires { ⌜ InOrder (now table) × ((m : List ℕ) × Ready (now table) m (now out) k total) ⌝ }
-    ensures { λ _. ⌜ ((m : List ℕ) → Ready (now (table .entry)) m (now (out .entry)) k total → now (out .exit) ≡ fileOf (now (table .entry)) m ++ drop total (now (out .entry))) ⌝ }
+    ensures { λ _. ⌜ ((m : List ℕ) → Ready (now (table .entry)) m (now (out .entry)) k total → now (out .exit)
+        ≡ fileOf (now (table .entry)) m ++ drop total (now (out .entry))) ⌝ }
 {
     let mut left = k;
     let mut at = total;

@@ -12,7 +12,7 @@ use Rattle.table.specs.MapLaws.{clear-table}
 use Rattle.table.specs.Slots.{Table, fitsLength, clearedOf}
 use Rattle.base.proofs.base.Statement.{statement}
 use Rattle.base.specs.Marks.{markBytes, laidBy}
-use Rattle.base.specs.Base.{centresIn, badPlace, Room, layAll, laidOf, fromLaid, unpaired, outcome, baseOf}
+use Rattle.base.specs.Base.{centresIn, badPlace, Room, layAll, laidOf, fromLaid, unpaired, answered, baseOf}
 use Rattle.base.specs.LayLaws.{base-unfit, base-unpaired, base-bad, base-laid, laid-is, list-empty, list-odd, list-even}
 use Rattle.base.specs.MarkLaws.{marks-none}
 use Rattle.base.proofs.base.Tie as tie
@@ -75,27 +75,31 @@ module _ (c : tie.After-lay-all) where
 
   laid : laidBy (c .lay-all .result) u ≡ laidOf (t (e (k b))) (cs (e (k b)))
   laid =
-      c .lay-all .ensures ∙ ap (λ (x : List ℕ). layAll (cs (e (k b))) (centresIn (cs (e (k b)))) (Room x)) (cleared (k b)) ∙ laid-is (t (e (k b))) (cs (e (k b)))
+      c .lay-all .ensures ∙ ap (λ (x : List ℕ). layAll (cs (e (k b))) (centresIn (cs (e (k b)))) (Room x)) (cleared (k b))
+      ∙ laid-is (t (e (k b))) (cs (e (k b)))
 
-  answered : (w : Bool) → c .lay-all .result ≡ w → fromLaid (t (e (k b))) (laidBy w u) ≡ baseOf (t (e (k b))) (cs (e (k b)))
-  answered w h = base-laid (t (e (k b))) (cs (e (k b))) (fit (e (k b))) (paired b) good (laidBy w u) (sym (ap (λ (x : Bool). laidBy x u) h) ∙ laid)
+  by-laid : (w : Bool) → c .lay-all .result ≡ w → fromLaid (t (e (k b))) (laidBy w u) ≡ baseOf (t (e (k b))) (cs (e (k b)))
+  by-laid w h = base-laid (t (e (k b))) (cs (e (k b))) (fit (e (k b))) (paired b) good (laidBy w u) (sym (ap (λ (x : Bool). laidBy x u) h) ∙ laid)
 
 returns : tie.Need-returns
 returns c =
     let k = c .before .before in
     let a = k .before .before .before .args in
-    (λ i. outcome (c .answer .ensures .0 i) (c .answer .ensures .1 i) (a .table .now)) ∙ base-unfit (a .table .now) (a .centres .now) (no-slots (a .table .now) (sym (k .slots-of .ensures) ∙ c .before .if1 .taken))
+    (λ i. answered (c .answer .ensures .0 i) (c .answer .ensures .1 i) (a .table .now))
+    ∙ base-unfit (a .table .now) (a .centres .now) (no-slots (a .table .now) (sym (k .slots-of .ensures) ∙ c .before .if1 .taken))
 
 returns-2 : tie.Need-returns-2
 returns-2 c =
     let k = c .before .before in
-    (λ i. outcome (c .answer2 .ensures .0 i) (c .answer2 .ensures .1 i) (cleared k i)) ∙ base-unpaired (t (e k)) (cs (e k)) (fit (e k)) (list-empty (cs (e k)) (c .before .if2 .taken))
+    (λ i. answered (c .answer2 .ensures .0 i) (c .answer2 .ensures .1 i) (cleared k i))
+    ∙ base-unpaired (t (e k)) (cs (e k)) (fit (e k)) (list-empty (cs (e k)) (c .before .if2 .taken))
 
 returns-3 : tie.Need-returns-3
 returns-3 c =
     let o = c .before in
     let k = o .before .before in
-    (λ i. outcome (c .answer3 .ensures .0 i) (c .answer3 .ensures .1 i) (cleared k i)) ∙ base-unpaired (t (e k)) (cs (e k)) (fit (e k)) (list-odd (cs (e k)) (o .before .if2 .left) (o .if3 .taken))
+    (λ i. answered (c .answer3 .ensures .0 i) (c .answer3 .ensures .1 i) (cleared k i))
+    ∙ base-unpaired (t (e k)) (cs (e k)) (fit (e k)) (list-odd (cs (e k)) (o .before .if2 .left) (o .if3 .taken))
 
 first-bad-requires : tie.Need-first-bad-requires
 first-bad-requires c κs = (omega arith, marks-none markBytes (cs (e (c .before .before .before))))
@@ -104,7 +108,8 @@ returns-4 : tie.Need-returns-4
 returns-4 c =
     let b = c .before .before in
     let x = first b in
-    (λ i. outcome (c .answer4 .ensures .0 i) ((c .answer4 .ensures .1 ∙ x) i) (cleared (k b) i)) ∙ base-bad (t (e (k b))) (cs (e (k b))) (fit (e (k b))) (paired b) (omega (arith, c .before .if4 .taken))
+    (λ i. answered (c .answer4 .ensures .0 i) ((c .answer4 .ensures .1 ∙ x) i) (cleared (k b) i))
+    ∙ base-bad (t (e (k b))) (cs (e (k b))) (fit (e (k b))) (paired b) (omega (arith, c .before .if4 .taken))
 
 lay-all-requires : tie.Need-lay-all-requires
 lay-all-requires c κs =
@@ -117,7 +122,7 @@ lay-all-requires c κs =
 returns-5 : tie.Need-returns-5
 returns-5 c =
     let a = c .before .before .before .before in
-    (λ i. outcome (c .answer5 .ensures .0 i) (c .answer5 .ensures .1 i) (u a)) ∙ answered a true (c .before .if5 .taken)
+    (λ i. answered (c .answer5 .ensures .0 i) (c .answer5 .ensures .1 i) (u a)) ∙ by-laid a true (c .before .if5 .taken)
 
 returns-6 : tie.Need-returns-6
 returns-6 c =
@@ -125,7 +130,8 @@ returns-6 c =
     let o = z .before .before in
     let a = o .before .before .before in
     let h : length (u a) ≡ length (t (e (k (b a)))) = omega (arith, a .lay-all .kept, k (b a) .before .before .clear .kept) in
-    (λ i. outcome (c .answer6 .ensures .0 i) (c .answer6 .ensures .1 i) ((z .clear2 .ensures ∙ ap (λ (l : ℕ). replicate l 255) h) i)) ∙ answered a false (o .if5 .left)
+    (λ i. answered (c .answer6 .ensures .0 i) (c .answer6 .ensures .1 i) ((z .clear2 .ensures ∙ ap (λ (l : ℕ). replicate l 255) h) i))
+    ∙ by-laid a false (o .if5 .left)
 
 pub base-spec : {M : Type 1} → statement M
 base-spec =

@@ -46,12 +46,13 @@ returns c =
     let p = c .before .before in
     let i = p .before .before in
     let r = i .before .before .before .before .before in (
-      census-refused (t r) (u r) (f r) (number r) (line r) (t′ r) (u′ r) (r .read-input .ensures) (i .if1 .taken) (s r .args .out .now) _ (p .put-refused .ensures .0),
+      census-refused (t r) (u r) (f r) (number r) (line r) (t′ r) (u′ r) (r .read-input .ensures) (i .if1 .taken) (s r .args .out .now) _
+          (p .put-refused .ensures .0),
       refused-most (t r) (u r) (f r) (number r) (line r) (t′ r) (u′ r) (r .read-input .ensures) (i .if1 .taken) (p .put-refused .ensures .1),
     )
 
-census-of-requires : tie.Need-census-of-requires
-census-of-requires c κs =
+counts-of-requires : tie.Need-counts-of-requires
+counts-of-requires c κs =
     let n = c .before .before in
     let i = n .before .before in
     let r = i .before .before .before .before .before in
@@ -63,10 +64,11 @@ returns-2 c =
     let k = p .before in
     let i = k .before .before .before .before .before in
     let r = i .before .before .before .before .before in
-    let e = k .census-of .ensures in (
+    let e = k .counts-of .ensures in (
       census-counted (t r) (u r) (f r) (number r) (line r) (t′ r) (u′ r) (r .read-input .ensures) (i .if1 .left) (s r .args .out .now) _
           (p .put-counts .ensures .0 ∙ ap (λ (x : Counts). putText 0 (countsText x) (s r .args .out .now)) e),
-      counted-most (t r) (u r) (f r) (number r) (line r) (t′ r) (u′ r) (r .read-input .ensures) (i .if1 .left) (subst (λ (x : Counts). length (countsText x) ≤ 128) e (p .put-counts .ensures .1)),
+      counted-most (t r) (u r) (f r) (number r) (line r) (t′ r) (u′ r) (r .read-input .ensures) (i .if1 .left)
+          (subst (λ (x : Counts). length (countsText x) ≤ 128) e (p .put-counts .ensures .1)),
     )
 
 pub census-spec : {M : Type 1} → statement M
@@ -80,7 +82,7 @@ census-spec =
     (λ c. search needs)
     returns
     (λ c κs. search needs)
-    census-of-requires
+    counts-of-requires
     (λ c κs. search needs)
     (λ c. search needs)
     (λ c. search needs)

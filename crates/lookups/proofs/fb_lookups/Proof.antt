@@ -30,16 +30,19 @@ loop-holds c = let a = c .before .before .before .args in (omega arith, omega ar
 table-there : (c : tie.Else1 Inv-loop μ-loop) → Table (c .before .before .before .args .table .now) (c .before .slots-of .result)
 table-there c = slots-table _ _ (c .before .slots-of .ensures) (c .if1 .left)
 
-held-requires : tie.Need-held-requires Inv-loop μ-loop
-held-requires c κs = table-there (c .before .before .before)
+one-if-there-requires : tie.Need-one-if-there-requires Inv-loop μ-loop
+one-if-there-requires c κs = table-there (c .before .before .before)
 
 -- what was found of a point
-module _ (c : tie.After-held Inv-loop μ-loop) where
+module _ (c : tie.After-one-if-there Inv-loop μ-loop) where
   abbrev l : tie.At-loop Inv-loop μ-loop
   l = c .before .before .before
 
-  one-there : c .held .result ≤ 1
-  one-there = let e = c .held .ensures in let b = one-most (holds (l .before .before .before .before .args .table .now) (c .before .point-at .result)) in omega (arith, e, b)
+  one-there : c .one-if-there .result ≤ 1
+  one-there =
+      let e = c .one-if-there .ensures in
+      let b = one-most (holds (l .before .before .before .before .args .table .now) (c .before .point-at .result)) in
+      omega (arith, e, b)
 
 add-found : tie.Need-add-found Inv-loop μ-loop
 add-found c = record { fits = omega (arith, one-there c, c .before .before .loop-test .taken, l c .loop .inv .1) }
@@ -49,10 +52,11 @@ loop-again c =
     let k = l c in
     let a = k .before .before .before .before .args in
     let h = holds (a .table .now) in
-    let e : c .held .result ≡ one (h (c .before .point-at .result)) = c .held .ensures in (
+    let e : c .one-if-there .result ≡ one (h (c .before .point-at .result)) = c .one-if-there .ensures in (
       omega (arith, c .before .before .loop-test .taken),
       omega (arith, one-there c, k .loop .inv .1),
-      (λ j. (k .loop .inv .2 j) + ((e ∙ ap (λ (p : Point). one (h p)) (c .before .point-at .ensures)) j)) ∙ held-more (a .table .now) (a .points .now) (a .m) (k .loop .i),
+      (λ j. (k .loop .inv .2 j) + ((e ∙ ap (λ (p : Point). one (h p)) (c .before .point-at .ensures)) j))
+          ∙ held-more (a .table .now) (a .points .now) (a .m) (k .loop .i),
     )
 
 returns-2 : tie.Need-returns-2 Inv-loop μ-loop
@@ -73,7 +77,7 @@ fb-lookups-spec =
     returns
     loop-holds
     (λ c κs. omega (arith, c .loop-test .taken))
-    held-requires
+    one-if-there-requires
     add-found
     (λ c. search needs)
     (λ c. omega (arith, c .before .before .loop-test .taken))

@@ -11,4 +11,13 @@ slice-aggregate-census c = simp length-take (omega arith)
 pub count-spec : {M : Type 1} → statement M
 count-spec =
     tie.close
-    (tie.spec slice-aggregate-census (λ c. search needs) (λ c. search needs) (λ c. search needs) (λ c κs. search needs) (λ c. search needs) (λ c κs. search needs) (λ c. search needs) (λ c. search needs))
+    (tie.spec
+    slice-aggregate-census
+    (λ c. search needs)
+    (λ c. search needs)
+    (λ c. search needs)
+    (λ c κs. search needs)
+    (λ c. search needs)
+    (λ c κs. search needs)
+    (λ c. search needs)
+    (λ c. search needs))

@@ -61,7 +61,8 @@ returns-2 c =
     let a = s (e m) .args in
     let h = r .refuse .ensures in
     (λ i. outcome (h .0 .0 i) (h .0 .1 i) ((h .1 ∙ cleared m) i) (filled (e m) .scratch i))
-    ∙ reduced-refused (a .table .now) (a .scratch .now) (a .file .now) (u (e m)) (filled (e m)) (m .complete .result) (v m) (m .complete .ensures) (z .if2 .taken)
+    ∙ reduced-refused (a .table .now) (a .scratch .now) (a .file .now) (u (e m)) (filled (e m)) (m .complete .result) (v m) (m .complete .ensures)
+    (z .if2 .taken)
 
 returns-3 : tie.Need-returns-3
 returns-3 c =

@@ -15,7 +15,8 @@ returns c =
     let i = c .before .before in
     let s = i .before .before .before in
     let t = s .args .table .now in
-    out-is (s .args .out .now) (c .answer .ensures .0) (c .answer .ensures .1) ∙ write-disorder (fullFile t) t (s .args .out .now) (sym (i .in-order .ensures) ∙ not-true (i .in-order .result) (c .before .if1 .taken))
+    out-is (s .args .out .now) (c .answer .ensures .0) (c .answer .ensures .1)
+    ∙ write-disorder (fullFile t) t (s .args .out .now) (sym (i .in-order .ensures) ∙ not-true (i .in-order .result) (c .before .if1 .taken))
 
 write-kept-requires : tie.Need-write-kept-requires
 write-kept-requires c κs =
@@ -33,7 +34,8 @@ returns-2 c =
     let s = i .before .before .before in
     let t = s .args .table .now in
     let o = s .args .out .now in
-    w .write-kept .ensures ∙ ap (λ (x : List ℕ). putOf x o) (unmarked-file t) ∙ write-order (fullFile t) t o (sym (i .in-order .ensures) ∙ not-false (i .in-order .result) (e .if1 .left))
+    w .write-kept .ensures ∙ ap (λ (x : List ℕ). putOf x o) (unmarked-file t)
+    ∙ write-order (fullFile t) t o (sym (i .in-order .ensures) ∙ not-false (i .in-order .result) (e .if1 .left))
 
 pub write-full-spec : {M : Type 1} → statement M
 write-full-spec =

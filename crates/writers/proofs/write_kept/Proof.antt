@@ -81,7 +81,8 @@ returns-2 c =
     let g = f (w h) in
     let total = g .file-length .result in
     let past = ready-past (t g) (m g) (o g) total (long g) _ _ (w h .put-keys .result) (room (w h)) (filled (w h)) (h .make-heap .ensures) in
-    out-is _ (c .answer2 .ensures .0) (c .answer2 .ensures .1) ∙ put-done (t g) (m g) (o g) total (long g) _ (room (w h)) (x .write-lines .ensures (m g) (stand h) ∙ ap (λ (l : List ℕ). fileOf (t g) (m g) ++ l) past)
+    out-is _ (c .answer2 .ensures .0) (c .answer2 .ensures .1)
+    ∙ put-done (t g) (m g) (o g) total (long g) _ (room (w h)) (x .write-lines .ensures (m g) (stand h) ∙ ap (λ (l : List ℕ). fileOf (t g) (m g) ++ l) past)
 
 pub write-kept-spec : {M : Type 1} → statement M
 write-kept-spec =

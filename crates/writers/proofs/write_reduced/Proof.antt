@@ -17,11 +17,13 @@ returns c =
     let i = c .before .before in
     let s = i .before .before .before in
     let t = s .args .table .now in
-    out-is (s .args .out .now) (c .answer .ensures .0) (c .answer .ensures .1) ∙ write-disorder (reducedFile t) t (s .args .out .now) (sym (i .in-order .ensures) ∙ not-true (i .in-order .result) (c .before .if1 .taken))
+    out-is (s .args .out .now) (c .answer .ensures .0) (c .answer .ensures .1)
+    ∙ write-disorder (reducedFile t) t (s .args .out .now) (sym (i .in-order .ensures) ∙ not-true (i .in-order .result) (c .before .if1 .taken))
 
 -- past the first test: the table is in order
 ordered : (n : tie.After-slots-of) → InOrder (n .before .before .before .before .before .args .table .now)
-ordered n = let i = n .before .before in test-order (i .before .before .before .args .table .now) (sym (i .in-order .ensures) ∙ not-false (i .in-order .result) (n .before .if1 .left))
+ordered n = let i = n .before .before in
+    test-order (i .before .before .before .args .table .now) (sym (i .in-order .ensures) ∙ not-false (i .in-order .result) (n .before .if1 .left))
 
 mark-all-requires : tie.Need-mark-all-requires
 mark-all-requires c κs = let n = c .before in (ordered n, n .slots-of .ensures)

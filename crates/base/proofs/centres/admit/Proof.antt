@@ -65,7 +65,8 @@ returns-3 c =
     let e = c .before .before in
     let k = e .before in (
       ap not (sym (e .if2 .left)) ∙ bad-at k,
-      λ q. marks-more (m (g k)) (c .mark .last .0) (cs (g k)) (i (g k)) (s (g k) .pre .1) (good-taken k) (subst (λ (n : ℕ). Marks (m (g k)) (eqb n) (c .mark .last .0)) (number-at k) (c .mark .ensures)),
+      λ q. marks-more (m (g k)) (c .mark .last .0) (cs (g k)) (i (g k)) (s (g k) .pre .1) (good-taken k)
+          (subst (λ (n : ℕ). Marks (m (g k)) (eqb n) (c .mark .last .0)) (number-at k) (c .mark .ensures)),
     )
 
 pub admit-spec : {M : Type 1} → statement M

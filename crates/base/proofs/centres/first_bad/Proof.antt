@@ -1,4 +1,5 @@
--- `base::first_bad` meets its promise. The invariant: what is left of the list has the first bad centre of the whole, and the marks are the centres so far. Assumes nothing.
+-- `base::first_bad` meets its promise. The invariant: what is left of the list has the first bad centre of the whole, and the marks are the centres
+-- so far. Assumes nothing.
 use mathlib.Core.Path.{_≡_, sym, _∙_, ap, subst}
 use Prim.Native.Nat.{_+_, _≤_, _<_, _-_}
 use native.Mathlib.Omega.{arith}
@@ -33,7 +34,12 @@ loop-again c =
     let e : n - (i + 1) ≡ n - i - 1 = omega arith in
     let more : 0 < n - i = omega arith in (
       omega arith,
-      (ap (firstBad cs (i + 1)) e ∙ sym (first-good cs i (n - i) more (not-true (badAt cs i) (sym (a .admit .ensures .0) ∙ c .if1 .taken))) ∙ l .loop .inv .1 .0, a .admit .ensures .1 (c .if1 .taken)),
+      (
+        ap (firstBad cs (i + 1)) e
+            ∙ sym (first-good cs i (n - i) more (not-true (badAt cs i) (sym (a .admit .ensures .0) ∙ c .if1 .taken)))
+            ∙ l .loop .inv .1 .0,
+        a .admit .ensures .1 (c .if1 .taken),
+      ),
     )
 
 returns : tie.Need-returns Inv-loop μ-loop

@@ -15,7 +15,8 @@ returns c =
     let t = n .before .before in
     let g = t .before in
     let a = g .before .args in
-    c .marked .ensures ∙ ap (markedAt (a .marks .now)) (n .number .ensures .0) ∙ marked-is (a .marks .now) (a .p) (g .before .pre) (sym (g .is-good .ensures) ∙ t .if1 .taken)
+    c .marked .ensures ∙ ap (markedAt (a .marks .now)) (n .number .ensures .0)
+    ∙ marked-is (a .marks .now) (a .p) (g .before .pre) (sym (g .is-good .ensures) ∙ t .if1 .taken)
 
 returns-2 : tie.Need-returns-2
 returns-2 c = let a = c .before .before .args in unmarked-is (a .marks .now) (a .p) (sym (c .before .is-good .ensures) ∙ c .if1 .left)

@@ -13,7 +13,8 @@ returns : tie.Need-returns
 returns c =
     let i = c .before .before in
     let a = i .before .args in
-    c .vertex .ensures ∙ corner-boundary (inMarks (a .marks .now)) (a .q) (sym (i .is-internal .ensures) ∙ not-true (i .is-internal .result) (c .before .if1 .taken))
+    c .vertex .ensures ∙ corner-boundary (inMarks (a .marks .now)) (a .q)
+    (sym (i .is-internal .ensures) ∙ not-true (i .is-internal .result) (c .before .if1 .taken))
 
 -- past the first test
 inside : (c : tie.After-class) → internal (inMarks (c .before .before .before .args .marks .now)) (c .before .before .before .args .q) ≡ true

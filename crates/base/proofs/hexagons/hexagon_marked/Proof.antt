@@ -17,7 +17,8 @@ returns-2 : tie.Need-returns-2
 returns-2 c =
     let e = c .before in
     let a = e .before .before .args in
-    c .is-marked .ensures ∙ sym (ap (λ (b : Bool). not b || inMarks (a .marks .now) (a .p)) (eq-eqb (classOf (a .p)) 0 (sym (e .before .class .ensures) ∙ e .if1 .left)))
+    c .is-marked .ensures
+    ∙ sym (ap (λ (b : Bool). not b || inMarks (a .marks .now) (a .p)) (eq-eqb (classOf (a .p)) 0 (sym (e .before .class .ensures) ∙ e .if1 .left)))
 
 pub hexagon-marked-spec : {M : Type 1} → statement M
 hexagon-marked-spec = tie.close (tie.spec (λ c κs. search needs) returns (λ c κs. search needs) returns-2)

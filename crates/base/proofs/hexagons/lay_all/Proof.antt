@@ -13,7 +13,8 @@ use Rattle.base.specs.LayLaws.{centre-within, all-none, all-more, all-fu
 use Rattle.base.proofs.hexagons.lay_all.Tie as tie
 
 abbrev Inv-loop : tie.InvT-loop
-Inv-loop table₀ n centres marks count i₀ table i = (i ≤ count) × ((count ≡ centresIn centres) × ((layAll centres i (Room table₀) ≡ Room table) × (length table ≡ length table₀)))
+Inv-loop table₀ n centres marks count i₀ table i =
+    (i ≤ count) × ((count ≡ centresIn centres) × ((layAll centres i (Room table₀) ≡ Room table) × (length table ≡ length table₀)))
 
 abbrev μ-loop : tie.MeasureT-loop
 μ-loop table₀ n centres marks count i₀ table i = count - i
@@ -64,7 +65,8 @@ returns : tie.Need-returns Inv-loop μ-loop
 returns c =
     let k = c .before .before .before in
     let e = sym (laid k) ∙ ap (λ (v : Bool). laidBy v (u k)) (c .if1 .left) in
-    sym (all-full (s k .args .centres .now) (Room (s k .args .table .now)) (centresIn (s k .args .centres .now)) (l k .loop .i + 1) (omega (arith, l k .loop .inv .1 .0)) e)
+    sym (all-full (s k .args .centres .now) (Room (s k .args .table .now))
+    (centresIn (s k .args .centres .now)) (l k .loop .i + 1) (omega (arith, l k .loop .inv .1 .0)) e)
 
 returns-2 : tie.Need-returns-2 Inv-loop μ-loop
 returns-2 c =

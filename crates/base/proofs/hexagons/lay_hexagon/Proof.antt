@@ -1,89 +1,64 @@
--- `base::lay_hexagon` meets its promise. The invariant: the records so far are laid. Assumes nothing.
-use mathlib.Core.Path.{_≡_, refl, sym, _∙_, ap}
-use mathlib.Core.Bool.{Bool}
+-- `base::lay_hexagon` meets its promise: the centre, then the corners. Assumes nothing.
+use borrow.Author.Needs.{needs}
+use mathlib.Core.Path.{_≡_, sym, _∙_, ap}
+use mathlib.Core.Bool.{Bool, true, false}
 use mathlib.Core.List.{List}
-use Prim.Native.Nat.{ℕ, _+_, _≤_, _-_}
+use Prim.Native.Nat.{ℕ}
 use native.Mathlib.Omega.{arith}
+use borrow.Author.Tests.{not-true, not-false}
 use lib.ListN.{length}
 use Rattle.table.specs.SlotLaws.{table-same}
 use Rattle.lattice.specs.declared.records.Record.{Record}
 use Rattle.base.proofs.hexagons.lay_hexagon.Statement.{statement}
-use Rattle.base.specs.Marks.{inMarks, laidBy}
-use Rattle.base.specs.Base.{Room, lay, layHexagon}
-use Rattle.base.specs.LayLaws.{hexagon-none, hexagon-more, hexagon-full}
+use Rattle.base.specs.Marks.{inMarks, laidBy, layCorners}
+use Rattle.base.specs.Base.{centreRecord, Laid, Room, NoRoom, lay, layHexagon}
+use Rattle.base.specs.LayLaws.{corners-none, corners-full, corners-hexagon}
 use Rattle.base.proofs.hexagons.lay_hexagon.Tie as tie
 
-abbrev Inv-loop : tie.InvT-loop
-Inv-loop table₀ n marks p k₀ table k = (k ≤ 7) × ((layHexagon (inMarks marks) p k (Room table₀) ≡ Room table) × (length table ≡ length table₀))
-
-abbrev μ-loop : tie.MeasureT-loop
-μ-loop table₀ n marks p k₀ table k = 7 - k
-
-loop-holds : tie.Need-loop-holds Inv-loop μ-loop
-loop-holds c = let a = c .before .args in (omega arith, (hexagon-none (inMarks (a .marks .now)) (a .p) (Room (a .table .now)), refl))
-
-hexagon-record-requires : tie.Need-hexagon-record-requires Inv-loop μ-loop
-hexagon-record-requires c κs = (c .before .before .before .before .pre .1, omega arith)
-
-lay-record-requires : tie.Need-lay-record-requires Inv-loop μ-loop
-lay-record-requires c κs =
-    let l = c .before .before .before in
-    let s = l .before .before in
-    table-same (s .args .table .now) (l .loop .table) (s .args .n) (l .loop .inv .1 .1) (s .pre .0)
-
-module _ (c : tie.After-lay-record Inv-loop μ-loop) where
-  abbrev l : tie.At-loop Inv-loop μ-loop
-  l = c .before .before .before .before
-
-  abbrev s : tie.Start Inv-loop μ-loop
-  s = l .before .before
+-- past the centre
+module _ (c : tie.After-lay-record) where
+  abbrev s : tie.Start
+  s = c .before .before .before .before
 
   abbrev u : List ℕ
   u = c .lay-record .last .0
 
-  -- one record more
-  laid : laidBy (c .lay-record .result) u ≡ layHexagon (inMarks (s .args .marks .now)) (s .args .p) (l .loop .k + 1) (Room (s .args .table .now))
-  laid =
-      c .lay-record .ensures ∙ ap (λ (r : Record). lay (Room (l .loop .table)) r) (c .before .hexagon-record .ensures)
-      ∙ sym (hexagon-more (inMarks (s .args .marks .now)) (s .args .p) (Room (s .args .table .now)) (l .loop .k) (Room (l .loop .table)) (l .loop .inv .1 .0))
+  after : (b : Bool) → c .lay-record .result ≡ b
+      → layCorners (inMarks (s .args .marks .now)) (s .args .p) 6 (laidBy b u) ≡ layHexagon
+      (inMarks (s .args .marks .now)) (s .args .p) 7 (Room (s .args .table .now))
+  after b e =
+      ap (layCorners (inMarks (s .args .marks .now)) (s .args .p) 6)
+      (ap (λ (v : Bool). laidBy v u) (sym e) ∙ c .lay-record .ensures ∙ ap (λ (r : Record). lay (Room (s .args .table .now)) r) (c .before .vertex .ensures))
+      ∙ corners-hexagon (inMarks (s .args .marks .now)) (s .args .p) (Room (s .args .table .now)) 6
 
-  kept : length u ≡ length (s .args .table .now)
-  kept = omega (arith, c .lay-record .kept)
+  none : layCorners (inMarks (s .args .marks .now)) (s .args .p) 6 NoRoom ≡ NoRoom
+  none = corners-full (inMarks (s .args .marks .now)) (s .args .p) NoRoom 6 0 (omega arith) (corners-none (inMarks (s .args .marks .now)) (s .args .p) NoRoom)
 
-loop-again : tie.Need-loop-again Inv-loop μ-loop
-loop-again c =
-    let k = c .before .before .before in
-    (omega arith, (sym (laid k) ∙ ap (λ (v : Bool). laidBy v (u k)) (c .if1 .taken), kept k))
-
-same-length : tie.Need-same-length Inv-loop μ-loop
-same-length c = kept (c .before .before .before)
-
-returns : tie.Need-returns Inv-loop μ-loop
+returns : tie.Need-returns
 returns c =
     let k = c .before .before .before in
-    let e = sym (laid k) ∙ ap (λ (v : Bool). laidBy v (u k)) (c .if1 .left) in
-    sym (hexagon-full (inMarks (s k .args .marks .now)) (s k .args .p) (Room (s k .args .table .now)) 7 (l k .loop .k + 1) (omega arith) e)
+    sym (none k) ∙ after k false (not-true (k .lay-record .result) (c .if1 .taken))
 
-returns-2 : tie.Need-returns-2 Inv-loop μ-loop
+lay-corners-requires : tie.Need-lay-corners-requires
+lay-corners-requires c κs =
+    let k = c .before .before .before .before in
+    (table-same (s k .args .table .now) (u k) (s k .args .n) (omega (arith, k .lay-record .kept)) (s k .pre .0), s k .pre .1)
+
+returns-2 : tie.Need-returns-2
 returns-2 c =
-    let m = c .before in
-    let a = m .before .before .args in
-    let e : m .loop .k ≡ 7 = omega arith in
-    sym (ap (λ (k : ℕ). layHexagon (inMarks (a .marks .now)) (a .p) k (Room (a .table .now))) (sym e) ∙ m .loop .inv .1 .0)
+    let w = c .before .before in
+    let e = w .before .before in
+    let k = e .before .before .before in
+    w .lay-corners .ensures ∙ after k true (not-false (k .lay-record .result) (e .if1 .left))
 
 pub lay-hexagon-spec : {M : Type 1} → statement M
 lay-hexagon-spec =
     tie.close
     (tie.spec
-    Inv-loop
-    μ-loop
-    loop-holds
-    hexagon-record-requires
-    lay-record-requires
-    (λ c. omega arith)
-    (λ c. omega arith)
-    loop-again
-    same-length
+    (λ c κs. search needs)
+    (λ c κs. search needs)
+    (λ c. search needs)
     returns
-    (λ c. c .before .loop .inv .1 .1)
+    lay-corners-requires
+    (λ c. search needs)
     returns-2)

@@ -30,8 +30,11 @@ module _ (c : tie.After-row-width) where
 
 returns : tie.Need-returns
 returns c =
-    let r = c .before .before in
-    ((λ i. put (c .answer .ensures .0 i) (c .answer .ensures .1 i) (o r)) ∙ put-short (s r .args .number) (text r) (o r) (omega (arith, total r, c .before .if1 .taken)), most r)
+    let r = c .before .before in (
+      (λ i. put (c .answer .ensures .0 i) (c .answer .ensures .1 i) (o r))
+          ∙ put-short (s r .args .number) (text r) (o r) (omega (arith, total r, c .before .if1 .taken)),
+      most r,
+    )
 
 write-bytes-requires : tie.Need-write-bytes-requires
 write-bytes-requires c κs = let r = c .before .before in omega (arith, c .before .if1 .left)
@@ -50,7 +53,8 @@ returns-2 c =
     let e = w .before .before in
     let r = e .before in (
       (λ i. put (c .answer2 .ensures .0 i) ((c .answer2 .ensures .1 ∙ total r) i) (x .write-row .last .0))
-          ∙ put-done (s r .args .number) (text r) (o r) (omega (arith, total r, e .if1 .left)) (x .write-row .last .0) (x .write-row .result) (wrote-then (w .write-bytes .ensures) (x .write-row .ensures)),
+          ∙ put-done (s r .args .number) (text r) (o r) (omega (arith, total r, e .if1 .left)) (x .write-row .last .0) (x .write-row .result)
+          (wrote-then (w .write-bytes .ensures) (x .write-row .ensures)),
       most r,
     )
 

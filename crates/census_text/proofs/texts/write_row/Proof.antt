@@ -38,8 +38,10 @@ loop-again c =
     let l = i .before in
     let a = l .before .before .before .args in
     let ns = a .ns .now in
-    rowed-more (a .out .now) (a .at) ns (l .loop .i) (l .loop .out) (l .loop .p) (l .loop .inv) (i .loop-test .taken) (w .write-number .last .0) (w .write-number .result)
-    (subst (λ (x : ℕ). Wrote (l .loop .out) (l .loop .p) (ended (digits (getD ns (l .loop .i) 0)) x) (w .write-number .last .0) (w .write-number .result)) (w .before .stop-at .ensures) (w .write-number .ensures))
+    rowed-more (a .out .now) (a .at) ns (l .loop .i) (l .loop .out) (l .loop .p) (l .loop .inv) (i .loop-test .taken) (w .write-number .last .0)
+    (w .write-number .result)
+    (subst (λ (x : ℕ). Wrote (l .loop .out) (l .loop .p) (ended (digits (getD ns (l .loop .i) 0)) x) (w .write-number .last .0)
+    (w .write-number .result)) (w .before .stop-at .ensures) (w .write-number .ensures))
 
 same-length : tie.Need-same-length Inv-loop μ-loop
 same-length c =

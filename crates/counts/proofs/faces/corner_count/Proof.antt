@@ -18,8 +18,11 @@ returns-2 c =
     let f = b .before in
     let o = f .before .before in
     let h = o .before .before in
-    let a = h .before .before .args in
-    (corner-counted (a .t .now) (a .k) (a .v) (a .j) (o .o .given .0 .0) (sym (h .chosen .ensures) ∙ o .o .given .1) (f .face-on .result) (f .face-on .ensures) _ (sym (b .face-before .ensures) ∙ c .if1 .taken), omega arith)
+    let a = h .before .before .args in (
+      corner-counted (a .t .now) (a .k) (a .v) (a .j) (o .o .given .0 .0) (sym (h .chosen .ensures) ∙ o .o .given .1) (f .face-on .result)
+          (f .face-on .ensures) _ (sym (b .face-before .ensures) ∙ c .if1 .taken),
+      omega arith,
+    )
 
 returns-3 : tie.Need-returns-3
 returns-3 c =
@@ -27,8 +30,11 @@ returns-3 c =
     let f = b .before in
     let o = f .before .before in
     let h = o .before .before in
-    let a = h .before .before .args in
-    (corner-counted (a .t .now) (a .k) (a .v) (a .j) (o .o .given .0 .0) (sym (h .chosen .ensures) ∙ o .o .given .1) (f .face-on .result) (f .face-on .ensures) _ (sym (b .face-before .ensures) ∙ c .if1 .left), omega arith)
+    let a = h .before .before .args in (
+      corner-counted (a .t .now) (a .k) (a .v) (a .j) (o .o .given .0 .0) (sym (h .chosen .ensures) ∙ o .o .given .1) (f .face-on .result)
+          (f .face-on .ensures) _ (sym (b .face-before .ensures) ∙ c .if1 .left),
+      omega arith,
+    )
 
 pub corner-count-spec : {M : Type 1} → statement M
 corner-count-spec =

@@ -30,8 +30,11 @@ add-count c =
 loop-again : tie.Need-loop-again Inv-loop μ-loop
 loop-again c =
     let l = c .before .before in
-    let f = slotFaces (l .before .before .args .t .now) in
-    (omega (arith, c .before .loop-test .taken), summed-more f 6 (l .loop .k) (l .loop .count) (c .slot-faces .result) (l .loop .inv .1) (c .slot-faces .ensures .0) (c .slot-faces .ensures .1))
+    let f = slotFaces (l .before .before .args .t .now) in (
+      omega (arith, c .before .loop-test .taken),
+      summed-more f 6 (l .loop .k) (l .loop .count) (c .slot-faces .result) (l .loop .inv .1)
+          (c .slot-faces .ensures .0) (c .slot-faces .ensures .1),
+    )
 
 returns : tie.Need-returns Inv-loop μ-loop
 returns c =

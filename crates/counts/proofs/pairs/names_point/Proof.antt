@@ -32,7 +32,8 @@ adjacent-of-requires c κs =
     (valid-inner (s .args .u) (c .before .loop .i) (s .pre) (omega (arith, c .loop-test .taken)), omega (arith, c .loop-test .taken))
 
 -- what the test says of the place
-tested : (c : tie.After-same-point Inv-loop μ-loop) → at (c .before .before .before .before .args .u) (c .before .before .before .before .args .p) (c .before .before .before .loop .i) ≡ c .same-point .result
+tested : (c : tie.After-same-point Inv-loop μ-loop)
+    → at (c .before .before .before .before .args .u) (c .before .before .before .before .args .p) (c .before .before .before .loop .i) ≡ c .same-point .result
 tested c = ap (λ (q : Point). samePoint q (c .before .before .before .before .args .p)) (sym (c .before .adjacent-of .ensures)) ∙ sym (c .same-point .ensures)
 
 returns : tie.Need-returns Inv-loop μ-loop
@@ -45,8 +46,11 @@ returns c =
 loop-again : tie.Need-loop-again Inv-loop μ-loop
 loop-again c =
     let l = c .before .before .before .before in
-    let a = l .before .args in
-    (omega (arith, c .before .before .before .loop-test .taken), among-more (at (a .u) (a .p)) (l .loop .i) (l .loop .inv .1) (tested (c .before) ∙ c .if1 .left))
+    let a = l .before .args in (
+      omega (arith, c .before .before .before .loop-test .taken),
+      among-more (at (a .u) (a .p)) (l .loop .i) (l .loop .inv .1)
+          (tested (c .before) ∙ c .if1 .left),
+    )
 
 returns-2 : tie.Need-returns-2 Inv-loop μ-loop
 unfolding namesPoint

@@ -12,7 +12,8 @@ names-point-requires c κs =
     let u = c .before in
     let e = u .before .before in
     let s = e .before .before in
-    earlier-valid (s .args .t .now) (s .pre .0) (s .args .k) (omega (arith, s .pre .1 .0, s .pre .1 .1)) (s .args .q) (u .u .given .0 .0) (sym (e .earlier .ensures) ∙ u .u .given .1)
+    earlier-valid (s .args .t .now) (s .pre .0) (s .args .k) (omega (arith, s .pre .1 .0, s .pre .1 .1)) (s .args .q) (u .u .given .0 .0)
+    (sym (e .earlier .ensures) ∙ u .u .given .1)
 
 returns : tie.Need-returns
 unfolding pairBefore

@@ -34,7 +34,9 @@ loop-again c =
     let l = c .before .before .before .before in
     let r = l .before .args .t1 in (
       omega (arith, c .before .before .before .loop-test .taken),
-      c .put-point .ensures ∙ ap (λ (o : List ℤ). sets o (3 * l .loop .j + 1) (pointNumbers (getD (r .points) (l .loop .j) nowhere))) (l .loop .inv .1) ∙ filled-more (r .count) (r .points) (l .loop .j),
+      c .put-point .ensures
+          ∙ ap (λ (o : List ℤ). sets o (3 * l .loop .j + 1) (pointNumbers (getD (r .points) (l .loop .j) nowhere))) (l .loop .inv .1)
+          ∙ filled-more (r .count) (r .points) (l .loop .j),
     )
 
 returns : tie.Need-returns Inv-loop μ-loop

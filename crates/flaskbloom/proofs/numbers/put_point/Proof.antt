@@ -9,7 +9,8 @@ returns : tie.Need-returns
 returns c =
     let k = c .before .before in
     let a = k .before .args in
-    row-put (a .p) (record { sfits = omega (arith, k .struct-told .given) }) (record { sfits = omega (arith, k .struct-told .given) }) (omega (arith, k .struct-told .given)) (a .out .now) (a .i)
+    row-put (a .p) (record { sfits = omega (arith, k .struct-told .given) }) (record { sfits = omega (arith, k .struct-told .given) })
+    (omega (arith, k .struct-told .given)) (a .out .now) (a .i)
 
 pub put-point-spec : {M : Type 1} → statement M
 put-point-spec =

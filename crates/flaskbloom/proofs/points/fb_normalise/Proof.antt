@@ -10,7 +10,8 @@ use Rattle.flaskbloom.proofs.points.fb_normalise.Tie as tie
 returns : tie.Need-returns
 returns c =
     let s = c .before .before in
-    (refl, c .point-numbers .ensures ∙ ap pointNumbers (sym (asked₂ (λ x y. normalOf x y (s .args .m)) (s .fits .a) (s .fits .b) (c .before .normalise .ensures))))
+    let e = asked₂ (λ x y. normalOf x y (s .args .m)) (s .fits .a) (s .fits .b) (c .before .normalise .ensures) in
+    (refl, c .point-numbers .ensures ∙ ap pointNumbers (sym e))
 
 pub fb-normalise-spec : {M : Type 1} → statement M
 fb-normalise-spec = tie.close (tie.spec (λ c κs. search needs) (λ c κs. search needs) returns)

@@ -12,7 +12,8 @@ returns : tie.Need-returns
 returns c =
     let k = c .before in
     let s = k .before .before in
-    let e = k .star .ensures ∙ ap starOf (sym (asked₂ (λ x y. recordOf x y (s .args .m) (s .args .d) (s .args .k) (s .args .n)) (s .fits .a) (s .fits .b) (k .before .record-of .ensures))) in
+    let r = asked₂ (λ x y. recordOf x y (s .args .m) (s .args .d) (s .args .k) (s .args .n)) (s .fits .a) (s .fits .b) (k .before .record-of .ensures) in
+    let e = k .star .ensures ∙ ap starOf (sym r) in
     (ap (λ (r : Answer). r .number) e, c .answer-numbers .ensures ∙ ap answerNumbers e)
 
 pub fb-star-spec : {M : Type 1} → statement M

@@ -28,10 +28,12 @@ mul-result-2 : tie.Need-mul-result-2
 mul-result-2 c = let fy = c .fits .y in let ft = c .fits .t in simp toZ-ofZ (right c)
 
 add-result : tie.Need-add-result
-add-result c = let fx = c .fits .x in let fs = c .fits .s in let fy = c .fits .y in let ft = c .fits .t in let l = left c in let r = right c in simp toZ-ofZ (both c)
+add-result c = let fx = c .fits .x in let fs = c .fits .s in let fy = c .fits .y in let ft = c .fits .t in let l = left c in let r = right c in
+    simp toZ-ofZ (both c)
 
 returns : tie.Need-returns
-returns c = let fx = c .fits .x in let fs = c .fits .s in let fy = c .fits .y in let ft = c .fits .t in let l = left c in let r = right c in let b = both c in simp toZ-ofZ
+returns c = let fx = c .fits .x in let fs = c .fits .s in let fy = c .fits .y in let ft = c .fits .t in let l = left c in let r = right c in
+    let b = both c in simp toZ-ofZ
 
 pub mix-spec : {M : Type 1} → statement M
 mix-spec = tie.close (tie.spec mul-result mul-result-2 add-result returns)

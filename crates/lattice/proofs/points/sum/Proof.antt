@@ -13,7 +13,8 @@ use Rattle.lattice.specs.Points.{normalOf, sumAt}
 use Rattle.lattice.proofs.points.sum.Tie as tie
 
 -- what `mix` asks, at two powers of 3
-asked : {x y s t : ℤ} {i j : ℕ} → SFits w32 x → SFits w32 y → s ≡ pos (3 ^ i) → t ≡ pos (3 ^ j) → i ≤ 7 → j ≤ 7 → natAbs x * 3 ^ i ≤ 1000000000 → natAbs y * 3 ^ j ≤ 1000000000 →
+asked : {x y s t : ℤ} {i j : ℕ} → SFits w32 x → SFits w32 y → s ≡ pos (3 ^ i) → t ≡ pos (3 ^ j) → i ≤ 7 → j ≤ 7 → natAbs x * 3 ^ i ≤ 1000000000
+    → natAbs y * 3 ^ j ≤ 1000000000 →
     natAbs (toZ w32 (ofZ w32 x)) * natAbs (toZ w32 (ofZ w32 s)) + natAbs (toZ w32 (ofZ w32 y)) * natAbs (toZ w32 (ofZ w32 t)) < 2147483648
 asked {i = i} {j = j} fx fy es et hi hj bx by = simp (toZ-ofZ fx, toZ-ofZ fy, es, et, toZ-ofZ (pow-fits i hi), toZ-ofZ (pow-fits j hj)) (omega arith)
 
@@ -49,7 +50,8 @@ mix-requires-2 : tie.Need-mix-requires-2
 mix-requires-2 c κs =
     let s = c .before .before .before .before .before .before .before .before in
     let e = c .before .before .before .before .before .before .before .deeper .ensures in
-    asked (small-b _ (s .pre .0)) (small-b _ (s .pre .1)) (c .before .before .before .before .before .before .power .ensures) (c .before .before .before .before .before .power2 .ensures)
+    asked (small-b _ (s .pre .0)) (small-b _ (s .pre .1)) (c .before .before .before .before .before .before .power .ensures)
+    (c .before .before .before .before .before .power2 .ensures)
     (omega arith) (omega arith)
     (small-high (s .args .p) _ (omega arith) (s .pre .0)) (small-high (s .args .q) _ (omega arith) (s .pre .1))
 
@@ -67,8 +69,10 @@ returns c =
     let mb = c .before .mix2 in
     let d = c .before .before .before .before .before .before .before .before .before .deeper in
     let e = d .ensures in
-    let ea = mixed (record { sfits = ma .ok }) (ma .ensures) (small-a p (s .pre .0)) (small-a q (s .pre .1)) (t3 .ensures) (t4 .ensures) (omega arith) (omega arith) in
-    let eb = mixed (record { sfits = mb .ok }) (mb .ensures) (small-b p (s .pre .0)) (small-b q (s .pre .1)) (t3 .ensures) (t4 .ensures) (omega arith) (omega arith) in
+    let ea = mixed (record { sfits = ma .ok }) (ma .ensures) (small-a p (s .pre .0)) (small-a q (s .pre .1)) (t3 .ensures) (t4 .ensures) (omega arith)
+    (omega arith) in
+    let eb = mixed (record { sfits = mb .ok }) (mb .ensures) (small-b p (s .pre .0)) (small-b q (s .pre .1)) (t3 .ensures) (t4 .ensures) (omega arith)
+    (omega arith) in
     c .normalise .ensures ∙ (λ i. normalOf (ea i) (eb i) (d .result)) ∙ ap (sumAt p q) e
 
 pub sum-spec : {M : Type 1} → statement M

@@ -17,11 +17,13 @@ class-requires c κs = search needs
 
 returns : tie.Need-returns
 unfolding birthOf
-returns c = let p = c .before .before .before .args .p in simp (eq-eqb (p .m .0) 0 (c .before .if1 .taken), eq-eqb (classOf p) 2 (sym (c .before .before .class .ensures) ∙ c .if2 .taken))
+returns c = let p = c .before .before .before .args .p in simp
+    (eq-eqb (p .m .0) 0 (c .before .if1 .taken), eq-eqb (classOf p) 2 (sym (c .before .before .class .ensures) ∙ c .if2 .taken))
 
 returns-2 : tie.Need-returns-2
 unfolding birthOf
-returns-2 c = let p = c .before .before .before .args .p in simp (eq-eqb (p .m .0) 0 (c .before .if1 .taken), ne-eqb (classOf p) 2 (λ e. c .if2 .left (c .before .before .class .ensures ∙ e)))
+returns-2 c = let p = c .before .before .before .args .p in simp
+    (eq-eqb (p .m .0) 0 (c .before .if1 .taken), ne-eqb (classOf p) 2 (λ e. c .if2 .left (c .before .before .class .ensures ∙ e)))
 
 left3-requires : tie.Need-left3-requires
 left3-requires c κs = search needs
@@ -37,14 +39,24 @@ unfolding birthOf
 returns-3 c =
     let q = c .before .before .before in
     let p = q .before .before .before .args .p in
-    simp (ne-eqb (p .m .0) 0 (q .before .if1 .left), eq-eqb (classOf p) 0 (sym (q .before .before .class .ensures) ∙ q .if3 .taken), eq-eqb (modZ (p .a) 3) 1 (sym (a-is (c .before)) ∙ c .if4 .taken))
+    simp (
+      ne-eqb (p .m .0) 0 (q .before .if1 .left),
+      eq-eqb (classOf p) 0 (sym (q .before .before .class .ensures) ∙ q .if3 .taken),
+      eq-eqb
+          (modZ (p .a) 3) 1 (sym (a-is (c .before)) ∙ c .if4 .taken),
+    )
 
 returns-4 : tie.Need-returns-4
 unfolding birthOf
 returns-4 c =
     let q = c .before .before .before in
     let p = q .before .before .before .args .p in
-    simp (ne-eqb (p .m .0) 0 (q .before .if1 .left), eq-eqb (classOf p) 0 (sym (q .before .before .class .ensures) ∙ q .if3 .taken), ne-eqb (modZ (p .a) 3) 1 (λ e. c .if4 .left (a-is (c .before) ∙ e)))
+    simp (
+      ne-eqb (p .m .0) 0 (q .before .if1 .left),
+      eq-eqb (classOf p) 0 (sym (q .before .before .class .ensures) ∙ q .if3 .taken),
+      ne-eqb
+          (modZ (p .a) 3) 1 (λ e. c .if4 .left (a-is (c .before) ∙ e)),
+    )
 
 returns-5 : tie.Need-returns-5
 unfolding birthOf

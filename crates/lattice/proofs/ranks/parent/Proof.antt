@@ -21,28 +21,25 @@ add-moved c = let p = c .before .args .p in omega (arith, birth-below p, c .birt
 rank-requires : tie.Need-rank-requires
 rank-requires c κs = search needs
 
-sub-moved : tie.Need-sub-moved
-sub-moved c = search needs
-
 moved-requires : tie.Need-moved-requires
 unfolding parentOf
 moved-requires c κs =
-    let s = c .before .before in
+    let s = c .before .before .before in
     let p = s .args .p in
-    let b = c .before .birth .ensures in
-    let r = c .rank .ensures in
+    let b = c .before .before .birth .ensures in
+    let r = c .before .rank .ensures in
     (s .pre .0, (omega (arith, birth-below p), (omega (arith, rank-top p), omega (arith, birth-parity p))))
 
 returns : tie.Need-returns
 unfolding parentOf
 returns c =
-    let s = c .before .before .before in
+    let s = c .before .before .before .before in
     let p = s .args .p in
-    let b = c .before .before .birth .ensures in
-    let r = c .before .rank .ensures in
+    let b = c .before .before .before .birth .ensures in
+    let r = c .before .before .rank .ensures in
     c .moved .ensures ∙ (λ i. moveOf p (b i + 4 * s .args .t) (r i - 1))
 
 pub parent-spec : {M : Type 1} → statement M
 parent-spec =
     tie.close
-    (tie.spec birth-requires mul-moved add-moved rank-requires sub-moved moved-requires returns)
+    (tie.spec birth-requires mul-moved add-moved rank-requires (λ c. search needs) moved-requires returns)

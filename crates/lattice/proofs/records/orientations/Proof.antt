@@ -16,7 +16,13 @@ returns-4 : tie.Need-returns-4
 returns-4 c = rw (c .match .keys4)
 
 returns-5 : tie.Need-returns-5
-returns-5 c = simp (ne-eqb (c .before .args .d) 3 (c .match .rest .0 .0 .0 .1), ne-eqb (c .before .args .d) 4 (c .match .rest .0 .0 .1), ne-eqb (c .before .args .d) 5 (c .match .rest .0 .1), ne-eqb (c .before .args .d) 6 (c .match .rest .1))
+returns-5 c = simp (
+  ne-eqb (c .before .args .d) 3 (c .match .rest .0 .0 .0 .1),
+  ne-eqb (c .before .args .d) 4 (c .match .rest .0 .0 .1),
+  ne-eqb
+      (c .before .args .d) 5 (c .match .rest .0 .1),
+  ne-eqb (c .before .args .d) 6 (c .match .rest .1),
+)
 
 pub orientations-spec : {M : Type 1} → statement M
 orientations-spec = tie.close (tie.spec returns returns-2 returns-3 returns-4 returns-5)

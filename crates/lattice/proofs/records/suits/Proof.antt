@@ -26,13 +26,23 @@ returns-4 : tie.Need-returns-4
 returns-4 c =
     let s = c .before .before .before .before in
     let h : s .args .k < orientationsOf (s .args .d) = subst (λ (n : ℕ). s .args .k < n) (c .before .before .orientations .ensures) (c .before .if3 .left) in
-    simp (ne-eqb (s .args .d) 0 (c .before .before .before .if1 .left), lt-ltb (s .args .k) (orientationsOf (s .args .d)) h, lt-leb (s .args .n) 12 (c .if4 .taken))
+    simp (
+      ne-eqb (s .args .d) 0 (c .before .before .before .if1 .left),
+      lt-ltb (s .args .k) (orientationsOf (s .args .d)) h,
+      lt-leb (s .args .n) 12
+          (c .if4 .taken),
+    )
 
 returns-5 : tie.Need-returns-5
 returns-5 c =
     let s = c .before .before .before .before in
     let h : s .args .k < orientationsOf (s .args .d) = subst (λ (n : ℕ). s .args .k < n) (c .before .before .orientations .ensures) (c .before .if3 .left) in
-    simp (ne-eqb (s .args .d) 0 (c .before .before .before .if1 .left), lt-ltb (s .args .k) (orientationsOf (s .args .d)) h, le-leb (s .args .n) 12 (c .if4 .left))
+    simp (
+      ne-eqb (s .args .d) 0 (c .before .before .before .if1 .left),
+      lt-ltb (s .args .k) (orientationsOf (s .args .d)) h,
+      le-leb (s .args .n) 12
+          (c .if4 .left),
+    )
 
 pub suits-spec : {M : Type 1} → statement M
 suits-spec = tie.close (tie.spec returns returns-2 orientations-requires returns-3 returns-4 returns-5)

@@ -39,7 +39,8 @@ returns-3 c =
 in-range-requires-2 : tie.Need-in-range-requires-2
 in-range-requires-2 c κs = search needs
 
-b-tested : (c : tie.After-in-range2) → within (c .before .before .before .before .before .before .args .b) (c .before .before .before .before .before .before .args .m) ≡ c .in-range2 .result
+b-tested : (c : tie.After-in-range2) → within (c .before .before .before .before .before .before .args .b)
+    (c .before .before .before .before .before .before .args .m) ≡ c .in-range2 .result
 b-tested c = let s = c .before .before .before .before .before .before in asked (λ z. within z (s .args .m)) (s .fits .b) (c .in-range2 .ensures)
 
 returns-4 : tie.Need-returns-4
@@ -48,7 +49,13 @@ returns-4 c =
     let q = r .before .before in
     let e = q .before in
     let p = e .before .before in
-    simp (normal-tested p ∙ not-false _ (e .before .if1 .left), le-leb (p .before .args .m) 6 (e .if2 .left), a-tested q ∙ not-false _ (r .before .if3 .left), b-tested r ∙ not-true _ (c .if4 .taken))
+    simp (
+      normal-tested p ∙ not-false _ (e .before .if1 .left),
+      le-leb (p .before .args .m) 6 (e .if2 .left),
+      a-tested q
+          ∙ not-false _ (r .before .if3 .left),
+      b-tested r ∙ not-true _ (c .if4 .taken),
+    )
 
 suits-requires : tie.Need-suits-requires
 suits-requires c κs = search needs
@@ -61,7 +68,13 @@ returns-5 c =
     let e = q .before in
     let p = e .before .before in
     c .suits .ensures
-    ∙ simp (normal-tested p ∙ not-false _ (e .before .if1 .left), le-leb (p .before .args .m) 6 (e .if2 .left), a-tested q ∙ not-false _ (r .before .if3 .left), b-tested r ∙ not-false _ (o .if4 .left))
+    ∙ simp (
+      normal-tested p ∙ not-false _ (e .before .if1 .left),
+      le-leb (p .before .args .m) 6 (e .if2 .left),
+      a-tested q
+          ∙ not-false _ (r .before .if3 .left),
+      b-tested r ∙ not-false _ (o .if4 .left),
+    )
 
 pub valid-at-spec : {M : Type 1} → statement M
 valid-at-spec = tie.close (tie.spec is-normal-requires returns returns-2 in-range-requires returns-3 in-range-requires-2 returns-4 suits-requires returns-5)

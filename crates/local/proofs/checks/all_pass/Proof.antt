@@ -27,7 +27,8 @@ returns c =
     let l = j .before .before in
     let s = l .before .before in
     let h : l .loop .i < slotsOf (s .args .t .now) = omega (arith, j .before .loop-test .taken, s .pre .1) in
-    passes-failed (s .args .t .now) (l .loop .i) h (ap (λ (v : Judged). v .passes) (sym (j .judge .ensures)) ∙ not-true (j .judge .result .passes) (c .if1 .taken))
+    passes-failed (s .args .t .now) (l .loop .i) h
+    (ap (λ (v : Judged). v .passes) (sym (j .judge .ensures)) ∙ not-true (j .judge .result .passes) (c .if1 .taken))
 
 loop-again : tie.Need-loop-again Inv-loop μ-loop
 loop-again c =

@@ -13,7 +13,8 @@ use Rattle.local.proofs.checks.judge.Tie as tie
 
 -- what was read, judged
 module _ (c : tie.After-read-slot) where
-  at-slot : (x : Slot) → c .read-slot .result ≡ x → judgedSlot (c .before .before .args .t .now) x ≡ judgedAt (c .before .before .args .t .now) (c .before .before .args .i)
+  at-slot : (x : Slot) → c .read-slot .result ≡ x
+      → judgedSlot (c .before .before .args .t .now) x ≡ judgedAt (c .before .before .args .t .now) (c .before .before .args .i)
   unfolding judgedAt
   at-slot x e = ap (judgedSlot (c .before .before .args .t .now)) (sym e ∙ c .read-slot .ensures)
 

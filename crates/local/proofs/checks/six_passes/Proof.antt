@@ -1,9 +1,8 @@
 -- `local::six_passes` meets its promise. Assumes nothing.
 use mathlib.Core.Path.{_∙_}
 use native.Mathlib.Omega.{arith}
-use Rattle.laws.specs.Each.{true-fact}
+use Rattle.laws.specs.Choices.{of-true}
 use Rattle.lattice.specs.RecordLaws.{inner}
-use Rattle.lattice.specs.Records.{validOf}
 use Rattle.local.specs.Sheet.{sheetOf}
 use Rattle.local.specs.BornLaws.{valid-depth}
 use Rattle.local.specs.PlaceLaws.{six-other, six-low, six-high}
@@ -18,20 +17,20 @@ rank-requires c κs = let s = c .before .before .before .before in omega (arith,
 
 returns-2 : tie.Need-returns-2
 returns-2 c =
-    let k = c .before .before in
+    let k = c .before .before .before in
     let l = k .before in
     let a = l .before .before .before .before .args in
     six-low (sheetOf (a .t .now)) (a .r) (l .if1 .left) (omega (arith, k .rank .ensures, c .if2 .taken))
 
 adjacents-there-requires : tie.Need-adjacents-there-requires
 adjacents-there-requires c κs =
-    let l = c .before .before .before in
+    let l = c .before .before .before .before in
     let s = l .before .before .before .before in
-    (s .pre .0, (inner (s .args .r) (true-fact (validOf (s .args .r)) (s .pre .1)) (λ e. omega (arith, l .if1 .left)), l .if1 .left))
+    (s .pre .0, (inner (s .args .r) (of-true (s .pre .1)) (λ e. omega (arith, l .if1 .left)), l .if1 .left))
 
 returns-3 : tie.Need-returns-3
 returns-3 c =
-    let k = c .before .before .before in
+    let k = c .before .before .before .before in
     let l = k .before in
     let a = l .before .before .before .before .args in
     c .adjacents-there .ensures ∙ six-high (sheetOf (a .t .now)) (a .r) (l .if1 .left) (omega (arith, k .rank .ensures, c .before .if2 .left))

@@ -3,14 +3,14 @@ use borrow.Author.Needs.{needs}
 use mathlib.Core.Path.{_≡_, sym, _∙_, ap}
 use mathlib.Core.Bool.{Bool, true}
 use mathlib.Core.List.{List}
-use Prim.Native.Nat.{ℕ, _≤_, _<_, _-_}
+use Prim.Native.Nat.{ℕ, _≤_, _-_}
 use native.Mathlib.Omega.{arith}
 use Rattle.laws.specs.Rules.{upto}
 use Rattle.laws.specs.Each.{upto-more, upto-fails}
 use Rattle.lattice.specs.Stars.{adjacentAt}
 use Rattle.lattice.specs.declared.records.Record.{Record}
 use Rattle.growth.specs.Local.{there}
-use Rattle.local.specs.Sheet.{sheetOf}
+use Rattle.local.specs.Sheet.{sheetOf, held-there}
 use Rattle.local.proofs.lookups.adjacents_there.Statement.{statement}
 use Rattle.local.proofs.lookups.adjacents_there.Tie as tie
 
@@ -23,20 +23,29 @@ Inv-loop t r n j₀ j = (j ≤ 6) × (upto j (thereAt t r) ≡ true)
 abbrev μ-loop : tie.MeasureT-loop
 μ-loop t r n j₀ j = 6 - j
 
+-- whether the adjacent at hand is there
+module _ (c : tie.After-is-there Inv-loop μ-loop) where
+  abbrev l : tie.At-loop Inv-loop μ-loop
+  l = c .before .before .before
+
+  abbrev t : List ℕ
+  t = l .before .before .args .t .now
+
+  abbrev r : Record
+  r = l .before .before .args .r
+
+  here : c .is-there .result ≡ thereAt t r (l .loop .j)
+  here = c .is-there .ensures ∙ held-there t (c .before .adjacent-of .ensures)
+
 loop-again : tie.Need-loop-again Inv-loop μ-loop
 loop-again c =
-    let p = c .before in
-    let l = p .before .before in
-    let a = l .before .before .args in
-    (search needs, upto-more (thereAt (a .t .now) (a .r)) (l .loop .j) (l .loop .inv .1) (sym (p .adjacent-there .ensures) ∙ c .if1 .taken))
+    let k = c .before in
+    (search needs, upto-more (thereAt (t k) (r k)) (l k .loop .j) (l k .loop .inv .1) (sym (here k) ∙ c .if1 .taken))
 
 returns : tie.Need-returns Inv-loop μ-loop
 returns c =
-    let p = c .before in
-    let l = p .before .before in
-    let a = l .before .before .args in
-    let h : l .loop .j < 6 = omega (arith, p .before .loop-test .taken) in
-    sym (upto-fails (thereAt (a .t .now) (a .r)) (l .loop .j) 6 h (sym (p .adjacent-there .ensures) ∙ c .if1 .left))
+    let k = c .before in
+    sym (upto-fails (thereAt (t k) (r k)) (l k .loop .j) 6 (k .before .before .loop-test .taken) (sym (here k) ∙ c .if1 .left))
 
 returns-2 : tie.Need-returns-2 Inv-loop μ-loop
 returns-2 c =
@@ -52,6 +61,7 @@ adjacents-there-spec =
     Inv-loop
     μ-loop
     (λ c. search needs)
+    (λ c κs. search needs)
     (λ c κs. search needs)
     (λ c. search needs)
     (λ c. search needs)

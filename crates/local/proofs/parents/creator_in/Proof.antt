@@ -16,27 +16,27 @@ late e f h = omega arith
 
 returns : tie.Need-returns
 returns c =
-    let q = c .before in
-    let s = q .before .before in
+    let q = c .before .before in
+    let s = q .before .before .before in
     let a = s .before .args in
     creator-first (a .p) (a .s) (early (q .rank2 .ensures) (s .rank .ensures) (c .if1 .taken))
 
 returns-2 : tie.Need-returns-2
 returns-2 c =
-    let u = c .before in
+    let u = c .before .before in
     let l = u .before .before in
-    let q = l .before in
-    let s = q .before .before in
+    let q = l .before .before in
+    let s = q .before .before .before in
     let a = s .before .args in
     creator-second (a .p) (a .s) (late (q .rank2 .ensures) (s .rank .ensures) (l .if1 .left)) (early (u .rank3 .ensures) (s .rank .ensures) (c .if2 .taken))
 
 returns-3 : tie.Need-returns-3
 returns-3 c =
     let v = c .before in
-    let u = v .before in
+    let u = v .before .before in
     let l = u .before .before in
-    let q = l .before in
-    let s = q .before .before in
+    let q = l .before .before in
+    let s = q .before .before .before in
     let a = s .before .args in
     creator-third (a .p) (a .s) (late (q .rank2 .ensures) (s .rank .ensures) (l .if1 .left)) (late (u .rank3 .ensures) (s .rank .ensures) (v .if2 .left))
 

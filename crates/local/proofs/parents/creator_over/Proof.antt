@@ -7,7 +7,7 @@ use Rattle.local.proofs.parents.creator_over.Statement.{statement}
 use Rattle.local.proofs.parents.creator_over.Tie as tie
 
 returns : tie.Need-returns
-returns c = c .is-split .ensures ∙ (λ i. split (c .before .rank .ensures i - 2) (c .before .before .creator-in .ensures i))
+returns c = c .is-split .ensures ∙ (λ i. split (c .before .before .rank .ensures i - 2) (c .before .before .before .creator-in .ensures i))
 
 pub creator-over-spec : {M : Type 1} → statement M
 creator-over-spec =

@@ -39,17 +39,19 @@ module _ (c : tie.After-parents-of) where
   abbrev whole : Bool
   whole = eqb (ringOf (sheetOf (start .args .t .now)) (start .args .r .at) 2) 3
 
-  by : (allThere s && whole) && toldIn (start .args .r) s ≡ starred (centreTest (sheetOf (start .args .t .now)) (start .args .r)) (sheetOf (start .args .t .now)) (start .args .r)
+  by : (allThere s && whole) && toldIn (start .args .r) s ≡ starred (centreTest (sheetOf (start .args .t .now)) (start .args .r))
+      (sheetOf (start .args .t .now)) (start .args .r)
   by = centre-by (start .args .t .now) (start .args .r) s (c .parents-of .ensures) (c .before .if1 .left) (start .pre .1 .0) (start .pre .1 .1)
 
 returns-2 : tie.Need-returns-2
 returns-2 c =
     let v = c .before in
     let p = v .before in
-    first-fails (allThere (s p)) (whole p) (toldIn (start p .args .r) (s p)) (sym (v .all-there .ensures) ∙ not-true (v .all-there .result) (c .if2 .taken)) ∙ by p
+    first-fails (allThere (s p)) (whole p) (toldIn (start p .args .r) (s p)) (sym (v .all-there .ensures) ∙ not-true (v .all-there .result) (c .if2 .taken))
+    ∙ by p
 
-ring-requires : tie.Need-ring-requires
-ring-requires c κs =
+ring-count-requires : tie.Need-ring-count-requires
+ring-count-requires c κs =
     let b = start (c .before .before) in
     (b .pre .0 .0, (valid-small (b .args .r) (b .pre .0 .1), (lit< tt, omega arith)))
 
@@ -61,7 +63,8 @@ returns-3 c =
     let v = c .before in
     let l = v .before in
     let p = l .before .before in
-    second-fails (allThere (s p)) (whole p) (toldIn (start p .args .r) (s p)) (all-are l) (ne-eqb _ 3 (λ e. c .if3 .taken (v .ring .ensures .0 ∙ e))) ∙ by p
+    second-fails (allThere (s p)) (whole p) (toldIn (start p .args .r) (s p)) (all-are l) (ne-eqb _ 3 (λ e. c .if3 .taken (v .ring-count .ensures .0 ∙ e)))
+    ∙ by p
 
 as-told-requires : tie.Need-as-told-requires
 as-told-requires c κs =
@@ -75,7 +78,8 @@ returns-4 c =
     let l = v .before in
     let p = l .before .before in
     c .as-told .ensures
-    ∙ third-decides (allThere (s p)) (whole p) (toldIn (start p .args .r) (s p)) (all-are l) (eq-eqb _ 3 (sym (v .ring .ensures .0) ∙ e .if3 .left)) ∙ by p
+    ∙ third-decides (allThere (s p)) (whole p) (toldIn (start p .args .r) (s p)) (all-are l) (eq-eqb _ 3 (sym (v .ring-count .ensures .0) ∙ e .if3 .left))
+    ∙ by p
 
 pub centre-passes-spec : {M : Type 1} → statement M
 centre-passes-spec =
@@ -85,7 +89,7 @@ centre-passes-spec =
     parents-of-requires
     (λ c κs. search needs)
     returns-2
-    ring-requires
+    ring-count-requires
     returns-3
     as-told-requires
     returns-4)

@@ -16,13 +16,13 @@ use Rattle.local.specs.PlaceLaws.{corner-by}
 use Rattle.local.proofs.places.corner_passes.Statement.{statement}
 use Rattle.local.proofs.places.corner_passes.Tie as tie
 
-ring-requires : tie.Need-ring-requires
-ring-requires c κs =
+ring-count-requires : tie.Need-ring-count-requires
+ring-count-requires c κs =
     let s = c .before .before .before .before in
     let e = turn-even (c .before .class .result) in
     (s .pre .0 .0, (valid-small (s .args .r) (s .pre .0 .1), (omega (arith, c .turn .ensures), omega (arith, c .turn .ensures))))
 
-module _ (c : tie.After-ring) where
+module _ (c : tie.After-ring-count) where
   abbrev start : tie.Start
   start = c .before .before .before .before .before
 
@@ -35,8 +35,8 @@ module _ (c : tie.After-ring) where
   abbrev h : ℕ
   h = ringOf R (start .args .r .at) (turnOf (classOf (start .args .r .at)))
 
-  number : c .ring .result ≡ h
-  number = c .ring .ensures .0 ∙ ap (ringOf R (start .args .r .at)) (c .before .turn .ensures ∙ ap turnOf (c .before .before .class .ensures))
+  number : c .ring-count .result ≡ h
+  number = c .ring-count .ensures .0 ∙ ap (ringOf R (start .args .r .at)) (c .before .turn .ensures ∙ ap turnOf (c .before .before .class .ensures))
 
   by : ringed h (eqb d 0) && (eqb d 0 || starTest R (start .args .r)) ≡ starred (cornerTest R (start .args .r)) R (start .args .r)
   by = corner-by (start .args .t .now) (start .args .r)
@@ -74,7 +74,7 @@ corner-passes-spec =
     (tie.spec
     (λ c κs. search needs)
     (λ c κs. search needs)
-    ring-requires
+    ring-count-requires
     returns
     returns-2
     returns-3

@@ -10,8 +10,8 @@ use Rattle.growth.specs.Local.{deepTest}
 use Rattle.local.specs.Sheet.{sheetOf}
 use Rattle.local.specs.Places.{starred}
 use Rattle.local.specs.declared.parents.Parents.{Parents}
-use Rattle.local.specs.Parents.{Ranked, allThere, creatorOver, toldIn}
-use Rattle.local.specs.ParentLaws.{parents-ranked}
+use Rattle.local.specs.Parents.{Shallow, allThere, creatorOver, toldIn}
+use Rattle.local.specs.ParentLaws.{parents-shallow}
 use Rattle.local.specs.BornLaws.{valid-depth, valid-born, rank-deep}
 use Rattle.local.specs.PlaceLaws.{first-fails, second-fails, third-decides, deep-boundary, deep-by}
 use Rattle.local.proofs.places.deep_passes.Statement.{statement}
@@ -36,21 +36,23 @@ module _ (c : tie.After-parents-of) where
   abbrev s : Parents
   s = c .parents-of .result
 
-  by : (allThere s && creatorOver (start .args .r .at) s) && toldIn (start .args .r) s ≡ starred (deepTest (sheetOf (start .args .t .now)) (start .args .r)) (sheetOf (start .args .t .now)) (start .args .r)
+  by : (allThere s && creatorOver (start .args .r .at) s) && toldIn (start .args .r) s ≡ starred (deepTest (sheetOf (start .args .t .now)) (start .args .r))
+      (sheetOf (start .args .t .now)) (start .args .r)
   by = deep-by (start .args .t .now) (start .args .r) s (c .parents-of .ensures) (c .before .if1 .left) (start .pre .1)
 
 returns-2 : tie.Need-returns-2
 returns-2 c =
     let v = c .before in
     let p = v .before in
-    first-fails (allThere (s p)) (creatorOver (start p .args .r .at) (s p)) (toldIn (start p .args .r) (s p)) (sym (v .all-there .ensures) ∙ not-true (v .all-there .result) (c .if2 .taken)) ∙ by p
+    first-fails (allThere (s p)) (creatorOver (start p .args .r .at) (s p))
+    (toldIn (start p .args .r) (s p)) (sym (v .all-there .ensures) ∙ not-true (v .all-there .result) (c .if2 .taken)) ∙ by p
 
 creator-over-requires : tie.Need-creator-over-requires
 creator-over-requires c κs =
     let p = c .before .before in
     let a = start p .args in
     let d = valid-depth (a .r) (start p .pre .0 .1) in
-    (d, (deep (start p), subst Ranked (sym (p .parents-of .ensures)) (parents-ranked (a .t .now) (a .r .at) d)))
+    (d, (deep (start p), subst Shallow (sym (p .parents-of .ensures)) (parents-shallow (a .t .now) (a .r .at) d)))
 
 all-are : (c : tie.Else2) → allThere (s (c .before .before)) ≡ true
 all-are c = sym (c .before .all-there .ensures) ∙ not-false (c .before .all-there .result) (c .if2 .left)

@@ -12,7 +12,10 @@ look-up-request-requires : tie.Need-look-up-request-requires
 look-up-request-requires c κs = search needs
 
 -- what stands at the request's point
-looked : (c : tie.After-look-up-request) → c .look-up-request .result ≡ lookUp (c .before .before .before .args .t .now) (normalOf (c .before .before .before .args .a) (c .before .before .before .args .b) (c .before .before .before .args .m))
+looked : (c : tie.After-look-up-request)
+    → c .look-up-request .result
+    ≡ lookUp (c .before .before .before .args .t .now)
+    (normalOf (c .before .before .before .args .a) (c .before .before .before .args .b) (c .before .before .before .args .m))
 looked c =
     let s = c .before .before .before in
     c .look-up-request .ensures ∙ (λ i. lookUp (s .args .t .now) (normalOf (toZ-ofZ (s .fits .a) i) (toZ-ofZ (s .fits .b) i) (s .args .m)))

@@ -60,7 +60,8 @@ read c = toZ-ofZ (record { sfits = c .m .given })
 returns : tie.Need-returns
 returns c =
     let s = c .before .before .before .before .before .args in
-    outcome-parts (triple-3 (s .t .now) (s .points .now) (s .i) (below-byte (M (c .before)) (ap (λ (z : ℤ). ltZ z (pos 0)) (sym (read (c .before))) ∙ c .if1 .taken)))
+    outcome-parts (triple-3 (s .t .now) (s .points .now) (s .i)
+    (below-byte (M (c .before)) (ap (λ (z : ℤ). ltZ z (pos 0)) (sym (read (c .before))) ∙ c .if1 .taken)))
 
 returns-2 : tie.Need-returns-2
 returns-2 c =

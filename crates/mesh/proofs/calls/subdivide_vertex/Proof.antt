@@ -17,7 +17,8 @@ use Rattle.table.specs.MapLaws.{room}
 use Rattle.mesh.proofs.calls.subdivide_vertex.Statement.{statement}
 use Rattle.mesh.specs.SubdivideLaws.{Ready, Whole}
 use Rattle.mesh.specs.WriteLaws.{ready-turn}
-use Rattle.mesh.specs.CallLaws.{standing-ready, centre-inner, vertex-4, vertex-5, outcome-parts, vertex-6, vertex-7-old, vertex-7-new, vertex-8, ready-whole, vertex-0}
+use Rattle.mesh.specs.CallLaws.{standing-ready, centre-inner, vertex-4, vertex-5, outcome-parts, vertex-6, vertex-7-old, vertex-7-new, vertex-8}
+use Rattle.mesh.specs.CallLaws.{ready-whole, vertex-0}
 use Rattle.mesh.specs.Subdivide.{newFits}
 use Rattle.mesh.proofs.calls.subdivide_vertex.Tie as tie
 
@@ -28,7 +29,8 @@ ready c = let s = c .before .before .before in standing-ready (s .args .t .now) 
 inside : (c : tie.After-centre) → Inner (c .centre .result) × (c .centre .result .d ≡ 6)
 inside c =
     let s = c .before .before .before .before in
-    subst (λ (r : Record). Inner r × (r .d ≡ 6)) (sym (c .centre .ensures)) (centre-inner (s .args .t .now) (s .args .v) (ready (c .before)), c .before .before .if1 .left)
+    subst (λ (r : Record). Inner r × (r .d ≡ 6)) (sym (c .centre .ensures))
+    (centre-inner (s .args .t .now) (s .args .v) (ready (c .before)), c .before .before .if1 .left)
 
 returns : tie.Need-returns
 returns c = let s = c .before .before in outcome-parts (vertex-4 (s .args .t .now) (s .args .v) (c .if1 .taken))
@@ -46,7 +48,10 @@ none-deeper-requires c κs = inside c
 shallow : (c : tie.After-none-deeper) → c .none-deeper .result ≡ upto 6 (λ j. leb (newOf (c .before .before .before .before .before .args .v) j .at .m .0) 6)
 shallow c = c .none-deeper .ensures ∙ ap (λ (r : Record). upto 6 (λ j. leb (adjacentAt r j .m .0) 6)) (c .before .centre .ensures)
 
-fresh : (c : tie.After-all-absent) → c .all-absent .result ≡ upto 6 (newFits (c .before .before .before .before .before .before .before .before .before .before .before .args .t .now) (c .before .before .before .before .before .before .before .before .before .before .before .args .v))
+fresh : (c : tie.After-all-absent)
+    → c .all-absent .result
+    ≡ upto 6 (newFits (c .before .before .before .before .before .before .before .before .before .before .before .args .t .now)
+    (c .before .before .before .before .before .before .before .before .before .before .before .args .v))
 fresh c =
     let k = c .before .before .before .before .before .before in
     let s = k .before .before .before .before .before in
@@ -75,7 +80,8 @@ returns-4 c =
     let k = g .before in
     let e = k .before .before in
     let s = e .before .before .before in
-    outcome-parts (vertex-7-old (s .args .t .now) (s .args .v) (e .before .if1 .left) (e .if2 .left) (sym (shallow k) ∙ not-false _ (g .if3 .left)) (sym (a .adjacents-fit .ensures) ∙ not-true _ (c .if4 .taken)))
+    outcome-parts (vertex-7-old (s .args .t .now) (s .args .v) (e .before .if1 .left) (e .if2 .left)
+    (sym (shallow k) ∙ not-false _ (g .if3 .left)) (sym (a .adjacents-fit .ensures) ∙ not-true _ (c .if4 .taken)))
 
 all-absent-requires : tie.Need-all-absent-requires
 all-absent-requires c κs =
@@ -95,7 +101,9 @@ returns-5 c =
     let k = g .before in
     let e = k .before .before in
     let s = e .before .before .before in
-    outcome-parts (vertex-7-new (s .args .t .now) (s .args .v) (e .before .if1 .left) (e .if2 .left) (sym (shallow k) ∙ not-false _ (g .if3 .left)) (sym (a .adjacents-fit .ensures) ∙ not-false _ (h .if4 .left)) (sym (fresh b) ∙ not-true _ (c .if5 .taken)))
+    outcome-parts (vertex-7-new (s .args .t .now) (s .args .v) (e .before .if1 .left) (e .if2 .left)
+    (sym (shallow k) ∙ not-false _ (g .if3 .left))
+    (sym (a .adjacents-fit .ensures) ∙ not-false _ (h .if4 .left)) (sym (fresh b) ∙ not-true _ (c .if5 .taken)))
 
 same-length-3 : tie.Need-same-length-3
 same-length-3 c = search needs
@@ -111,10 +119,14 @@ returns-6 c =
     let e = k .before .before in
     let s = e .before .before .before in
     let few : freeSlots (s .args .t .now) < 6 = subst (λ (n : ℕ). n < 6) (s .pre .1 .1) (c .if6 .taken) in
-    outcome-parts (vertex-8 (s .args .t .now) (s .args .v) (e .before .if1 .left) (e .if2 .left) (sym (shallow k) ∙ not-false _ (g .if3 .left)) (sym (a .adjacents-fit .ensures) ∙ not-false _ (h .if4 .left)) (sym (fresh b) ∙ not-false _ (f .if5 .left)) few)
+    outcome-parts (vertex-8 (s .args .t .now) (s .args .v) (e .before .if1 .left) (e .if2 .left)
+    (sym (shallow k) ∙ not-false _ (g .if3 .left))
+    (sym (a .adjacents-fit .ensures) ∙ not-false _ (h .if4 .left)) (sym (fresh b) ∙ not-false _ (f .if5 .left)) few)
 
 -- past all of them
-passed : (c : tie.Else6) → Whole (c .before .before .before .before .before .before .before .before .before .before .before .before .before .args .t .now) (c .before .before .before .before .before .before .before .before .before .before .before .before .before .args .v)
+passed : (c : tie.Else6)
+    → Whole (c .before .before .before .before .before .before .before .before .before .before .before .before .before .args .t .now)
+    (c .before .before .before .before .before .before .before .before .before .before .before .before .before .args .v)
 passed c =
     let f = c .before in
     let b = f .before in
@@ -127,7 +139,8 @@ passed c =
     ready-whole t (s .args .v) (ready e) (sym (a .adjacents-fit .ensures) ∙ not-false _ (h .if4 .left)) (sym (fresh b) ∙ not-false _ (f .if5 .left)) room
 
 divide-requires : tie.Need-divide-requires
-divide-requires c κs = (c .before .before .before .before .before .before .before .before .before .before .before .before .before .before .pre .0, passed (c .before))
+divide-requires c κs =
+    (c .before .before .before .before .before .before .before .before .before .before .before .before .before .before .pre .0, passed (c .before))
 
 same-length-4 : tie.Need-same-length-4
 same-length-4 c = search needs
@@ -146,7 +159,9 @@ returns-7 c =
     let s = e .before .before .before in
     let t = s .args .t .now in
     let v = s .args .v in
-    let p = outcome-parts (vertex-0 t v (e .before .if1 .left) (e .if2 .left) (sym (shallow k) ∙ not-false _ (g .if3 .left)) (sym (a .adjacents-fit .ensures) ∙ not-false _ (h .if4 .left)) (sym (fresh b) ∙ not-false _ (f .if5 .left)) (passed x .room)) in
+    let p = outcome-parts
+    (vertex-0 t v (e .before .if1 .left) (e .if2 .left) (sym (shallow k) ∙ not-false _ (g .if3 .left))
+    (sym (a .adjacents-fit .ensures) ∙ not-false _ (h .if4 .left)) (sym (fresh b) ∙ not-false _ (f .if5 .left)) (passed x .room)) in
     (p .0, w .divide .ensures ∙ p .1)
 
 pub subdivide-vertex-spec : {M : Type 1} → statement M

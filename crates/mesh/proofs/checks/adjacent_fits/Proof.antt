@@ -21,7 +21,9 @@ look-up-requires : tie.Need-look-up-requires
 look-up-requires c κs = search needs
 
 -- what stands at the place
-looked : (c : tie.After-look-up) → c .look-up .result ≡ lookUp (c .before .before .before .before .args .t .now) (adjacentAt (c .before .before .before .before .args .v) (c .before .before .before .before .args .j))
+looked : (c : tie.After-look-up)
+    → c .look-up .result ≡ lookUp (c .before .before .before .before .args .t .now)
+    (adjacentAt (c .before .before .before .before .args .v) (c .before .before .before .before .args .j))
 looked c = c .look-up .ensures ∙ ap (lookUp (c .before .before .before .before .args .t .now)) (c .before .adjacent-of .ensures)
 
 enum-told : tie.Need-enum-told
@@ -42,7 +44,9 @@ accepts-requires c κs =
     omega arith
 
 returns : tie.Need-returns
-returns c = ap (fitsAt (c .before .before .before .before .before .before .args .v) (c .before .before .before .before .before .before .args .j)) (sym (c .enum-told .given .1) ∙ looked (c .before .before))
+returns c =
+    ap (fitsAt (c .before .before .before .before .before .before .args .v) (c .before .before .before .before .before .before .args .j))
+    (sym (c .enum-told .given .1) ∙ looked (c .before .before))
 
 returns-2 : tie.Need-returns-2
 returns-2 c =

@@ -1,12 +1,14 @@
 -- `mesh::checks::all_absent` meets its promise. Assumes nothing.
 use mathlib.Core.Path.{_≡_, refl, sym, _∙_, ap}
-use mathlib.Core.Bool.{true, not}
+use mathlib.Core.Bool.{Bool, true, false, not}
+use mathlib.Core.List.{List}
 use Prim.Native.Nat.{ℕ, _≤_, _-_}
 use native.Mathlib.Omega.{arith}
 use borrow.Author.Needs.{needs}
 use Rattle.laws.specs.Each.{upto-more, upto-fails}
 use Rattle.laws.specs.Rules.{upto}
 use Rattle.lattice.specs.Stars.{adjacentAt}
+use Rattle.lattice.specs.declared.records.Record.{Record}
 use Rattle.table.specs.Entries.{holds}
 use Rattle.mesh.proofs.checks.all_absent.Statement.{statement}
 use Rattle.mesh.proofs.checks.all_absent.Tie as tie
@@ -20,8 +22,11 @@ abbrev μ-loop : tie.MeasureT-loop
 loop-holds : tie.Need-loop-holds Inv-loop μ-loop
 loop-holds c = (search needs, refl)
 
-absent-at-requires : tie.Need-absent-at-requires Inv-loop μ-loop
-absent-at-requires c κs = search needs
+adjacent-of-requires : tie.Need-adjacent-of-requires Inv-loop μ-loop
+adjacent-of-requires c κs = search needs
+
+is-there-requires : tie.Need-is-there-requires Inv-loop μ-loop
+is-there-requires c κs = search needs
 
 add-j : tie.Need-add-j Inv-loop μ-loop
 add-j c = search needs
@@ -29,19 +34,29 @@ add-j c = search needs
 loop-less : tie.Need-loop-less Inv-loop μ-loop
 loop-less c = search needs
 
-loop-again : tie.Need-loop-again Inv-loop μ-loop
-loop-again c =
-    let p = c .before in
-    let l = p .before .before in
-    let a = l .before .before .args in
-    (search needs, upto-more (λ i. not (holds (a .t .now) (adjacentAt (a .c) i))) (l .loop .j) (l .loop .inv .1) (sym (p .absent-at .ensures) ∙ c .if1 .taken))
+-- what was told of the place at hand
+module _ (c : tie.After-is-there Inv-loop μ-loop) where
+  abbrev l : tie.At-loop Inv-loop μ-loop
+  l = c .before .before .before
+
+  abbrev t : List ℕ
+  t = l .before .before .args .t .now
+
+  abbrev star : Record
+  star = l .before .before .args .c
+
+  told : (b : Bool) → c .is-there .result ≡ b → not (holds t (adjacentAt star (l .loop .j))) ≡ not b
+  told b e = ap not (ap (holds t) (sym (c .before .adjacent-of .ensures)) ∙ sym (c .is-there .ensures) ∙ e)
 
 returns : tie.Need-returns Inv-loop μ-loop
 returns c =
-    let p = c .before in
-    let l = p .before .before in
-    let a = l .before .before .args in
-    sym (upto-fails (λ i. not (holds (a .t .now) (adjacentAt (a .c) i))) (l .loop .j) 6 (p .before .loop-test .taken) (sym (p .absent-at .ensures) ∙ c .if1 .left))
+    let k = c .before in
+    sym (upto-fails (λ i. not (holds (t k) (adjacentAt (star k) i))) (l k .loop .j) 6 (k .before .before .loop-test .taken) (told k true (c .if1 .taken)))
+
+loop-again : tie.Need-loop-again Inv-loop μ-loop
+loop-again c =
+    let k = c .before in
+    (search needs, upto-more (λ i. not (holds (t k) (adjacentAt (star k) i))) (l k .loop .j) (l k .loop .inv .1) (told k false (c .if1 .left)))
 
 returns-2 : tie.Need-returns-2 Inv-loop μ-loop
 returns-2 c =
@@ -57,9 +72,10 @@ all-absent-spec =
     Inv-loop
     μ-loop
     loop-holds
-    absent-at-requires
+    adjacent-of-requires
+    is-there-requires
+    returns
     add-j
     loop-less
     loop-again
-    returns
     returns-2)

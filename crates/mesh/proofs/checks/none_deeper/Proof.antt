@@ -35,15 +35,19 @@ loop-again : tie.Need-loop-again Inv-loop μ-loop
 loop-again c =
     let p = c .before .before in
     let l = p .before .before in
-    let v = l .before .args .c in
-    (search needs, upto-more (λ i. leb (adjacentAt (v) i .m .0) 6) (l .loop .j) (l .loop .inv .1) (ap (λ (q : Point). leb (q .m .0) 6) (sym (p .adjacent-of .ensures)) ∙ le-leb _ 6 (c .if1 .taken)))
+    let v = l .before .args .c in (
+      search needs,
+      upto-more (λ i. leb (adjacentAt (v) i .m .0) 6) (l .loop .j) (l .loop .inv .1)
+          (ap (λ (q : Point). leb (q .m .0) 6) (sym (p .adjacent-of .ensures)) ∙ le-leb _ 6 (c .if1 .taken)),
+    )
 
 returns : tie.Need-returns Inv-loop μ-loop
 returns c =
     let p = c .before .before in
     let l = p .before .before in
     let v = l .before .args .c in
-    sym (upto-fails (λ i. leb (adjacentAt (v) i .m .0) 6) (l .loop .j) 6 (p .before .loop-test .taken) (ap (λ (q : Point). leb (q .m .0) 6) (sym (p .adjacent-of .ensures)) ∙ lt-leb _ 6 (c .if1 .left)))
+    sym (upto-fails (λ i. leb (adjacentAt (v) i .m .0) 6) (l .loop .j) 6 (p .before .loop-test .taken)
+    (ap (λ (q : Point). leb (q .m .0) 6) (sym (p .adjacent-of .ensures)) ∙ lt-leb _ 6 (c .if1 .left)))
 
 returns-2 : tie.Need-returns-2 Inv-loop μ-loop
 returns-2 c =

@@ -17,8 +17,9 @@ use Rattle.mesh.specs.Subdivide.{renewedTo, enteredTo}
 use Rattle.mesh.proofs.writes.divide.Tie as tie
 
 -- the table with the centre replaced
-centred : (c : tie.After-replace) → c .replace .last .0 ≡ replaceOf (c .before .before .before .before .args .t .now) (centreOf (c .before .before .before .before .args .v))
-centred c = c .replace .ensures .1 ∙ ap (replaceOf (c .before .before .before .before .args .t .now)) (c .before .before .centre .ensures)
+centred : (c : tie.After-replace)
+    → c .replace .last .0 ≡ replaceOf (c .before .before .before .before .args .t .now) (centreOf (c .before .before .before .before .args .v))
+centred c = c .replace .ensures ∙ ap (replaceOf (c .before .before .before .before .args .t .now)) (c .before .before .centre .ensures)
 
 centre-requires : tie.Need-centre-requires
 centre-requires c κs = let s = c .before in let r = s .pre .1 .ready in let b = r .below in (ready-turn r, omega arith)
@@ -32,14 +33,21 @@ renew-all-requires c κs =
     let s = w .before .before .before .before in
     let t = s .args .t .now in
     let v = s .args .v in
-    let e = sym (centred w) in
-    (subst (λ (u : List ℕ). Table u (s .args .n)) e (replace-table t (centreOf v) (s .args .n) (s .pre .0)), subst (λ (u : List ℕ). Renewable u v) e (whole-renewable (s .pre .1)))
+    let e = sym (centred w) in (
+      subst (λ (u : List ℕ). Table u (s .args .n)) e (replace-table t (centreOf v) (s .args .n) (s .pre .0)),
+      subst (λ (u : List ℕ). Renewable u v) e (whole-renewable (s .pre .1)),
+    )
 
 -- and the old adjacent vertices after it
-renewed-all : (c : tie.After-renew-all) → c .renew-all .last .0 ≡ renewedTo (replaceOf (c .before .before .before .before .before .before .before .before .args .t .now) (centreOf (c .before .before .before .before .before .before .before .before .args .v))) (c .before .before .before .before .before .before .before .before .args .v) 6
-renewed-all c =
-    let w = c .before .before .before .before in
-    c .renew-all .ensures ∙ ap (λ (u : List ℕ). renewedTo u (w .before .before .before .before .args .v) 6) (centred w)
+module _ (c : tie.After-renew-all) where
+  abbrev w : tie.After-replace
+  w = c .before .before .before .before
+
+  abbrev s : tie.Start
+  s = w .before .before .before .before
+
+  renewed-all : c .renew-all .last .0 ≡ renewedTo (replaceOf (s .args .t .now) (centreOf (s .args .v))) (s .args .v) 6
+  renewed-all = c .renew-all .ensures ∙ ap (λ (u : List ℕ). renewedTo u (s .args .v) 6) (centred w)
 
 enter-all-requires : tie.Need-enter-all-requires
 enter-all-requires c κs =
@@ -49,7 +57,8 @@ enter-all-requires c κs =
     let t = s .args .t .now in
     let v = s .args .v in
     let r = s .pre .1 .ready in (
-      subst (λ (u : List ℕ). Table u (s .args .n)) (sym (renewed-all x)) (renewed-table (replaceOf t (centreOf v)) v 6 (s .args .n) (replace-table t (centreOf v) (s .args .n) (s .pre .0))),
+      subst (λ (u : List ℕ). Table u (s .args .n)) (sym (renewed-all x))
+          (renewed-table (replaceOf t (centreOf v)) v 6 (s .args .n) (replace-table t (centreOf v) (s .args .n) (s .pre .0))),
       subst (λ (y : Record). Inner y × (y .d ≡ 6)) (sym (w .before .before .centre .ensures)) (centre-inner t v r, r .six),
     )
 

@@ -48,7 +48,8 @@ same-length : tie.Need-same-length Inv-loop μ-loop
 same-length c = let l = c .before in let s = l .before .before in ap length (l .loop .inv .1) ∙ entered-length (s .args .t .now) (s .args .c) (l .loop .j)
 
 returns : tie.Need-returns Inv-loop μ-loop
-returns c = let l = c .before in let s = l .before .before in let e : l .loop .j ≡ 6 = omega arith in l .loop .inv .1 ∙ ap (enteredTo (s .args .t .now) (s .args .c)) e
+returns c =
+    let l = c .before in let s = l .before .before in let e : l .loop .j ≡ 6 = omega arith in l .loop .inv .1 ∙ ap (enteredTo (s .args .t .now) (s .args .c)) e
 
 pub enter-all-spec : {M : Type 1} → statement M
 enter-all-spec =

@@ -51,7 +51,8 @@ returns c =
     let i = f .f .given .0 .0 in
     w .renew-slot .ensures
     ∙ ap (renewSlot t i) (b .back .ensures)
-    ∙ renew-found t (s .pre .1 .0) (x .before .adjacent-of .result) (s .args .v) (s .args .j) (x .before .adjacent-of .ensures) i (sym (x .find .ensures) ∙ f .f .given .1)
+    ∙ renew-found t (s .pre .1 .0) (x .before .adjacent-of .result) (s .args .v) (s .args .j)
+    (x .before .adjacent-of .ensures) i (sym (x .find .ensures) ∙ f .f .given .1)
 
 same-length-2 : tie.Need-same-length-2
 same-length-2 c = search needs
@@ -62,7 +63,8 @@ returns-2 c =
     let s = x .before .before .before .before .before in
     let p = x .before .adjacent-of .result in
     let o = s .pre .1 .0 in
-    renew-gone (s .args .t .now) o p (s .args .v) (s .args .j) (x .before .adjacent-of .ensures) (at-free (s .args .t .now) (o .fits) p _ (sym (x .find .ensures) ∙ c .enum-told .given .1) .looked)
+    renew-gone (s .args .t .now) o p (s .args .v) (s .args .j) (x .before .adjacent-of .ensures)
+    (at-free (s .args .t .now) (o .fits) p _ (sym (x .find .ensures) ∙ c .enum-told .given .1) .looked)
 
 same-length-3 : tie.Need-same-length-3
 same-length-3 c = search needs
@@ -73,7 +75,8 @@ returns-3 c =
     let s = x .before .before .before .before .before in
     let p = x .before .adjacent-of .result in
     let o = s .pre .1 .0 in
-    renew-gone (s .args .t .now) o p (s .args .v) (s .args .j) (x .before .adjacent-of .ensures) (at-full (s .args .t .now) (o .fits) p (sym (x .find .ensures) ∙ c .enum-told2 .given .1) .0)
+    renew-gone (s .args .t .now) o p (s .args .v) (s .args .j) (x .before .adjacent-of .ensures)
+    (at-full (s .args .t .now) (o .fits) p (sym (x .find .ensures) ∙ c .enum-told2 .given .1) .0)
 
 pub renew-spec : {M : Type 1} → statement M
 renew-spec =

@@ -41,14 +41,18 @@ loop-again : tie.Need-loop-again Inv-loop μ-loop
 loop-again c =
     let w = c .before .before in
     let l = w .before .before .before in
-    let s = l .before .before in
-    (search needs, w .renew .ensures ∙ ap (λ (u : List ℕ). renewOf u (s .args .v) (l .loop .j)) (l .loop .inv .1) ∙ renewed-more (s .args .t .now) (s .args .v) (l .loop .j))
+    let s = l .before .before in (
+      search needs,
+      w .renew .ensures
+          ∙ ap (λ (u : List ℕ). renewOf u (s .args .v) (l .loop .j)) (l .loop .inv .1) ∙ renewed-more (s .args .t .now) (s .args .v) (l .loop .j),
+    )
 
 same-length : tie.Need-same-length Inv-loop μ-loop
 same-length c = let l = c .before in let s = l .before .before in ap length (l .loop .inv .1) ∙ renewed-length (s .args .t .now) (s .args .v) (l .loop .j)
 
 returns : tie.Need-returns Inv-loop μ-loop
-returns c = let l = c .before in let s = l .before .before in let e : l .loop .j ≡ 6 = omega arith in l .loop .inv .1 ∙ ap (renewedTo (s .args .t .now) (s .args .v)) e
+returns c =
+    let l = c .before in let s = l .before .before in let e : l .loop .j ≡ 6 = omega arith in l .loop .inv .1 ∙ ap (renewedTo (s .args .t .now) (s .args .v)) e
 
 pub renew-all-spec : {M : Type 1} → statement M
 renew-all-spec =

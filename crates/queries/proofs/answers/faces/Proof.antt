@@ -1,5 +1,7 @@
 -- `queries::faces` meets its promise: by the vertex that was found. Assumes nothing.
 use mathlib.Core.Path.{_≡_, ap, _∙_}
+use mathlib.Core.List.{List}
+use Prim.Native.Nat.{ℕ}
 use borrow.Author.Needs.{needs}
 use Rattle.laws.specs.Machine.{asked₂}
 use Rattle.queries.specs.Queries.{facesAt, facesOf}
@@ -16,14 +18,17 @@ module _ (c : tie.After-found) where
   abbrev start : tie.Start
   start = c .before .before
 
-  vertex : (w : Vertex) → c .found .result ≡ w → vertexOf (start .args .table .now) (start .args .a) (start .args .b) (start .args .m) ≡ w
-  vertex w e = asked₂ (λ x y. vertexOf (start .args .table .now) x y (start .args .m)) (start .fits .a) (start .fits .b) (c .found .ensures) ∙ e
+  abbrev t : List ℕ
+  t = start .args .table .now
 
-  follows : (w : Vertex) → c .found .result ≡ w → answerOf (facesAt (start .args .table .now)) w ≡ facesOf (start .args .table .now) (start .args .a) (start .args .b) (start .args .m)
-  follows w e = faces-vertex (start .args .table .now) (start .args .a) (start .args .b) (start .args .m) w (vertex w e)
+  vertex : (w : Vertex) → c .found .result ≡ w → vertexOf t (start .args .a) (start .args .b) (start .args .m) ≡ w
+  vertex w e = asked₂ (λ x y. vertexOf t x y (start .args .m)) (start .fits .a) (start .fits .b) (c .found .ensures) ∙ e
+
+  follows : (w : Vertex) → c .found .result ≡ w → answerOf (facesAt t) w ≡ facesOf t (start .args .a) (start .args .b) (start .args .m)
+  follows w e = faces-vertex t (start .args .a) (start .args .b) (start .args .m) w (vertex w e)
 
 -- what is known of a vertex that has a star
-asked-there : (c : tie.After-slots-of) → Asked (start (c .before .before .before .before) .args .table .now) (c .slots-of .result) (c .before .before .v .given .0 .0)
+asked-there : (c : tie.After-slots-of) → Asked (t (c .before .before .before .before)) (c .slots-of .result) (c .before .before .v .given .0 .0)
 asked-there c =
     let k = c .before .before in
     vertex-asked _ _ _ _ (k .v .given .0 .0) (vertex (k .before .before) (Star (k .v .given .0 .0)) (k .v .given .1)) _ (c .slots-of .ensures)

@@ -8,7 +8,7 @@ use borrow.Author.Tests.{not-true, not-false}
 use lib.ListN.{set}
 use Rattle.laws.specs.Rules.{upto}
 use Rattle.laws.specs.Each.{upto-more}
-use Rattle.queries.specs.Queries.{isAt, pointOr0}
+use Rattle.queries.specs.Queries.{isPoint, pointOr0}
 use Rattle.queries.specs.QueryLaws.{asked-inner, hasOpposite, opposite, firstOnes, ones-more, faces-torn, faces-cornerless, faces-whole}
 use Rattle.queries.proofs.answers.faces_of.Statement.{statement}
 use Rattle.queries.proofs.answers.faces_of.Tie as tie
@@ -43,7 +43,9 @@ returns-2 c =
     let k = c .before .before .before in
     let i = k .before in
     let a = i .before .before .before .before .args in
-    c .refuse2 .ensures ∙ faces-cornerless (a .t .now) (a .v) (a .whole) (i .before .loop .j) (i .loop-test .taken) (ap isAt (sym (k .chosen .ensures) ∙ c .before .enum-told .given .1))
+    c .refuse2 .ensures
+    ∙ faces-cornerless (a .t .now) (a .v) (a .whole) (i .before .loop .j) (i .loop-test .taken)
+    (ap isPoint (sym (k .chosen .ensures) ∙ c .before .enum-told .given .1))
 
 -- the corner has one: the next point
 loop-again : tie.Need-loop-again Inv-loop μ-loop
@@ -54,7 +56,7 @@ loop-again c =
     let a = l .before .before .before .args in
     let e = sym (k .chosen .ensures) ∙ p .p .given .1 in (
       omega (arith, k .before .loop-test .taken),
-      upto-more (hasOpposite (a .t .now) (a .v)) (l .loop .j) (l .loop .inv .1) (ap isAt e),
+      upto-more (hasOpposite (a .t .now) (a .v)) (l .loop .j) (l .loop .inv .1) (ap isPoint e),
       ap (λ ps. set ps (l .loop .j) (p .p .given .0 .0)) (l .loop .inv .2)
           ∙ ones-more (opposite (a .t .now) (a .v)) (l .loop .j) (corner-below (k .before)) (p .p .given .0 .0) (sym (ap pointOr0 e)),
     )

@@ -37,7 +37,8 @@ returns c =
     let p = c .before in
     let l = p .before .before in
     let a = l .before .before .args in
-    sym (upto-fails (at (a .t .now) (a .v)) (l .loop .j) (a .v .d) (omega (arith, p .before .loop-test .taken)) (sym (p .adjacent-there .ensures) ∙ c .if1 .left))
+    let e = sym (p .adjacent-there .ensures) ∙ c .if1 .left in
+    sym (upto-fails (at (a .t .now) (a .v)) (l .loop .j) (a .v .d) (omega (arith, p .before .loop-test .taken)) e)
 
 returns-2 : tie.Need-returns-2 Inv-loop μ-loop
 unfolding adjacentsThere

@@ -1,5 +1,7 @@
 -- `queries::either` meets its promise: by whether the first was kept. Assumes nothing.
 use mathlib.Core.Path.{_≡_, ap, sym, _∙_}
+use mathlib.Core.List.{List}
+use Prim.Native.Nat.{ℕ}
 use borrow.Author.Needs.{needs}
 use Rattle.lattice.specs.declared.patterns.Spot.{Spot}
 use Rattle.lattice.specs.declared.patterns.Spot.the-variants.{At, Nothing}
@@ -13,8 +15,11 @@ module _ (c : tie.After-kept) where
   abbrev start : tie.Start
   start = c .before .before
 
-  past : (s : Spot) → c .kept .result ≡ s → orElse s (there (start .args .t .now) (start .args .q)) ≡ eitherIn (start .args .t .now) (start .args .p) (start .args .q)
-  past s e = ap (λ (x : Spot). orElse x (there (start .args .t .now) (start .args .q))) (sym e ∙ c .kept .ensures)
+  abbrev t : List ℕ
+  t = start .args .t .now
+
+  past : (s : Spot) → c .kept .result ≡ s → orElse s (there t (start .args .q)) ≡ eitherIn t (start .args .p) (start .args .q)
+  past s e = ap (λ (x : Spot). orElse x (there t (start .args .q))) (sym e ∙ c .kept .ensures)
 
 returns : tie.Need-returns
 returns c = past (c .before .before .before) (At (c .before .o .given .0 .0)) (c .before .o .given .1)

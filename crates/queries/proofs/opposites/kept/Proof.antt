@@ -2,6 +2,7 @@
 use mathlib.Core.Path.{_≡_, ap, sym, _∙_}
 use mathlib.Core.Bool.{Bool, true, false, cond}
 use borrow.Author.Needs.{needs}
+use Rattle.lattice.specs.declared.points.Point.{Point}
 use Rattle.lattice.specs.declared.patterns.Spot.the-variants.{At, Nothing}
 use Rattle.queries.specs.Queries.{there}
 use Rattle.queries.proofs.opposites.kept.Statement.{statement}
@@ -9,10 +10,15 @@ use Rattle.queries.proofs.opposites.kept.Tie as tie
 
 -- past the search, by what it found
 module _ (c : tie.After-is-there) where
-  at-point : (b : Bool) → c .is-there .result ≡ b → cond b (At (c .before .before .s .given .0 .0)) Nothing ≡ there (c .before .before .before .before .before .args .t .now) (c .before .before .before .before .before .args .s)
+  abbrev start : tie.Start
+  start = c .before .before .before .before .before
+
+  abbrev p : Point
+  p = c .before .before .s .given .0 .0
+
+  at-point : (b : Bool) → c .is-there .result ≡ b → cond b (At p) Nothing ≡ there (start .args .t .now) (start .args .s)
   at-point b e =
-      ap (λ (x : Bool). cond x (At (c .before .before .s .given .0 .0)) Nothing) (sym e ∙ c .is-there .ensures)
-      ∙ ap (there (c .before .before .before .before .before .args .t .now)) (sym (c .before .before .s .given .1))
+      ap (λ (x : Bool). cond x (At p) Nothing) (sym e ∙ c .is-there .ensures) ∙ ap (there (start .args .t .now)) (sym (c .before .before .s .given .1))
 
 returns : tie.Need-returns
 returns c = at-point (c .before) true (c .if1 .taken)

@@ -1,6 +1,8 @@
 -- `queries::found` meets its promise: each way out by the tests that led there. Assumes nothing.
 use mathlib.Core.Path.{_≡_, ap, sym, _∙_, subst}
 use mathlib.Core.Bool.{Bool, true, false, cond}
+use mathlib.Core.List.{List}
+use Prim.Native.Nat.{ℕ}
 use borrow.Author.Needs.{needs}
 use borrow.Author.Tests.{not-true, not-false, eq-eqb, ne-eqb}
 use lib.Dec.{eqb}
@@ -33,10 +35,13 @@ module _ (c : tie.After-look-up-request) where
   abbrev start : tie.Start
   start = c .before .before .before .before .before
 
-  at-looked : (l : Looked) → c .look-up-request .result ≡ l → vertexLooked l ≡ vertexOf (start .args .t .now) (start .args .a) (start .args .b) (start .args .m)
+  abbrev t : List ℕ
+  t = start .args .t .now
+
+  at-looked : (l : Looked) → c .look-up-request .result ≡ l → vertexLooked l ≡ vertexOf t (start .args .a) (start .args .b) (start .args .m)
   at-looked l e =
-      vertex-looked (start .args .t .now) (start .args .a) (start .args .b) (start .args .m) (ordered (c .before .before)) l
-      (asked₂ (λ x y. lookUp (start .args .t .now) (normalOf x y (start .args .m))) (start .fits .a) (start .fits .b) (c .look-up-request .ensures) ∙ e)
+      vertex-looked t (start .args .a) (start .args .b) (start .args .m) (ordered (c .before .before)) l
+      (asked₂ (λ x y. lookUp t (normalOf x y (start .args .m))) (start .fits .a) (start .fits .b) (c .look-up-request .ensures) ∙ e)
 
 returns-2 : tie.Need-returns-2
 returns-2 c = at-looked (c .before .before) Absent (c .enum-told .given .1)

@@ -8,7 +8,7 @@ use lib.ListN.{length, replicate}
 use Rattle.table.specs.Slots.{Table, clearedOf}
 use Rattle.table.specs.MapLaws.{clear-table}
 use Rattle.readers.specs.Readers.{readLines}
-use Rattle.readers.specs.LineSteps.{Ended}
+use Rattle.readers.specs.LineSteps.{EndsAs}
 use Rattle.readers.specs.BeginLaws.{prepared-fit, begun-unfit, begun-fault, begun-read}
 use Rattle.readers.proofs.begin.begin.Statement.{statement}
 use Rattle.readers.proofs.begin.begin.Tie as tie
@@ -51,8 +51,9 @@ module _ (c : tie.After-read-lines) where
   abbrev u : List ℕ
   u = c .read-lines .last .0
 
-  ended : Ended (readLines (s e .args .file .now) (clearedOf (t e))) (c .read-lines .result .number) (c .read-lines .result .line) u
-  ended = subst (λ (x : List ℕ). Ended (readLines (s e .args .file .now) x) (c .read-lines .result .number) (c .read-lines .result .line) u) (cleared e) (c .read-lines .ensures)
+  ended : EndsAs (readLines (s e .args .file .now) (clearedOf (t e))) (c .read-lines .result .number) (c .read-lines .result .line) u
+  ended = subst (λ (x : List ℕ). EndsAs (readLines (s e .args .file .now) x) (c .read-lines .result .number) (c .read-lines .result .line) u)
+      (cleared e) (c .read-lines .ensures)
 
   long : length u ≡ length (t e)
   long = omega (arith, c .read-lines .kept, p e .prepare .kept)
@@ -64,7 +65,8 @@ returns-2 c =
     let r = b .before .before .before in
     let a = s (e r) .args in
     let h = z .refuse .ensures in
-    begun-fault (a .table .now) (a .scratch .now) (a .file .now) (p (e r) .prepare .ensures) (e r .if1 .left) (ended r) (b .if2 .taken) _ _ _ (h .0 .0) (h .0 .1) (h .1 ∙ ap (λ (l : ℕ). replicate l 255) (long r))
+    begun-fault (a .table .now) (a .scratch .now) (a .file .now) (p (e r) .prepare .ensures) (e r .if1 .left) (ended r) (b .if2 .taken) _ _ _
+    (h .0 .0) (h .0 .1) (h .1 ∙ ap (λ (l : ℕ). replicate l 255) (long r))
 
 returns-3 : tie.Need-returns-3
 returns-3 c =

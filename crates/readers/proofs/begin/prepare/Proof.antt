@@ -23,7 +23,8 @@ returns-3 c =
     let e = first .before .before in
     let n = e .before .before in
     let a = n .before .before .before .before .args in
-    both-fit (a .table .now) (a .scratch .now) (n .slots-of .result) (n .slots-of .ensures) (e .before .if1 .left) (e .if2 .left) _ _ (first .clear .ensures) (second .clear2 .ensures)
+    both-fit (a .table .now) (a .scratch .now) (n .slots-of .result) (n .slots-of .ensures) (e .before .if1 .left) (e .if2 .left) _ _
+    (first .clear .ensures) (second .clear2 .ensures)
 
 pub prepare-spec : {M : Type 1} → statement M
 prepare-spec =

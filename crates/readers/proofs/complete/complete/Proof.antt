@@ -5,9 +5,10 @@ use mathlib.Core.Bool.{Bool, true, false, cond}
 use mathlib.Core.List.{List}
 use Prim.Native.Nat.{ℕ}
 use borrow.Author.Tests.{not-true, not-false}
+use Rattle.laws.specs.Some.{someOf}
 use Rattle.lattice.specs.declared.records.Record.{Record}
 use Rattle.table.specs.Slots.{Table}
-use Rattle.writers.specs.Files.{someOf, redundant}
+use Rattle.writers.specs.Files.{redundant}
 use Rattle.readers.specs.Readers.{With, restoreAll, refused, accepted, endRestored}
 use Rattle.readers.specs.RestoreSteps.{by-none, by-stopped, fileRecords}
 use Rattle.readers.specs.CallLaws.{restored-order, restored-slots, restored-kept, end-stopped, end-judged}
@@ -40,7 +41,8 @@ module _ (c : tie.After-restore-all) where
 returns : tie.Need-returns
 returns c =
     let r = c .before .before .before in
-    λ x y. end-stopped x y (rs r) (restoreAll (rs r) (With (t r))) (r .restore-all .result) (u r) (c .if1 .taken) (sym (r .restore-all .ensures) ∙ by-stopped (r .restore-all .result) (u r) (c .if1 .taken))
+    λ x y. end-stopped x y (rs r) (restoreAll (rs r) (With (t r))) (r .restore-all .result) (u r) (c .if1 .taken)
+    (sym (r .restore-all .ensures) ∙ by-stopped (r .restore-all .result) (u r) (c .if1 .taken))
 
 -- restored to the end
 module _ (c : tie.Else1) where
@@ -70,7 +72,8 @@ module _ (c : tie.After-all-pass) where
       → cond g (cond h (refused 12 0 x y) (accepted (u (r e)) y)) (refused 11 0 x y) ≡ endRestored x y (rs (r e)) (restoreAll (rs (r e)) (With (t (r e))))
   ends x y g h a b =
       let z = s (r e) .args in
-      end-judged x y (rs (r e)) (restoreAll (rs (r e)) (With (t (r e)))) (u (r e)) (whole e) (restored-order (z .file .now) (z .n) (rs (r e)) (t (r e)) (u (r e)) (s (r e) .pre) (whole e)) g h
+      end-judged x y (rs (r e)) (restoreAll (rs (r e)) (With (t (r e)))) (u (r e)) (whole e)
+      (restored-order (z .file .now) (z .n) (rs (r e)) (t (r e)) (u (r e)) (s (r e) .pre) (whole e)) g h
       (sym (c .all-pass .ensures) ∙ a)
       (sym (kept e) ∙ b)
 

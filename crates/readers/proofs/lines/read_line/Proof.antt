@@ -26,8 +26,11 @@ module _ (c : tie.After-rises) where
 
 returns : tie.Need-returns
 returns c =
-    let r = c .before in
-    (step-low (q (s r)) (s r .args .table .now) (s r .args .line) (metAt (s r .args .file .now) (s r .args .at) (s r .args .line)) _ _ _ (good r) (sym (r .rises .ensures) ∙ not-true _ (c .if1 .taken)), refl)
+    let r = c .before in (
+      step-low (q (s r)) (s r .args .table .now) (s r .args .line) (metAt (s r .args .file .now) (s r .args .at) (s r .args .line)) _ _ _ (good r)
+          (sym (r .rises .ensures) ∙ not-true _ (c .if1 .taken)),
+      refl,
+    )
 
 returns-2 : tie.Need-returns-2
 returns-2 c =
@@ -45,8 +48,12 @@ returns-4 : tie.Need-returns-4
 returns-4 c =
     let e = c .before .before in
     let z = e .before .before in
-    let r = z .before in
-    (e .enter-line .ensures .0 ∙ step-high (q (s r)) (s r .args .table .now) (s r .args .line) (metAt (s r .args .file .now) (s r .args .at) (s r .args .line)) _ _ _ (good r) (sym (r .rises .ensures) ∙ not-false _ (z .if1 .left)), e .enter-line .ensures .1)
+    let r = z .before in (
+      e .enter-line .ensures .0
+          ∙ step-high (q (s r)) (s r .args .table .now) (s r .args .line) (metAt (s r .args .file .now) (s r .args .at) (s r .args .line)) _ _ _
+          (good r) (sym (r .rises .ensures) ∙ not-false _ (z .if1 .left)),
+      e .enter-line .ensures .1,
+    )
 
 pub read-line-spec : {M : Type 1} → statement M
 read-line-spec =

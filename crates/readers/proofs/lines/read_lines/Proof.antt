@@ -10,20 +10,21 @@ use Rattle.lattice.specs.declared.records.Record.{Record}
 use Rattle.table.specs.MapLaws.{table-same}
 use Rattle.reader.specs.Met.{metAt}
 use Rattle.readers.specs.Readers.{readLines}
-use Rattle.readers.specs.LineSteps.{lineBefore, stepAt, tableAfter, ended-as, Reading, reading-start, reading-over, reading-fault, reading-next, reading-more}
+use Rattle.readers.specs.LineSteps.{lineBefore, stepAt, tableAfter, ends-as, Underway, underway-start, underway-over, underway-fault}
+use Rattle.readers.specs.LineSteps.{underway-next, underway-more}
 use Rattle.readers.specs.declared.lines.Step.{Step}
 use Rattle.readers.specs.declared.lines.Step.the-variants.{Entered}
 use Rattle.readers.proofs.lines.read_lines.Statement.{statement}
 use Rattle.readers.proofs.lines.read_lines.Tie as tie
 
 abbrev Inv-loop : tie.InvT-loop
-Inv-loop table₀ n file at₀ line₀ last₀ table at line last = Reading file table₀ at line (lineBefore line last) table
+Inv-loop table₀ n file at₀ line₀ last₀ table at line last = Underway file table₀ at line (lineBefore line last) table
 
 abbrev μ-loop : tie.MeasureT-loop
 μ-loop table₀ n file at₀ line₀ last₀ table at line last = length file - at
 
 loop-holds : tie.Need-loop-holds Inv-loop μ-loop
-loop-holds c = let a = c .before .before .before .args in reading-start (a .file .now) (a .table .now)
+loop-holds c = let a = c .before .before .before .args in underway-start (a .file .now) (a .table .now)
 
 read-line-requires : tie.Need-read-line-requires Inv-loop μ-loop
 read-line-requires c κs =
@@ -58,15 +59,16 @@ returns : tie.Need-returns Inv-loop μ-loop
 returns c =
     let r = c .before .before .before .before .before in
     let e = c .before .enum-told .given .1 in
-    ended-as (readLines (f r) (s r .args .table .now)) (c .answer .ensures .0) (c .answer .ensures .1) (table r _ e)
-    (reading-over (f r) (s r .args .table .now) (l r .loop .at) (l r .loop .line) (q r) (l r .loop .table) (l r .loop .inv) (was r _ e))
+    ends-as (readLines (f r) (s r .args .table .now)) (c .answer .ensures .0) (c .answer .ensures .1) (table r _ e)
+    (underway-over (f r) (s r .args .table .now) (l r .loop .at) (l r .loop .line) (q r) (l r .loop .table) (l r .loop .inv) (was r _ e))
 
 returns-2 : tie.Need-returns-2 Inv-loop μ-loop
 returns-2 c =
     let k = c .before .before in
     let r = k .before .before .before .before in
-    ended-as (readLines (f r) (s r .args .table .now)) (c .answer2 .ensures .0) (c .answer2 .ensures .1) (table r _ (k .s .given .1))
-    (reading-fault (f r) (s r .args .table .now) (l r .loop .at) (l r .loop .line) (q r) (l r .loop .table) (l r .loop .inv) _ _ (l r .loop .table) (was r _ (k .s .given .1)))
+    ends-as (readLines (f r) (s r .args .table .now)) (c .answer2 .ensures .0) (c .answer2 .ensures .1) (table r _ (k .s .given .1))
+    (underway-fault (f r) (s r .args .table .now) (l r .loop .at) (l r .loop .line) (q r) (l r .loop .table) (l r .loop .inv) _ _ (l r .loop .table)
+    (was r _ (k .s .given .1)))
 
 -- past a record entered
 module _ (c : tie.After-s2 Inv-loop μ-loop) where
@@ -86,7 +88,7 @@ module _ (c : tie.After-s2 Inv-loop μ-loop) where
   entered = was r _ (c .s2 .given .1)
 
   further : (l r .loop .at + 12 ≤ next) × (next ≤ length (f r))
-  further = reading-next (f r) (s r .args .table .now) (l r .loop .at) (l r .loop .line) (q r) (l r .loop .table) (l r .loop .inv) v next after entered
+  further = underway-next (f r) (s r .args .table .now) (l r .loop .at) (l r .loop .line) (q r) (l r .loop .table) (l r .loop .inv) v next after entered
 
 loop-less : tie.Need-loop-less Inv-loop μ-loop
 loop-less c = let k = c .before in omega (arith, further k)
@@ -94,8 +96,9 @@ loop-less c = let k = c .before in omega (arith, further k)
 loop-again : tie.Need-loop-again Inv-loop μ-loop
 loop-again c =
     let k = c .before in
-    subst (Reading (f (r k)) (s (r k) .args .table .now) (next k) (after k) (lineBefore (after k) (v k))) (sym (table (r k) _ (k .s2 .given .1)))
-    (reading-more (f (r k)) (s (r k) .args .table .now) (l (r k) .loop .at) (l (r k) .loop .line) (q (r k)) (l (r k) .loop .table) (l (r k) .loop .inv) (v k) (next k) (after k) (entered k))
+    subst (Underway (f (r k)) (s (r k) .args .table .now) (next k) (after k) (lineBefore (after k) (v k))) (sym (table (r k) _ (k .s2 .given .1)))
+    (underway-more (f (r k)) (s (r k) .args .table .now) (l (r k) .loop .at) (l (r k) .loop .line) (q (r k)) (l (r k) .loop .table)
+    (l (r k) .loop .inv) (v k) (next k) (after k) (entered k))
 
 pub read-lines-spec : {M : Type 1} → statement M
 read-lines-spec =

@@ -64,8 +64,11 @@ module _ (c : tie.After-l Inv-loop μ-loop) where
 restore-star-requires : tie.Need-restore-star-requires Inv-loop μ-loop
 restore-star-requires c κs =
     let g = c .before .before in
-    let k = l (p g) in
-    (table-same (t₀ (p g)) (k .loop .table) (s (p g) .args .n) (k .loop .inv .long) (s (p g) .pre), line-read (f (p g)) (k .loop .at) (next g) (v g) (good g) .0)
+    let k = l (p g) in (
+      table-same (t₀ (p g)) (k .loop .table) (s (p g) .args .n) (k .loop .inv .long) (s (p g) .pre),
+      line-read (f (p g)) (k .loop .at) (next g) (v g)
+          (good g) .0,
+    )
 
 -- past its star
 module _ (c : tie.After-restore-star Inv-loop μ-loop) where
@@ -83,7 +86,8 @@ returns-3 c =
     let r = c .before .before .before in
     let k = l (p (g r)) in
     let e = by-stopped (r .restore-star .result) (u r) (c .if1 .taken) in
-    e ∙ restoring-stopped (f (p (g r))) (t₀ (p (g r))) (k .loop .at) (k .loop .table) (k .loop .inv) (v (g r)) (next (g r)) (good (g r)) (r .restore-star .result) (sym (r .restore-star .ensures) ∙ e)
+    e ∙ restoring-stopped (f (p (g r))) (t₀ (p (g r))) (k .loop .at) (k .loop .table) (k .loop .inv) (v (g r)) (next (g r)) (good (g r))
+    (r .restore-star .result) (sym (r .restore-star .ensures) ∙ e)
 
 loop-less : tie.Need-loop-less Inv-loop μ-loop
 loop-less c =

@@ -29,7 +29,8 @@ returns c =
     let v = c .before in
     let k = v .before .before in
     let f = k .before .before in
-    restore-invalid (st f .args .table .now) (st f .args .r) (k .f .given .0 .0) (ends f _ (k .f .given .1)) (sym (v .valid .ensures) ∙ not-true _ (c .if1 .taken))
+    restore-invalid (st f .args .table .now) (st f .args .r) (k .f .given .0 .0) (ends f _ (k .f .given .1))
+    (sym (v .valid .ensures) ∙ not-true _ (c .if1 .taken))
 
 returns-2 : tie.Need-returns-2
 returns-2 c =
@@ -51,7 +52,8 @@ returns-4 c =
     let k = v .before .before in
     let f = k .before .before in
     ap With (w .write-slot .ensures)
-    ∙ restore-entered (st f .args .table .now) (st f .args .r) (k .f .given .0 .0) (ends f _ (k .f .given .1)) (sym (v .valid .ensures) ∙ not-false _ (z .if1 .left))
+    ∙ restore-entered (st f .args .table .now) (st f .args .r) (k .f .given .0 .0) (ends f _ (k .f .given .1))
+    (sym (v .valid .ensures) ∙ not-false _ (z .if1 .left))
 
 returns-5 : tie.Need-returns-5
 returns-5 c =

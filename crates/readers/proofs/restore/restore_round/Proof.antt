@@ -8,7 +8,7 @@ use Rattle.laws.specs.Choices.{of-true}
 use Rattle.lattice.specs.RecordLaws.{valid-turn}
 use Rattle.table.specs.MapLaws.{table-same}
 use Rattle.readers.specs.Readers.{With, restore, restoreTo}
-use Rattle.readers.specs.RestoreSteps.{restoredBy, by-none, by-stopped, six-inner, born-restored, to-none, to-more, to-stopped}
+use Rattle.readers.specs.RestoreSteps.{restoredBy, by-none, by-stopped, six-inner, to-none, to-more, to-stopped}
 use Rattle.readers.proofs.restore.restore_round.Statement.{statement}
 use Rattle.readers.proofs.restore.restore_round.Tie as tie
 
@@ -47,7 +47,7 @@ module _ (c : tie.After-restore-record Inv-loop μ-loop) where
 
   more : restoredBy (c .restore-record .result) u ≡ restoreTo (s .args .v) (l .loop .j + 1) (With (s .args .table .now))
   more =
-      c .restore-record .ensures ∙ ap (restore (With (l .loop .table))) (c .before .born .ensures ∙ born-restored (s .args .v) (l .loop .j))
+      c .restore-record .ensures ∙ ap (restore (With (l .loop .table))) (c .before .born .ensures)
       ∙ sym (to-more (s .args .v) (With (s .args .table .now)) (l .loop .j) (With (l .loop .table)) (l .loop .inv .1 .0))
 
   kept : length u ≡ length (s .args .table .now)
@@ -57,7 +57,8 @@ returns : tie.Need-returns Inv-loop μ-loop
 returns c =
     let r = c .before .before .before in
     let e = by-stopped (r .restore-record .result) (u r) (c .if1 .taken) in
-    e ∙ sym (to-stopped (s r .args .v) (With (s r .args .table .now)) 6 (l r .loop .j + 1) (r .restore-record .result) (omega (arith, r .before .before .before .loop-test .taken)) (sym (more r) ∙ e))
+    e ∙ sym (to-stopped (s r .args .v) (With (s r .args .table .now)) 6 (l r .loop .j + 1) (r .restore-record .result)
+    (omega (arith, r .before .before .before .loop-test .taken)) (sym (more r) ∙ e))
 
 loop-again : tie.Need-loop-again Inv-loop μ-loop
 loop-again c =

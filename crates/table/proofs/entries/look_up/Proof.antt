@@ -1,30 +1,30 @@
 -- `table::look_up` meets its promise: by where the search ended. Assumes nothing.
 use mathlib.Core.Path.{_≡_, ap, sym, _∙_}
 use borrow.Author.Needs.{needs}
-use Rattle.table.specs.Entries.{heldIn, lookedAt, lookUp}
+use Rattle.table.specs.Entries.{lookedAt, lookUp}
 use Rattle.table.specs.EntryLaws.{at-room}
 use Rattle.table.specs.declared.probe.Found.{Found}
 use Rattle.table.specs.declared.probe.Found.the-variants as found
 use Rattle.table.proofs.entries.look_up.Statement.{statement}
 use Rattle.table.proofs.entries.look_up.Tie as tie
 
-read-slot-requires : tie.Need-read-slot-requires
-read-slot-requires c κs =
+held-in-requires : tie.Need-held-in-requires
+held-in-requires c κs =
     let f = c .before .before .before in
     let st = f .before .before in
     at-room (st .args .t .now) (st .args .n) (st .pre) (st .args .p) (c .before .f .given .0 .0) (sym (f .find .ensures) ∙ c .before .f .given .1)
 
 -- past the search, by what it found
-past : (c : tie.After-find) (o : Found) → c .find .result ≡ o → lookedAt (c .before .before .args .t .now) o ≡ lookUp (c .before .before .args .t .now) (c .before .before .args .p)
+past : (c : tie.After-find) (o : Found) → c .find .result ≡ o
+    → lookedAt (c .before .before .args .t .now) o ≡ lookUp (c .before .before .args .t .now) (c .before .before .args .p)
 unfolding lookUp
 past c o e = ap (lookedAt (c .before .before .args .t .now)) (sym e ∙ c .find .ensures)
 
 returns : tie.Need-returns
 returns c =
-    let r = c .before in
-    let k = r .before .before in
+    let k = c .before .before in
     let f = k .before .before in
-    c .held-in .ensures ∙ ap heldIn (r .read-slot .ensures) ∙ past f (found.At (k .f .given .0 .0)) (k .f .given .1)
+    c .held-in .ensures ∙ past f (found.At (k .f .given .0 .0)) (k .f .given .1)
 
 pub look-up-spec : {M : Type 1} → statement M
 look-up-spec =
@@ -32,8 +32,7 @@ look-up-spec =
     (tie.spec
     (λ c κs. search needs)
     (λ c. search needs)
-    read-slot-requires
-    (λ c κs. search needs)
+    held-in-requires
     (λ c. search needs)
     (λ c. search needs)
     returns

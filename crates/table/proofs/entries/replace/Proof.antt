@@ -12,7 +12,8 @@ abbrev st : tie.After-find → tie.Start
 st c = c .before .before .before .before
 
 -- past the search, by what it found
-past : (c : tie.After-find) (o : Found) → c .find .result ≡ o → replaceAt (st c .args .t .now) (st c .args .r) o ≡ replaceOf (st c .args .t .now) (st c .args .r)
+past : (c : tie.After-find) (o : Found) → c .find .result ≡ o
+    → replaceAt (st c .args .t .now) (st c .args .r) o ≡ replaceOf (st c .args .t .now) (st c .args .r)
 unfolding replaceOf
 past c o e = ap (replaceAt (st c .args .t .now) (st c .args .r)) (sym e ∙ c .find .ensures)
 
@@ -27,18 +28,13 @@ returns c =
     let w = c .before .before in
     let k = w .before .before .before in
     let f = k .before .before in
-    (sym (k .f .given .1) ∙ f .find .ensures, w .write-slot .ensures ∙ past f (found.At (k .f .given .0 .0)) (k .f .given .1))
+    w .write-slot .ensures ∙ past f (found.At (k .f .given .0 .0)) (k .f .given .1)
 
 returns-2 : tie.Need-returns-2
-returns-2 c =
-    let k = c .before in
-    let f = k .before .before in
-    (sym (k .f2 .given .1) ∙ f .find .ensures, past f (found.Free (k .f2 .given .0 .0)) (k .f2 .given .1))
+returns-2 c = past (c .before .before) (found.Free _) (c .enum-told .given .1)
 
 returns-3 : tie.Need-returns-3
-returns-3 c =
-    let f = c .before .before in
-    (sym (c .enum-told .given .1) ∙ f .find .ensures, past f found.Full (c .enum-told .given .1))
+returns-3 c = past (c .before .before) found.Full (c .enum-told2 .given .1)
 
 pub replace-spec : {M : Type 1} → statement M
 replace-spec =

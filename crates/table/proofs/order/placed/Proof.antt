@@ -12,7 +12,8 @@ use Rattle.table.proofs.order.placed.Tie as tie
 
 -- the test of what was read
 module _ (c : tie.After-read-slot) where
-  at-slot : (x : Slot) → c .read-slot .result ≡ x → placedSlot (c .before .before .args .t .now) (c .before .before .args .i) x ≡ placedAt (c .before .before .args .t .now) (c .before .before .args .i)
+  at-slot : (x : Slot) → c .read-slot .result ≡ x
+      → placedSlot (c .before .before .args .t .now) (c .before .before .args .i) x ≡ placedAt (c .before .before .args .t .now) (c .before .before .args .i)
   unfolding placedAt
   at-slot x e = ap (placedSlot (c .before .before .args .t .now) (c .before .before .args .i)) (sym e ∙ c .read-slot .ensures)
 

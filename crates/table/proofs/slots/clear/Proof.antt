@@ -46,7 +46,8 @@ returns c =
     let st = l .before in
     let e : l .loop .i ≡ length (st .args .t .now) = omega arith in
     l .loop .inv .0 ∙ ap (λ (k : ℕ). replicate k 255 ++ drop k (st .args .t .now)) e
-    ∙ ap (λ (x : List ℕ). replicate (length (st .args .t .now)) 255 ++ x) (drop-length (st .args .t .now)) ∙ append-nil (replicate (length (st .args .t .now)) 255)
+    ∙ ap (λ (x : List ℕ). replicate (length (st .args .t .now)) 255 ++ x) (drop-length (st .args .t .now))
+    ∙ append-nil (replicate (length (st .args .t .now)) 255)
 
 pub clear-spec : {M : Type 1} → statement M
 clear-spec =

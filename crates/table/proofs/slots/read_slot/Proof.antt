@@ -12,7 +12,8 @@ returns c =
     let w3 = c .before .before in
     let w2 = w3 .before in
     let w1 = w2 .before in
-    slot-free _ (w1 .before .before .args .i) _ _ _ (w1 .word .ensures) (w2 .word2 .ensures) (w3 .word3 .ensures) (sym (c .before .all-ones .ensures) ∙ c .if1 .taken)
+    slot-free _ (w1 .before .before .args .i) _ _ _ (w1 .word .ensures) (w2 .word2 .ensures)
+    (w3 .word3 .ensures) (sym (c .before .all-ones .ensures) ∙ c .if1 .taken)
 
 returns-2 : tie.Need-returns-2
 returns-2 c =

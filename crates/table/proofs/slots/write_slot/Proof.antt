@@ -25,8 +25,11 @@ returns c =
     let fa : SFits w32 (a .r .at .a) = record { sfits = omega (arith, told .struct-told .given) } in
     let fb : SFits w32 (a .r .at .b) = record { sfits = omega (arith, told .struct-told .given) } in
     slot-written (a .t .now) (w1 .put-word .last .0) (w2 .put-word2 .last .0) (pb .put-bytes .last .0) (a .i) (a .r)
-    (w1 .put-word .ensures ∙ ap (λ (u : ℕ). sets (a .t .now) (slotWidth * a .i) (wordBytes u)) (a1 .as-word .ensures ∙ ap (ofZ w32) (toZ-ofZ w32 (a .r .at .a) fa)))
-    (w2 .put-word2 .ensures ∙ ap (λ (u : ℕ). sets (w1 .put-word .last .0) (slotWidth * a .i + 4) (wordBytes u)) (a2 .as-word2 .ensures ∙ ap (ofZ w32) (toZ-ofZ w32 (a .r .at .b) fb)))
+    (w1 .put-word .ensures
+    ∙ ap (λ (u : ℕ). sets (a .t .now) (slotWidth * a .i) (wordBytes u)) (a1 .as-word .ensures ∙ ap (ofZ w32) (toZ-ofZ w32 (a .r .at .a) fa)))
+    (w2 .put-word2 .ensures
+    ∙ ap (λ (u : ℕ). sets (w1 .put-word .last .0) (slotWidth * a .i + 4) (wordBytes u))
+    (a2 .as-word2 .ensures ∙ ap (ofZ w32) (toZ-ofZ w32 (a .r .at .b) fb)))
     (pb .put-bytes .ensures)
 
 pub write-slot-spec : {M : Type 1} → statement M

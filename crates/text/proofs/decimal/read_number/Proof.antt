@@ -1,4 +1,4 @@
--- `text::decimal::read_number` meets its contract: each byte takes a `Reading` a step on, or ends it.
+-- `text::decimal::read_number` meets its contract: each byte takes a `Scanned` a step on, or ends it.
 -- Assumes nothing.
 use borrow.Author.Needs.{needs}
 use borrow.Author.Tests.{not-true, not-false}
@@ -10,19 +10,19 @@ use lib.Dec.{eqb}
 use lib.ListN.{length, getD}
 use Rattle.text.specs.Reading.{isDigit, numberAt}
 use Rattle.text.specs.DecimalLaws.{digit-low, digit-high}
-use Rattle.text.specs.ReadingLaws.{Reading, reading-begins, reading-goes, reading-over, reading-lacks, reading-ends}
+use Rattle.text.specs.ReadingLaws.{Scanned, scan-begins, scan-goes, scan-over, scan-lacks, scan-ends}
 use Rattle.text.specs.declared.decimal.Number.the-variants.{Natural, NoNumber}
 use Rattle.text.proofs.decimal.read_number.Statement.{statement}
 use Rattle.text.proofs.decimal.read_number.Tie as tie
 
 abbrev Inv-loop : tie.InvT-loop
-Inv-loop t at most stop top v₀ i₀ v i = Reading t at top i v
+Inv-loop t at most stop top v₀ i₀ v i = Scanned t at top i v
 
 abbrev μ-loop : tie.MeasureT-loop
 μ-loop t at most stop top v₀ i₀ v i = length t - i
 
 loop-holds : tie.Need-loop-holds Inv-loop μ-loop
-loop-holds c = let s = c .before in reading-begins (s .args .t .now) (s .args .at) (s .args .most)
+loop-holds c = let s = c .before in scan-begins (s .args .t .now) (s .args .at) (s .args .most)
 
 shared-slice-read-c : tie.Need-shared-slice-read-c Inv-loop μ-loop
 shared-slice-read-c c = search needs
@@ -59,7 +59,7 @@ ends c b e =
     let v = l .loop .v in
     let off : isDigit (getD t i 0) ≡ false = sym (d .is-digit .ensures) ∙ not-true _ (c .before .before .if1 .taken) in
     ap (λ (x : Bool). cond x (Natural v (i + 1)) NoNumber) (sym e ∙ ap (λ (x : Bool). eqb (getD t i 0) (s .args .stop) && x) (c .is-plain .ensures))
-    ∙ reading-ends t (s .args .at) (s .args .most) i v (l .loop .inv) (s .args .stop) (d .before .before .loop-test .taken) off
+    ∙ scan-ends t (s .args .at) (s .args .most) i v (l .loop .inv) (s .args .stop) (d .before .before .loop-test .taken) off
 
 returns : tie.Need-returns Inv-loop μ-loop
 returns c = ends (c .before) true (c .if2 .taken)
@@ -85,7 +85,8 @@ returns-3 c =
     let d = c .before .before in
     let l = d .before .before .before .before in
     let s = l .before .before in
-    reading-over (s .args .t .now) (s .args .at) (s .args .most) (l .loop .i) (l .loop .v) (l .loop .inv) (s .args .stop) (d .before .before .before .loop-test .taken) (met d) (omega (arith, c .before .worth .ensures .0))
+    scan-over (s .args .t .now) (s .args .at) (s .args .most) (l .loop .i) (l .loop .v) (l .loop .inv) (s .args .stop)
+    (d .before .before .before .loop-test .taken) (met d) (omega (arith, c .before .worth .ensures .0))
 
 add-i : tie.Need-add-i Inv-loop μ-loop
 add-i c = search needs
@@ -103,10 +104,12 @@ loop-again c =
     let v = l .loop .v in
     let e = c .before .worth .ensures .0 in
     let small : v * 10 + (getD t i 0 - 48) ≤ s .args .most = omega arith in
-    subst (λ (x : ℕ). Reading t (s .args .at) (s .args .most) (i + 1) (v * 10 + x)) (sym e) (reading-goes t (s .args .at) (s .args .most) i v (l .loop .inv) (d .before .before .before .loop-test .taken) (met d) small)
+    subst (λ (x : ℕ). Scanned t (s .args .at) (s .args .most) (i + 1) (v * 10 + x)) (sym e)
+    (scan-goes t (s .args .at) (s .args .most) i v (l .loop .inv) (d .before .before .before .loop-test .taken) (met d) small)
 
 returns-4 : tie.Need-returns-4 Inv-loop μ-loop
-returns-4 c = let l = c .before in let s = l .before .before in reading-lacks (s .args .t .now) (s .args .at) (s .args .most) (l .loop .i) (l .loop .v) (l .loop .inv) (s .args .stop) (c .loop-test .left)
+returns-4 c = let l = c .before in let s = l .before .before in
+    scan-lacks (s .args .t .now) (s .args .at) (s .args .most) (l .loop .i) (l .loop .v) (l .loop .inv) (s .args .stop) (c .loop-test .left)
 
 pub read-number-spec : {M : Type 1} → statement M
 read-number-spec =

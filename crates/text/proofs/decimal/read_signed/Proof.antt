@@ -60,7 +60,8 @@ returns : tie.Need-returns
 returns c =
     let r = c .before .before in
     let s = r .before .before .before .before in
-    signed-minus (s .args .t .now) (s .args .at) (s .args .most) (s .args .stop) NoNumber (sym (r .before .before .is-minus .ensures) ∙ r .before .if1 .taken) (sym (r .read-number .ensures) ∙ c .enum-told .given .1)
+    signed-minus (s .args .t .now) (s .args .at) (s .args .most) (s .args .stop) NoNumber
+    (sym (r .before .before .is-minus .ensures) ∙ r .before .if1 .taken) (sym (r .read-number .ensures) ∙ c .enum-told .given .1)
 
 returns-2 : tie.Need-returns-2
 returns-2 c =
@@ -68,7 +69,8 @@ returns-2 c =
     let r = n .before .before in
     let s = r .before .before .before .before in
     minus-none _ _ (c .if2 .taken)
-    ∙ signed-minus (s .args .t .now) (s .args .at) (s .args .most) (s .args .stop) (Natural _ _) (sym (r .before .before .is-minus .ensures) ∙ r .before .if1 .taken) (sym (r .read-number .ensures) ∙ n .n .given .1)
+    ∙ signed-minus (s .args .t .now) (s .args .at) (s .args .most) (s .args .stop) (Natural _ _)
+    (sym (r .before .before .is-minus .ensures) ∙ r .before .if1 .taken) (sym (r .read-number .ensures) ∙ n .n .given .1)
 
 returns-3 : tie.Need-returns-3
 returns-3 c =
@@ -77,13 +79,15 @@ returns-3 c =
     let s = r .before .before .before .before in
     ap (λ (z : ℤ). Whole z (n .n .given .0 .1 .0)) (toZ-ofZ (record { sfits = c .negative .ok }) ∙ c .negative .ensures)
     ∙ minus-some _ _ (c .before .if2 .left)
-    ∙ signed-minus (s .args .t .now) (s .args .at) (s .args .most) (s .args .stop) (Natural _ _) (sym (r .before .before .is-minus .ensures) ∙ r .before .if1 .taken) (sym (r .read-number .ensures) ∙ n .n .given .1)
+    ∙ signed-minus (s .args .t .now) (s .args .at) (s .args .most) (s .args .stop) (Natural _ _)
+    (sym (r .before .before .is-minus .ensures) ∙ r .before .if1 .taken) (sym (r .read-number .ensures) ∙ n .n .given .1)
 
 returns-4 : tie.Need-returns-4
 returns-4 c =
     let r = c .before .before in
     let s = r .before .before .before .before in
-    signed-plus (s .args .t .now) (s .args .at) (s .args .most) (s .args .stop) NoNumber (sym (r .before .before .is-minus .ensures) ∙ r .before .if1 .left) (sym (r .read-number2 .ensures) ∙ c .enum-told2 .given .1)
+    signed-plus (s .args .t .now) (s .args .at) (s .args .most) (s .args .stop) NoNumber
+    (sym (r .before .before .is-minus .ensures) ∙ r .before .if1 .left) (sym (r .read-number2 .ensures) ∙ c .enum-told2 .given .1)
 
 returns-5 : tie.Need-returns-5
 returns-5 c =
@@ -91,7 +95,8 @@ returns-5 c =
     let r = n .before .before in
     let s = r .before .before .before .before in
     ap (λ (z : ℤ). Whole z (n .n2 .given .0 .1 .0)) (toZ-pos w32 (small c))
-    ∙ signed-plus (s .args .t .now) (s .args .at) (s .args .most) (s .args .stop) (Natural _ _) (sym (r .before .before .is-minus .ensures) ∙ r .before .if1 .left) (sym (r .read-number2 .ensures) ∙ n .n2 .given .1)
+    ∙ signed-plus (s .args .t .now) (s .args .at) (s .args .most) (s .args .stop) (Natural _ _)
+    (sym (r .before .before .is-minus .ensures) ∙ r .before .if1 .left) (sym (r .read-number2 .ensures) ∙ n .n2 .given .1)
 
 pub read-signed-spec : {M : Type 1} → statement M
 read-signed-spec =

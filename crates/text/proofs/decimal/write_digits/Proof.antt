@@ -12,7 +12,8 @@ use Rattle.text.proofs.decimal.write_digits.Statement.{statement}
 use Rattle.text.proofs.decimal.write_digits.Tie as tie
 
 abbrev Inv-loop : tie.InvT-loop
-Inv-loop out₀ at n end i₀ v₀ out i v = (at ≤ i) × (i ≤ length out₀) × (length out ≡ length out₀) × (sets out at (lastDigits (i - at) v) ≡ sets out₀ at (digits n))
+Inv-loop out₀ at n end i₀ v₀ out i v = (at ≤ i) × (i ≤ length out₀) × (length out ≡ length out₀)
+    × (sets out at (lastDigits (i - at) v) ≡ sets out₀ at (digits n))
 
 abbrev μ-loop : tie.MeasureT-loop
 μ-loop out₀ at n end i₀ v₀ out i v = i

@@ -27,10 +27,12 @@ sized c = c .size .ensures ∙ ap natAbs (toZ-ofZ (c .before .before .fits .z))
 
 -- the number's text, where it has a minus, and where not
 below : (c : tie.Then1) → numeral (c .before .before .before .args .z) ≡ minus ∷ digits (c .before .size .result)
-below c = let s = c .before .before .before in numeral-minus (s .args .z) (c .before .size .result) (sym (lt-flag (z s) zero tt tt) ∙ c .if1 .taken) (sized (c .before))
+below c = let s = c .before .before .before in
+    numeral-minus (s .args .z) (c .before .size .result) (sym (lt-flag (z s) zero tt tt) ∙ c .if1 .taken) (sized (c .before))
 
 above : (c : tie.Else1) → numeral (c .before .before .before .args .z) ≡ digits (c .before .size .result)
-above c = let s = c .before .before .before in numeral-plus (s .args .z) (c .before .size .result) (sym (lt-flag (z s) zero tt tt) ∙ c .if1 .left) (sized (c .before))
+above c = let s = c .before .before .before in
+    numeral-plus (s .args .z) (c .before .size .result) (sym (lt-flag (z s) zero tt tt) ∙ c .if1 .left) (sized (c .before))
 
 size-requires : tie.Need-size-requires
 size-requires c κs = search needs
@@ -56,11 +58,13 @@ returns : tie.Need-returns
 returns c =
     let w = c .before .before in
     let s = w .before .before .before .before .before in
-    subst (λ (l : List ℕ). Wrote (s .args .out .now) (s .args .at) (ended l (s .args .stop)) (w .write-number .last .0) (w .write-number .result)) (sym (below (w .before .before)))
+    subst (λ (l : List ℕ). Wrote (s .args .out .now) (s .args .at) (ended l (s .args .stop)) (w .write-number .last .0) (w .write-number .result))
+    (sym (below (w .before .before)))
     (wrote-then (wrote-byte (s .args .out .now) (s .args .at) minus) (w .write-number .ensures))
 
 write-number-requires-2 : tie.Need-write-number-requires-2
-write-number-requires-2 c κs = let s = c .before .before .before .before in omega (arith, ap (λ (l : List ℕ). length (ended l (s .args .stop))) (above (c .before)))
+write-number-requires-2 c κs = let s = c .before .before .before .before in
+    omega (arith, ap (λ (l : List ℕ). length (ended l (s .args .stop))) (above (c .before)))
 
 same-length-2 : tie.Need-same-length-2
 same-length-2 c = search needs
@@ -69,7 +73,8 @@ returns-2 : tie.Need-returns-2
 returns-2 c =
     let w = c .before .before in
     let s = w .before .before .before .before .before in
-    subst (λ (l : List ℕ). Wrote (s .args .out .now) (s .args .at) (ended l (s .args .stop)) (w .write-number2 .last .0) (w .write-number2 .result)) (sym (above (w .before .before)))
+    subst (λ (l : List ℕ). Wrote (s .args .out .now) (s .args .at) (ended l (s .args .stop)) (w .write-number2 .last .0) (w .write-number2 .result))
+    (sym (above (w .before .before)))
     (w .write-number2 .ensures)
 
 pub write-signed-spec : {M : Type 1} → statement M

@@ -30,7 +30,17 @@ returns c =
     let w₁ = w₂ .before .before in
     let b = w₁ .before .before in
     let a = b .before .before in
-    omega (arith, long-a a, long-b b, w₁ .width .ensures .0, w₂ .width2 .ensures .0, w₃ .width3 .ensures .0, c .width4 .ensures .0, line-long (a .before .before .before .args .r))
+    omega (
+      arith,
+      long-a a,
+      long-b b,
+      w₁ .width .ensures .0,
+      w₂ .width2 .ensures .0,
+      w₃ .width3 .ensures .0,
+      c .width4 .ensures .0,
+      line-long
+          (a .before .before .before .args .r),
+    )
 
 pub line-length-spec : {M : Type 1} → statement M
 line-length-spec =

@@ -21,7 +21,14 @@ write-number-requires-3 c κs =
     let w₂ = c .before .before .before in
     let w₁ = w₂ .before .before .before .before in
     let s = w₁ .before .before .before in
-    omega (arith, star-length (s .args .d) (s .args .k) (s .args .n), w₁ .write-number .ensures .past, w₁ .write-number .kept .0, w₂ .write-number2 .ensures .past, w₂ .write-number2 .kept .0)
+    omega (
+      arith,
+      star-length (s .args .d) (s .args .k) (s .args .n),
+      w₁ .write-number .ensures .past,
+      w₁ .write-number .kept .0,
+      w₂ .write-number2 .ensures .past,
+      w₂ .write-number2 .kept .0,
+    )
 
 same-length : tie.Need-same-length
 same-length c = search needs

@@ -18,7 +18,8 @@ returns-2 c =
     let h = m .before .before .before in
     let f = h .before .before in
     let a = f .before .before .args in
-    kept-gone (a .table .now) (a .marks .now) (a .i) (h .s .given .0 .0) (m .marked .result) (sym (f .read-slot .ensures) ∙ h .s .given .1) (m .marked .ensures) (c .if1 .taken)
+    kept-gone (a .table .now) (a .marks .now) (a .i) (h .s .given .0 .0) (m .marked .result) (sym (f .read-slot .ensures) ∙ h .s .given .1)
+    (m .marked .ensures) (c .if1 .taken)
 
 returns-3 : tie.Need-returns-3
 returns-3 c =
@@ -26,7 +27,8 @@ returns-3 c =
     let h = m .before .before .before in
     let f = h .before .before in
     let a = f .before .before .args in
-    kept-stays (a .table .now) (a .marks .now) (a .i) (h .s .given .0 .0) (m .marked .result) (sym (f .read-slot .ensures) ∙ h .s .given .1) (m .marked .ensures) (c .if1 .left)
+    kept-stays (a .table .now) (a .marks .now) (a .i) (h .s .given .0 .0) (m .marked .result) (sym (f .read-slot .ensures) ∙ h .s .given .1)
+    (m .marked .ensures) (c .if1 .left)
 
 pub kept-spec : {M : Type 1} → statement M
 kept-spec =

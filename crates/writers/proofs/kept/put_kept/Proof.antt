@@ -49,7 +49,8 @@ returns-2 c =
     let a = h .before .before .before .before .before .args in
     let o = a .out .now in
     let o′ = w .put-key .last .0 in
-    subst (λ (x : Slot). Added o (a .k) (keyed (a .i) x) o′ (a .k + 1)) (sym (holds h)) (subst (λ (v : ℕ). Put o (a .k) v o′) (p .pack .ensures) (w .put-key .ensures), refl)
+    subst (λ (x : Slot). Added o (a .k) (keyed (a .i) x) o′ (a .k + 1)) (sym (holds h))
+    (subst (λ (v : ℕ). Put o (a .k) v o′) (p .pack .ensures) (w .put-key .ensures), refl)
 
 pub put-kept-spec : {M : Type 1} → statement M
 put-kept-spec =

@@ -23,8 +23,11 @@ put-kept-requires : tie.Need-put-kept-requires Inv-loop μ-loop
 put-kept-requires c κs =
     let l = c .before .before in
     let s = l .before .before .before in
-    let f = keptAt (s .args .table .now) (s .args .marks .now) in
-    ((s .pre .0 .0, omega (arith, s .pre .0 .1)), omega (arith, s .pre .1, l .loop .inv .1 .count, l .loop .inv .1 .long, keys-room f (l .loop .i) (s .args .n) (omega arith)))
+    let f = keptAt (s .args .table .now) (s .args .marks .now) in (
+      (s .pre .0 .0, omega (arith, s .pre .0 .1)),
+      omega
+          (arith, s .pre .1, l .loop .inv .1 .count, l .loop .inv .1 .long, keys-room f (l .loop .i) (s .args .n) (omega arith)),
+    )
 
 add-i : tie.Need-add-i Inv-loop μ-loop
 add-i c =

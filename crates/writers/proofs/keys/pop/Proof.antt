@@ -8,7 +8,8 @@ use Rattle.writers.proofs.keys.pop.Statement.{statement}
 use Rattle.writers.proofs.keys.pop.Tie as tie
 
 -- the last key stored on top
-stored : (w : tie.After-put-key) → let s = w .before .before .before .before .before .before .before in Put (s .args .out .now) 0 (keyIn (s .args .out .now) (s .args .k)) (w .put-key .last .0)
+stored : (w : tie.After-put-key) → let s = w .before .before .before .before .before .before .before in
+    Put (s .args .out .now) 0 (keyIn (s .args .out .now) (s .args .k)) (w .put-key .last .0)
 stored w =
     let k₂ = w .before .before in
     let s = k₂ .before .before .before .before .before in
@@ -17,8 +18,11 @@ stored w =
 sift-requires : tie.Need-sift-requires
 sift-requires c κs =
     let w = c .before .before .before in
-    let s = w .before .before .before .before .before .before .before in
-    ((omega (arith, stored w .long, s .pre .0 .0), (omega arith, omega (arith, s .pre .0 .1))), pop-heap (s .args .out .now) (w .put-key .last .0) (s .args .k) (s .pre .1) (stored w))
+    let s = w .before .before .before .before .before .before .before in (
+      (omega (arith, stored w .long, s .pre .0 .0), (omega arith, omega (arith, s .pre .0 .1))),
+      pop-heap (s .args .out .now) (w .put-key .last .0)
+          (s .args .k) (s .pre .1) (stored w),
+    )
 
 returns : tie.Need-returns
 returns c =

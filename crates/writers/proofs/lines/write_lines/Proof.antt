@@ -14,12 +14,14 @@ use Rattle.writers.specs.Tally.{nth}
 use Rattle.writers.specs.Heaps.{Heap}
 use Rattle.writers.specs.Keys.{places, keyIn}
 use Rattle.writers.specs.Kept.{recordOf}
-use Rattle.writers.specs.LeftLaws.{ordered, Ready, Left, ordered-rising, ordered-file, ordered-inside, ordered-few, left-start, left-room, left-top, left-place, left-step, left-end}
+use Rattle.writers.specs.LeftLaws.{ordered, Ready, Left, ordered-rising, ordered-file, ordered-inside, ordered-few, left-start, left-room}
+use Rattle.writers.specs.LeftLaws.{left-top, left-place, left-step, left-end}
 use Rattle.writers.proofs.lines.write_lines.Statement.{statement}
 use Rattle.writers.proofs.lines.write_lines.Tie as tie
 
 abbrev Inv-loop : tie.InvT-loop
-Inv-loop table out₀ k total left₀ at₀ out left at = (length out ≡ length out₀) × ((m : List ℕ) → Ready table m out₀ k total → Left table (ordered table m) (drop total out₀) out left at)
+Inv-loop table out₀ k total left₀ at₀ out left at = (length out ≡ length out₀)
+    × ((m : List ℕ) → Ready table m out₀ k total → Left table (ordered table m) (drop total out₀) out left at)
 
 abbrev μ-loop : tie.MeasureT-loop
 μ-loop table out₀ k total left₀ at₀ out left at = left
@@ -77,7 +79,8 @@ record-of-requires c κs =
     let p = c .before .before in
     let m = s p .pre .1 .0 in
     let r = s p .pre .1 .1 in
-    subst (λ (v : ℕ). slotWidth * (v % places) + slotWidth ≤ length (t p)) (sym (top p m r)) (ordered-inside (t p) (s p .pre .0) m (k p) (omega (arith, one p m r .count)))
+    subst (λ (v : ℕ). slotWidth * (v % places) + slotWidth ≤ length (t p)) (sym (top p m r))
+    (ordered-inside (t p) (s p .pre .0) m (k p) (omega (arith, one p m r .count)))
 
 -- the record of the key, and its line's length
 module _ (c : tie.After-record-of Inv-loop μ-loop) where
@@ -120,7 +123,8 @@ loop-again c =
           let w = n .line-length .ensures in
           let e = long q m r in
           let fit = place (p q) m r in
-          left-step (t (p q)) (ordered (t (p q)) m) (rest (p q)) (l (p q) .loop .out) (k (p q)) at (ordered-rising (t (p q)) m) (one (p q) m r) o₁ o₂ at′ (x .write-line .result) (p q .pop .ensures .1) (omega arith)
+          left-step (t (p q)) (ordered (t (p q)) m) (rest (p q)) (l (p q) .loop .out) (k (p q)) at (ordered-rising (t (p q)) m)
+          (one (p q) m r) o₁ o₂ at′ (x .write-line .result) (p q .pop .ensures .1) (omega arith)
           (subst (λ (y : Record). Wrote o₁ at′ (lineOf y) o₂ (x .write-line .result)) (is q m r) (x .write-line .ensures)),
     )
 
@@ -134,7 +138,8 @@ returns c m r =
     let tb = a .args .table .now in
     let rst = drop (a .args .total) (a .args .out .now) in
     let e : q .loop .left ≡ 0 = omega arith in
-    left-end tb (ordered tb m) rst (q .loop .out) (q .loop .at) (subst (λ (x : ℕ). Left tb (ordered tb m) rst (q .loop .out) x (q .loop .at)) e (q .loop .inv .1 m r))
+    left-end tb (ordered tb m) rst (q .loop .out) (q .loop .at)
+    (subst (λ (x : ℕ). Left tb (ordered tb m) rst (q .loop .out) x (q .loop .at)) e (q .loop .inv .1 m r))
     ∙ ap (λ (x : List ℕ). x ++ rst) (ordered-file tb (a .pre .0) m)
 
 pub write-lines-spec : {M : Type 1} → statement M

@@ -24,7 +24,8 @@ returns c =
     let h = c .before .before .before in
     let f = h .before .before in
     let a = f .before .before .args in
-    marks-same (a .marks .now) _ (eqb (h .i .given .0 .0)) (isAt (findOf (a .table .now) (a .p))) (λ j. ap (λ (x : Found). isAt x j) (sym (h .i .given .1) ∙ f .find .ensures)) (c .mark .ensures)
+    marks-same (a .marks .now) _ (eqb (h .i .given .0 .0)) (isAt (findOf (a .table .now) (a .p)))
+    (λ j. ap (λ (x : Found). isAt x j) (sym (h .i .given .1) ∙ f .find .ensures)) (c .mark .ensures)
 
 returns-2 : tie.Need-returns-2
 returns-2 c =

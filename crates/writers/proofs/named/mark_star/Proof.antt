@@ -39,7 +39,8 @@ loop-again c =
     let finds : ℕ → ℕ → Bool = λ k i. isAt (findOf t (adjacentAt v k)) i in (
       omega arith,
       marks-more (s .args .marks .now) (l .loop .marks) _ finds j (l .loop .inv .1)
-          (marks-same (l .loop .marks) _ (isAt (findOf t (a .adjacent-of .result))) (finds j) (λ i. ap (λ (x : Point). isAt (findOf t x) i) (a .adjacent-of .ensures)) (c .mark-point .ensures)),
+          (marks-same (l .loop .marks) _ (isAt (findOf t (a .adjacent-of .result))) (finds j)
+          (λ i. ap (λ (x : Point). isAt (findOf t x) i) (a .adjacent-of .ensures)) (c .mark-point .ensures)),
     )
 
 returns : tie.Need-returns Inv-loop μ-loop
