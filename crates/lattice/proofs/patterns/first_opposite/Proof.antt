@@ -1,16 +1,16 @@
--- `lattice::patterns::first` meets its promise. Assumes nothing.
+-- `lattice::patterns::first_opposite` meets its promise. Assumes nothing.
 use borrow.Author.Needs.{needs}
 use mathlib.Core.Path.{_≡_, sym, _∙_, ap, subst}
 use Prim.Native.Nat.{_<_}
 use native.Mathlib.Omega.{arith}
-use Rattle.lattice.proofs.patterns.first.Statement.{statement}
+use Rattle.lattice.proofs.patterns.first_opposite.Statement.{statement}
 use Rattle.lattice.specs.Rows.{pointOf}
 use Rattle.lattice.specs.Patterns.{patternOf, orient}
 use Rattle.lattice.specs.Bounds.{Hex}
 use Rattle.lattice.specs.PatternLaws.{first-close}
 use Rattle.lattice.specs.declared.points.Point.{Point}
 use Rattle.lattice.specs.declared.patterns.Place.{Place}
-use Rattle.lattice.proofs.patterns.first.Tie as tie
+use Rattle.lattice.proofs.patterns.first_opposite.Tie as tie
 
 pattern-requires : tie.Need-pattern-requires
 pattern-requires c κs = search needs
@@ -31,5 +31,5 @@ oriented-requires c κs =
 returns : tie.Need-returns
 returns c = c .oriented .ensures ∙ ap (orient (c .before .before .before .args .k)) (read (c .before))
 
-pub first-spec : {M : Type 1} → statement M
-first-spec = tie.close (tie.spec pattern-requires point-requires oriented-requires returns)
+pub first-opposite-spec : {M : Type 1} → statement M
+first-opposite-spec = tie.close (tie.spec pattern-requires point-requires oriented-requires returns)

@@ -1,9 +1,9 @@
--- `flaskbloom::numbers::put_point` meets its promise. Assumes nothing.
+-- `lattice::rows::put_point` meets its promise. Assumes nothing.
 use native.Mathlib.Omega.{arith}
 use borrow.Author.Needs.{needs}
-use Rattle.flaskbloom.specs.NumberLaws.{row-put}
-use Rattle.flaskbloom.proofs.numbers.put_point.Statement.{statement}
-use Rattle.flaskbloom.proofs.numbers.put_point.Tie as tie
+use Rattle.lattice.specs.AnswerRowLaws.{row-put}
+use Rattle.lattice.proofs.rows.put_point.Statement.{statement}
+use Rattle.lattice.proofs.rows.put_point.Tie as tie
 
 returns : tie.Need-returns
 returns c =

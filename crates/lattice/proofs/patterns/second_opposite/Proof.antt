@@ -1,9 +1,9 @@
--- `lattice::patterns::second` meets its promise. Assumes nothing.
+-- `lattice::patterns::second_opposite` meets its promise. Assumes nothing.
 use borrow.Author.Needs.{needs}
 use mathlib.Core.Path.{_≡_, sym, _∙_, ap}
 use native.Mathlib.Omega.{arith}
 use Rattle.lattice.specs.declared.patterns.Spot.the-variants.{At}
-use Rattle.lattice.proofs.patterns.second.Statement.{statement}
+use Rattle.lattice.proofs.patterns.second_opposite.Statement.{statement}
 use Rattle.lattice.specs.Rows.{pointOf, held, held-none, held-at}
 use Rattle.lattice.specs.Patterns.{onSpot, patternOf, orient}
 use Rattle.lattice.specs.PatternLaws.{Close, second-close}
@@ -11,7 +11,7 @@ use Rattle.lattice.specs.declared.patterns.P.{P}
 use Rattle.lattice.specs.declared.patterns.Place.{Place}
 use Rattle.lattice.specs.declared.points.Point.{Point}
 use Rattle.lattice.specs.declared.patterns.Spot.{Spot}
-use Rattle.lattice.proofs.patterns.second.Tie as tie
+use Rattle.lattice.proofs.patterns.second_opposite.Tie as tie
 
 pattern-requires : tie.Need-pattern-requires
 pattern-requires c κs = search needs
@@ -52,6 +52,6 @@ returns-2 c =
     let k = c .before .before .before .before .before .before .args .k in
     ap At (c .oriented .ensures) ∙ ap (onSpot (orient k)) (read (c .before))
 
-pub second-spec : {M : Type 1} → statement M
-second-spec =
+pub second-opposite-spec : {M : Type 1} → statement M
+second-opposite-spec =
     tie.close (tie.spec pattern-requires point-requires oriented-requires returns returns-2)
