@@ -56,7 +56,7 @@ fn subdivide_vertex(t: &mut [u8], v: Record, n: usize, free: usize) -> u8
     if free < 6 {
         return NO_ROOM;
     }
-    divide(t, v, old, n);
+    divide(t, v, old, new, n);
     DONE
 }
 

@@ -4,6 +4,7 @@ ghost use Prim.Native.Nat.{_+_, _*_, _≤_, _<_};
 ghost use lib.ListN.{length};
 ghost use Rattle.lattice.specs.RecordLaws.{Inner};
 ghost use Rattle.lattice.specs.Stars.{adjacentAt};
+ghost use Rattle.lattice.specs.Subdivision.{centreOf, bornOf};
 ghost use Rattle.table.specs.Slots.{slotWidth, Table};
 ghost use Rattle.table.specs.Order.{InOrder};
 ghost use Rattle.mesh.specs.Subdivide.{renewOf, renewedTo, enteredTo, subdivided};
@@ -13,7 +14,6 @@ ghost use Rattle.mesh.specs.Points.{pointsOf};
 use lattice::Point;
 use lattice::Record;
 use lattice::back;
-use lattice::born;
 use lattice::centre;
 use lattice::updated;
 use table::Found;
@@ -62,26 +62,36 @@ fn renew_all(t: &mut [u8], v: Record, old: [Point; 6], n: usize)
     }
 }
 
+// The vertex that enters at p, which is place j of the star of c.
+fn born_at(c: Record, p: Point, j: u8) -> Record
+    requires { ⌜ (c .k < 12) × ((j < 6) × (p ≡ adjacentAt c j)) ⌝ }
+    ensures { λ r. ⌜ r ≡ bornOf c j ⌝ }
+{
+    let k = back(c.k, j) % 4;
+    let n = c.n;
+    Record { at: p, d: 3, k, n }
+}
+
 // The six vertices that the star of c starts with, in its order.
-fn enter_all(t: &mut [u8], c: Record, n: usize)
-    requires { ⌜ Table (now t) n × (Inner c × (c .d ≡ 6)) ⌝ }
+fn enter_all(t: &mut [u8], c: Record, new: [Point; 6], n: usize)
+    requires { ⌜ Table (now t) n × (Inner c × ((c .d ≡ 6) × (new ≡ pointsOf c))) ⌝ }
     ensures { λ _. ⌜ now (t .exit) ≡ enteredTo (now (t .entry)) c 6 ⌝ }
 {
     let mut j: u8 = 0;
     while j < 6 {
-        let r = born(c, j);
+        let r = born_at(c, new[j as usize], j);
         enter(t, r, n);
         j += 1;
     }
 }
 
 // The whole subdivision of v.
-pub fn divide(t: &mut [u8], v: Record, old: [Point; 6], n: usize)
-    requires { ⌜ Table (now t) n × (Whole (now t) v × (old ≡ pointsOf v)) ⌝ }
+pub fn divide(t: &mut [u8], v: Record, old: [Point; 6], new: [Point; 6], n: usize)
+    requires { ⌜ Table (now t) n × (Whole (now t) v × ((old ≡ pointsOf v) × (new ≡ pointsOf (centreOf v)))) ⌝ }
     ensures { λ _. ⌜ now (t .exit) ≡ subdivided (now (t .entry)) v ⌝ }
 {
     let c = centre(v);
     replace(t, c, n);
     renew_all(t, v, old, n);
-    enter_all(t, c, n);
+    enter_all(t, c, new, n);
 }

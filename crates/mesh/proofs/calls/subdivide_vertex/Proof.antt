@@ -164,7 +164,7 @@ module _ (x : tie.Else6) where
       (sym (fresh b) ∙ not-false _ (x .before .if5 .left)) room
 
 divide-requires : tie.Need-divide-requires
-divide-requires c κs = let x = c .before in (begun (e x) .pre .0, (passed x, a x .before .before .points-of2 .ensures))
+divide-requires c κs = let x = c .before in (begun (e x) .pre .0, (passed x, (a x .before .before .points-of2 .ensures, new-points (fits-deep (a x) .before))))
 
 same-length-4 : tie.Need-same-length-4
 same-length-4 c = search needs

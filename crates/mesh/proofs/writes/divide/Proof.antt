@@ -14,6 +14,7 @@ use Rattle.mesh.proofs.writes.divide.Statement.{statement}
 use Rattle.mesh.specs.WriteLaws.{Renewable, whole-renewable, ready-turn, renewed-table}
 use Rattle.mesh.specs.CallLaws.{centre-inner, subdivided-is}
 use Rattle.mesh.specs.Subdivide.{renewedTo, enteredTo}
+use Rattle.mesh.specs.Points.{pointsOf}
 use Rattle.mesh.proofs.writes.divide.Tie as tie
 
 -- the table with the centre replaced
@@ -35,7 +36,7 @@ renew-all-requires c κs =
     let v = s .args .v in
     let e = sym (centred w) in (
       subst (λ (u : List ℕ). Table u (s .args .n)) e (replace-table t (centreOf v) (s .args .n) (s .pre .0)),
-      (subst (λ (u : List ℕ). Renewable u v) e (whole-renewable (s .pre .1 .0)), s .pre .1 .1),
+      (subst (λ (u : List ℕ). Renewable u v) e (whole-renewable (s .pre .1 .0)), s .pre .1 .1 .0),
     )
 
 -- and the old adjacent vertices after it
@@ -59,7 +60,7 @@ enter-all-requires c κs =
     let r = s .pre .1 .0 .ready in (
       subst (λ (u : List ℕ). Table u (s .args .n)) (sym (renewed-all x))
           (renewed-table (replaceOf t (centreOf v)) v 6 (s .args .n) (replace-table t (centreOf v) (s .args .n) (s .pre .0))),
-      subst (λ (y : Record). Inner y × (y .d ≡ 6)) (sym (w .before .before .centre .ensures)) (centre-inner t v r, r .six),
+      subst (λ (y : Record). Inner y × ((y .d ≡ 6) × (s .args .new ≡ pointsOf y))) (sym (w .before .before .centre .ensures)) (centre-inner t v r, (r .six, s .pre .1 .1 .1)),
     )
 
 same-length : tie.Need-same-length
