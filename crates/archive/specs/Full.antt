@@ -1,6 +1,5 @@
--- The full file of a grown mesh: `full-returns` it comes back · `full-accepted` nothing but grown meshes and their files is accepted · `full-one`
--- two tables of one file hold the same · `full-count` as many
--- records as lines.
+-- The full file of a grown mesh: `full-returns` it comes back · `full-accepted` nothing but grown meshes and their files is accepted · `full-one` two
+-- tables of one file hold the same · `full-count` as many records as lines.
 -- Assumes nothing.
 use mathlib.Core.Path.{_≡_, sym, ap, _∙_, subst}
 use mathlib.Core.Bool.{Bool, true, cond}
@@ -16,7 +15,7 @@ use Rattle.table.specs.Entries.{lookUp, recordsOf}
 use Rattle.table.specs.MapLaws.{lookup-point, lookup-valid, records-looked, looked-records}
 use Rattle.table.specs.declared.entries.Looked.the-variants.{Held}
 use Rattle.text.specs.Line.{lines}
-use Rattle.writers.specs.SortLaws.{sort-length}
+use Rattle.sorting.specs.SortLaws.{sort-length}
 use Rattle.writers.specs.Files.{before, sorted, fullFile}
 use Rattle.writers.specs.FileLaws.{sorted-rises, sorted-holds, holds-sorted, sorted-one}
 use Rattle.mesh.specs.Grown.{Grown}
@@ -85,8 +84,8 @@ module _ (table scratch f : List ℕ) (z : readFullOf table scratch f .number �
 
   -- "11: not a grown mesh": what is accepted is grown, and the file is its full file, byte for byte
   pub full-accepted : Grown (readFullOf table scratch f .table) × (f ≡ fullFile (readFullOf table scratch f .table))
-  full-accepted = subst (λ (o : Outcome). Grown (o .table) × (f ≡ fullFile (o .table))) (sym (way .is))
-      (is-grown (way .table) (way .grown), lined .text ∙ ap lines records)
+  full-accepted =
+      subst (λ (o : Outcome). Grown (o .table) × (f ≡ fullFile (o .table))) (sym (way .is)) (is-grown (way .table) (way .grown), lined .text ∙ ap lines records)
 
   -- as many records as lines
   pub full-count : length (recordsOf (readFullOf table scratch f .table)) ≡ linesIn f

@@ -1,8 +1,8 @@
--- A file that leaves out redundant records of a grown mesh, some or all: `Leaves`. What it leaves out is restored: `read-back` reading it ends
--- with 0, or with 12 where it keeps a redundant one, and with the mesh.
--- Why: each record that it leaves out is the adjacent of a degree 6 record, which is no redundant one and so in the file; and in a grown mesh a
--- degree 3 adjacent of a degree 6 vertex is the very record that
--- restoring enters there (M4, docs/MODEL.md). And back: `read-leaves` what is read with 0 or 12 leaves out redundant records of a grown mesh.
+-- A file that leaves out redundant records of a grown mesh, some or all: `Leaves`. What it leaves out is restored: `read-back` reading it ends with 0,
+-- or with 12 where it keeps a redundant one, and with the mesh.
+-- Why: each record that it leaves out is the adjacent of a degree 6 record, which is no redundant one and so in the file; and in a grown mesh a degree
+-- 3 adjacent of a degree 6 vertex is the very record that restoring enters there (M4, docs/MODEL.md). And back: `read-leaves` what is read with 0 or 12
+-- leaves out redundant records of a grown mesh.
 -- Assumes nothing.
 use mathlib.Core.Path.{_≡_, refl, sym, ap, _∙_, fun-ext}
 use mathlib.Core.Logic.{_⊎_, inl, inr}
@@ -25,7 +25,7 @@ use Rattle.table.specs.RecordLaws.{apart-fewer}
 use Rattle.table.specs.MapLaws.{lookup-point, lookup-valid, records-looked, looked-records}
 use Rattle.table.specs.declared.entries.Looked.the-variants.{Absent, Held}
 use Rattle.text.specs.Line.{lines}
-use Rattle.writers.specs.SortLaws.{Rising}
+use Rattle.sorting.specs.SortLaws.{Rising}
 use Rattle.writers.specs.Files.{redundant}
 use Rattle.writers.specs.FileLaws.{Before, redundant-same}
 use Rattle.writers.specs.RedundantLaws.{Redundant, redundant-is, is-redundant, six-kept}
@@ -133,7 +133,8 @@ read-back t g rs x table scratch fit room =
       result = w;
       order = v;
       same = same;
-      is = reduced-ends table scratch (lines rs) rs u w fit e k
+      is =
+          reduced-ends table scratch (lines rs) rs u w fit e k
           ∙ (λ i. cond (grown i) (cond (someOf (alike i) rs) (refused 12 0 table scratch) (accepted w scratch)) (refused 11 0 table scratch));
     }
 
@@ -158,8 +159,8 @@ module _ (table scratch f : List ℕ) (kept : Bool) (x : ReducedRead table scrat
       stands r m = restores .adds .keeps (r .at) r (lined .held r m)
 
       -- a record restored is redundant
-      left : (r : Record) → lookUp (x .table) (r .at) ≡ Held r → redundant (x .table) r ≡ false → (lookUp (x .lined) (r .at) ≡ Held r)
-          ⊎ RestoredOf (x .records) r → List·Memᴰ r (x .records)
+      left : (r : Record) → lookUp (x .table) (r .at) ≡ Held r → redundant (x .table) r ≡ false
+          → (lookUp (x .lined) (r .at) ≡ Held r) ⊎ RestoredOf (x .records) r → List·Memᴰ r (x .records)
       left r h e (inl k) = lined .only (r .at) r k
       left r h e (inr (v, m, d, j, i, k)) =
           absurd (not-both (is-redundant (x .table) r (record {

@@ -23,8 +23,8 @@ use Rattle.readers.specs.FaultLaws.{fault-number, stop-number}
 
 module _ (t s f : List ℕ) where
   -- ---- the full reader
-  pub full-ends : (rs : List Record) (u : List ℕ) → lengthsFit t s ≡ true → readLines f (clearedOf t) ≡ Read rs u → readFullOf t s f
-      ≡ cond (isGrown u) (accepted u s) (refused 11 0 t s)
+  pub full-ends : (rs : List Record) (u : List ℕ) → lengthsFit t s ≡ true → readLines f (clearedOf t) ≡ Read rs u
+      → readFullOf t s f ≡ cond (isGrown u) (accepted u s) (refused 11 0 t s)
   unfolding readFullOf
   full-ends rs u fit e = λ i. cond (fit i) (endFull t s (e i)) (outcome 1 0 t s)
 
@@ -42,16 +42,15 @@ module _ (t s f : List ℕ) where
     where
       judged : lengthsFit t s ≡ true → (rs : List Record) (u : List ℕ) → readLines f (clearedOf t) ≡ Read rs u → (b : Bool) → isGrown u ≡ b
           → cond b (accepted u s) (refused 11 0 t s) .number ≡ 0 → FullRead
-      judged fit rs u e true g z =
-          record {
-            fit = fit;
-            records = rs;
-            table = u;
-            lines = e;
-            grown = g;
-            is = full-ends rs u fit e
-                ∙ ap (λ (b : Bool). cond b (accepted u s) (refused 11 0 t s)) g;
-          }
+      judged fit rs u e true g z = record {
+        fit = fit;
+        records = rs;
+        table = u;
+        lines = e;
+        grown = g;
+        is = full-ends rs u fit e
+            ∙ ap (λ (b : Bool). cond b (accepted u s) (refused 11 0 t s)) g;
+      }
       judged fit rs u e false g z = absurd (omega arith)
 
       go : (b : Bool) → lengthsFit t s ≡ b → (x : Lines) → readLines f (clearedOf t) ≡ x → cond b (endFull t s x) (outcome 1 0 t s) .number ≡ 0 → FullRead
@@ -63,8 +62,8 @@ module _ (t s f : List ℕ) where
   abbrev pub ended : List Record → List ℕ → Outcome
   ended rs w = cond (isGrown w) (cond (someOf (redundant w) rs) (refused 12 0 t s) (accepted w s)) (refused 11 0 t s)
 
-  pub reduced-ends : (rs : List Record) (u w : List ℕ) → lengthsFit t s ≡ true → readLines f (clearedOf t) ≡ Read rs u → restoreAll rs (With u)
-      ≡ With w → readReducedOf t s f ≡ ended rs w
+  pub reduced-ends : (rs : List Record) (u w : List ℕ) → lengthsFit t s ≡ true → readLines f (clearedOf t) ≡ Read rs u → restoreAll rs (With u) ≡ With w
+      → readReducedOf t s f ≡ ended rs w
   unfolding readReducedOf
   reduced-ends rs u w fit e k = (λ i. cond (fit i) (endReduced t s (e i)) (outcome 1 0 t s)) ∙ ap (endRestored t s rs) k
 
@@ -120,11 +119,11 @@ module _ (t s f : List ℕ) where
       back fit rs u e (Stopped number) k z = let (l, h) = stop-number rs u number k in other number (omega arith) h z
       back fit rs u e (With w) k z = judged fit rs u w e k (isGrown w) refl z
 
-      go : (b : Bool) → lengthsFit t s ≡ b → (x : Lines) → readLines f (clearedOf t) ≡ x → cond b (endReduced t s x) (outcome 1 0 t s) .number
-          ≡ cond kept 12 0 → ReducedRead kept
+      go : (b : Bool) → lengthsFit t s ≡ b → (x : Lines) → readLines f (clearedOf t) ≡ x
+          → cond b (endReduced t s x) (outcome 1 0 t s) .number ≡ cond kept 12 0 → ReducedRead kept
       go false fit x e z = other 1 (omega arith) (omega arith) z
-      go true fit (Fault number line) e z = let (l, h) = fault-number f (length f) 0 1 none (clearedOf t) number line e in
-          other number (omega arith) (omega arith) z
+      go true fit (Fault number line) e z =
+          let (l, h) = fault-number f (length f) 0 1 none (clearedOf t) number line e in other number (omega arith) (omega arith) z
       go true fit (Read rs u) e z = back fit rs u e (restoreAll rs (With u)) refl z
 
   pub reduced-zero : readReducedOf t s f .number ≡ 0 → ReducedRead false

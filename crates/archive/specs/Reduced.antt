@@ -1,6 +1,6 @@
 -- The reduced file of a grown mesh: `reduced-returns` it comes back · `reduced-accepted` nothing but grown meshes and their files is accepted ·
--- `reduced-one` two grown meshes of one file hold the same ·
--- `reduced-count` as many records as lines and redundant ones · `kept-twelve`, `twelve-kept` "12: grown, but a redundant record was kept in a reduced file".
+-- `reduced-one` two grown meshes of one file hold the same · `reduced-count` as many records as lines and redundant ones · `kept-twelve`, `twelve-kept`
+-- "12: grown, but a redundant record was kept in a reduced file".
 -- Assumes nothing.
 use mathlib.Core.Path.{_≡_, refl, sym, ap, _∙_, subst}
 use mathlib.Core.Bool.{Bool, true, false, cond, not}
@@ -17,7 +17,7 @@ use Rattle.table.specs.Order.{InOrder}
 use Rattle.table.specs.Entries.{lookUp, recordsOf}
 use Rattle.table.specs.MapLaws.{records-looked, looked-records, records-count}
 use Rattle.text.specs.Line.{lines}
-use Rattle.writers.specs.SortLaws.{sort-length}
+use Rattle.sorting.specs.SortLaws.{sort-length}
 use Rattle.writers.specs.Files.{before, sorted, redundant, leaveOut, reducedFile}
 use Rattle.writers.specs.FileLaws.{left-rises, left-holds, holds-left, left-one}
 use Rattle.mesh.specs.Grown.{Grown}
@@ -90,8 +90,8 @@ module _ (table scratch f : List ℕ) (z : readReducedOf table scratch f .number
 
   -- what is accepted is grown, and the file is its reduced file, byte for byte
   pub reduced-accepted : Grown (readReducedOf table scratch f .table) × (f ≡ reducedFile (readReducedOf table scratch f .table))
-  reduced-accepted = subst (λ (o : Outcome). Grown (o .table) × (f ≡ reducedFile (o .table))) (sym (way .is))
-      (is-grown (way .table) (way .grown), text ∙ ap lines records)
+  reduced-accepted =
+      subst (λ (o : Outcome). Grown (o .table) × (f ≡ reducedFile (o .table))) (sym (way .is)) (is-grown (way .table) (way .grown), text ∙ ap lines records)
 
   -- as many records as lines and redundant ones
   pub reduced-count : length (recordsOf (readReducedOf table scratch f .table)) ≡ linesIn f + length (redundants (readReducedOf table scratch f .table))
@@ -128,8 +128,8 @@ pub kept-twelve : (t table scratch : List ℕ) → Grown t → (rs : List Record
     → readReducedOf table scratch (lines rs) .number ≡ 12
 kept-twelve t table scratch g rs x r m e fit room =
     let b = read-back t g rs x table scratch fit room in
-    ap (λ (o : Outcome). o .number)
-    (b .is ∙ ap (λ (k : Bool). cond k (refused 12 0 table scratch) (accepted (b .result) scratch)) (at-some (redundant t) rs r m e))
+    ap (λ (o : Outcome). o .number) (b .is ∙ ap (λ (k : Bool). cond k (refused 12 0 table scratch) (accepted (b .result) scratch))
+    (at-some (redundant t) rs r m e))
 
 -- and no other file
 pub record Kept (table f : List ℕ) : Type 0 where

@@ -13,8 +13,8 @@ use Rattle.table.specs.Entries.{lookUp, recordsOf}
 use Rattle.table.specs.MapLaws.{Apart, records-same}
 use Rattle.table.specs.declared.entries.Looked.{Looked}
 use Rattle.table.specs.declared.entries.Looked.the-variants.{Absent, Held}
-use Rattle.writers.specs.SortLaws.{Rising}
-use Rattle.writers.specs.LineOrder.{orderOf}
+use Rattle.sorting.specs.SortLaws.{Rising}
+use Rattle.text.specs.LineOrder.{orderOf}
 use Rattle.writers.specs.FileLaws.{Before}
 use Rattle.readers.specs.Readers.{Outcome, accepted}
 use Rattle.readers.specs.Additions.{held-absent}
@@ -45,7 +45,7 @@ both-within t u f g p = go (lookUp t p) (lookUp u p) refl refl
 pub rising-apart : (rs : List Record) → Rising Before rs → Valid rs → Apart rs
 rising-apart [] h v = tt
 rising-apart (r ∷ rs) h v = (
-  λ q m e. (let l = before-order r q (v r (List·Memᴰ·head refl)) (v q (List·Memᴰ·tail m)) (h .0 q m) in let k : orderOf (q .at) ≡ orderOf (r .at) =
-      ap orderOf e in omega arith),
+  λ q m e. (let l = before-order r q (v r (List·Memᴰ·head refl)) (v q (List·Memᴰ·tail m)) (h .0 q m) in let k : orderOf (q .at)
+      ≡ orderOf (r .at) = ap orderOf e in omega arith),
   rising-apart rs (h .1) (λ q m. v q (List·Memᴰ·tail m)),
 )

@@ -1,4 +1,5 @@
--- Document 01, "Census program": the text for an input, and what the call does. What the promises cite: `censusOf` for the call, `programText` for the program.
+-- Document 01, "Census program": the text for an input, and what the call does. What the promises cite: `censusOf` for the call, `programText` for
+-- the program.
 -- `tabbed` a line of words, `row` one of numbers · `countsText`, `refusedText` the two outputs · `readInputOf` the input, read ·
 -- `putText` a text written, or refused with 13 · `Result` number, bytes written, and what was lent, after.
 -- Assumes nothing.

@@ -1,6 +1,6 @@
 -- The input, read: `input-long`, `long-unfit`, `long-fit`, `input-read` the ways of reading it · `input-line` no line at fault is past the input's
--- bytes · `input-order` what is read is a
--- table in order · `census-refused`, `census-counted` the text that follows, `refused-most`, `counted-most` of at most 128 bytes.
+-- bytes · `input-order` what is read is a table in order · `census-refused`, `census-counted` the text that follows, `refused-most`, `counted-most` of
+-- at most 128 bytes.
 -- Assumes nothing.
 use mathlib.Core.Path.{_≡_, refl, sym, ap, _∙_, subst}
 use mathlib.Core.Bool.{Bool, true, false, cond}
@@ -48,8 +48,8 @@ input-read t s input h = go (lengthsFit t s) refl
     short : ltb mostInput (length input) ≡ false
     short = le-ltb mostInput (length input) h
 
-    go : (b : Bool) → lengthsFit t s ≡ b → readFullOf t s input
-        ≡ cond b (cond (ltb mostInput (length input)) (refused 8 0 t s) (readFullOf t s input)) (outcome 1 0 t s)
+    go : (b : Bool) → lengthsFit t s ≡ b
+        → readFullOf t s input ≡ cond b (cond (ltb mostInput (length input)) (refused 8 0 t s) (readFullOf t s input)) (outcome 1 0 t s)
     go true e = ap (λ (x : Bool). cond x (refused 8 0 t s) (readFullOf t s input)) (sym short)
     go false e = full-unfit t s input e
 

@@ -1,8 +1,6 @@
 -- The texts of a census, part by part: `header-is` the bytes of the header, `refused-is` the line of a refusal · `Copied`, `copied-start`,
--- `copied-more`, `copied-all` bytes stored one by
--- one · `Rowed`, `rowed-start`, `rowed-room`, `rowed-more`, `rowed-all` numbers written one by one · `Measured`, `measured-start`,
--- `measured-more`, `measured-all` their width · `put-short`,
--- `put-done` a text refused with 13, or written.
+-- `copied-more`, `copied-all` bytes stored one by one · `Rowed`, `rowed-start`, `rowed-room`, `rowed-more`, `rowed-all` numbers written one by one ·
+-- `Measured`, `measured-start`, `measured-more`, `measured-all` their width · `put-short`, `put-done` a text refused with 13, or written.
 -- Assumes nothing.
 use mathlib.Core.Path.{_≡_, refl, sym, ap, _∙_}
 use mathlib.Core.Bool.{Bool, cond}
@@ -86,8 +84,8 @@ row-from (n ∷ ns) (suc i) h =
         ap (λ (b : Bool). cond b feed tab) (ne-eqb (i + 1) (length ns) e ∙ sym (ne-eqb (suc i + 1) (suc (length ns)) f))
 
 row-next : (ns : List ℕ) (i : ℕ) → i < length ns → row (drop i ns) ≡ ended (digits (getD ns i 0)) (stopAt (length ns) i) ++ row (drop (i + 1) ns)
-row-next ns i h = let e : suc i ≡ i + 1 = omega arith in row-from ns i h
-    ∙ ap (λ (k : ℕ). ended (digits (getD ns i 0)) (stopAt (length ns) i) ++ row (drop k ns)) e
+row-next ns i h =
+    let e : suc i ≡ i + 1 = omega arith in row-from ns i h ∙ ap (λ (k : ℕ). ended (digits (getD ns i 0)) (stopAt (length ns) i) ++ row (drop k ns)) e
 
 none-left : (ns : List ℕ) (i : ℕ) → length ns ≤ i → row (drop i ns) ≡ []
 unfolding tabbed

@@ -46,10 +46,10 @@ fn read_input(input: &[u8], table: &mut [u8], scratch: &mut [u8]) -> ReadBack
     read_full(table, scratch, input)
 }
 
-// The census of an input: what document 01's program writes for it goes to `out`, the table and the scratch table being lent as `read_full` wants
-// them and left as it leaves them.
-// Gives back the number in the text, 0 where it counts, and the bytes written. 13 where `out` is shorter than the text, with nothing written; 128
-// bytes always suffice.
+// The census of an input: what document 01's program writes for it goes to `out`, the table and the scratch table being lent as `read_full` wants them
+// and left as it leaves them.
+// Gives back the number in the text, 0 where it counts, and the bytes written. 13 where `out` is shorter than the text, with nothing written; 128 bytes
+// always suffice.
 pub fn census(input: &[u8], table: &mut [u8], scratch: &mut [u8], out: &mut [u8]) -> Census
     ensures { λ r. ⌜ result (put (r .number) (r .written) (now (out .exit))) (now (table .exit)) (now (scratch .exit))
         ≡ censusOf (now (input .entry)) (now (table .entry)) (now (scratch .entry)) (now (out .entry)) ⌝ }

@@ -1,7 +1,6 @@
 -- The ways through the functions. Loops that sum: `Summed`, `summed-start`, `summed-more`. A pair: `pair-counted`. A corner of another star:
--- `corner-first`, `corner-second`,
--- `corner-third`. A corner: `corner-none`, `corner-counted`. A face: `before-second`,
--- `before-third`, `before-fourth`. A slot: `pairs-free`, `pairs-holds`, `faces-free`, `faces-holds`, `degree-free`, `degree-holds`.
+-- `corner-first`, `corner-second`, `corner-third`. A corner: `corner-none`, `corner-counted`. A face: `before-second`, `before-third`, `before-fourth`.
+-- A slot: `pairs-free`, `pairs-holds`, `faces-free`, `faces-holds`, `degree-free`, `degree-holds`.
 -- Assumes nothing.
 use mathlib.Core.Path.{_≡_, sym, ap, _∙_}
 use mathlib.Core.Bool.{Bool, true, false, not, _&&_, _||_, or-true}
@@ -71,8 +70,8 @@ module _ (t : List ℕ) (k : ℕ) (v : Record) (j : ℕ) where
   unfolding cornerCount
   corner-none e = ap (faceCount t k v j) (sym e)
 
-  pub corner-counted : (o : Point) → chosenAt t v j ≡ At o → (f : Face) → f ≡ faceOn v j o → (b : Bool) → faceBefore t k f ≡ b → bit (not b)
-      ≡ cornerCount t k v j
+  pub corner-counted : (o : Point) → chosenAt t v j ≡ At o → (f : Face) → f ≡ faceOn v j o → (b : Bool) → faceBefore t k f ≡ b
+      → bit (not b) ≡ cornerCount t k v j
   unfolding cornerCount
   corner-counted o e f g b h = ap (λ (x : Bool). bit (not x)) (sym h ∙ ap (faceBefore t k) g) ∙ ap (faceCount t k v j) (sym e)
 
@@ -85,8 +84,8 @@ module _ (t : List ℕ) (k : ℕ) (f : Face) where
 
   pub before-third : faceSeen t k (turned (turned f)) ≡ true → true ≡ faceBefore t k f
   unfolding faceBefore
-  before-third e = sym (or-true (faceSeen t k (turned f)))
-      ∙ ap (λ (b : Bool). faceSeen t k (turned f) || (b || faceSeen t k (turned (turned (turned f))))) (sym e)
+  before-third e =
+      sym (or-true (faceSeen t k (turned f))) ∙ ap (λ (b : Bool). faceSeen t k (turned f) || (b || faceSeen t k (turned (turned (turned f))))) (sym e)
 
   pub before-fourth : faceSeen t k (turned f) ≡ false → faceSeen t k (turned (turned f)) ≡ false → faceSeen t k (turned (turned (turned f))) ≡ faceBefore t k f
   unfolding faceBefore

@@ -1,9 +1,6 @@
--- Document 01, "Census program": "V is records; E is the different unordered pairs of a vertex and one of its star's adjacent points; F the
--- different faces; then
--- records by degree." What the promise cites: `countsOf`.
--- `different` how many different ones a list has · `pairsAt`, `facesAt` the pairs and the faces of a vertex, `samePair`, `sameFace` which are the
--- same · `edgesIn`, `facesIn`, `degreeIn`
--- those of a table.
+-- Document 01, "Census program": "V is records; E is the different unordered pairs of a vertex and one of its star's adjacent points; F the different
+-- faces; then records by degree." What the promise cites: `countsOf`. `different` how many different ones a list has · `pairsAt`, `facesAt` the pairs
+-- and the faces of a vertex, `samePair`, `sameFace` which are the same · `edgesIn`, `facesIn`, `degreeIn` those of a table.
 -- Assumes nothing.
 use mathlib.Core.Bool.{Bool, true, false, cond, not, _&&_, _||_}
 use mathlib.Core.List.{List, [], _∷_, _++_}

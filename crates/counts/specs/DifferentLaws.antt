@@ -1,9 +1,7 @@
 -- How many different ones a list has, part by part.
--- `sum-none`, `sum-more` a sum · `among-more`, `slotTest` tests of numbers and of slots · `some-one`, `some-none`, `some-gather`, `some-each`
--- where a test passes in a list put together of
--- parts · `different-one`, `different-place`, `different-nothing` an element, by those before it · `different-star` the different ones of a star,
--- place by place · `different-slots` those of a
--- table, slot by slot.
+-- `sum-none`, `sum-more` a sum · `among-more`, `slotTest` tests of numbers and of slots · `some-one`, `some-none`, `some-gather`, `some-each` where a
+-- test passes in a list put together of parts · `different-one`, `different-place`, `different-nothing` an element, by those before it ·
+-- `different-star` the different ones of a star, place by place · `different-slots` those of a table, slot by slot.
 -- Assumes nothing.
 use mathlib.Core.Path.{_≡_, refl, sym, ap, _∙_}
 use mathlib.Core.Bool.{Bool, true, false, not, _||_, or-comm, or-false}
@@ -49,8 +47,8 @@ module _ {A : Type 0} where
   pub some-gather : (f : A → Bool) (d : ℕ) (g : ℕ → List A) → someOf f (gather d g) ≡ among d (λ j. someOf f (g j))
   unfolding gather
   some-gather f zero g = refl
-  some-gather f (suc d) g = some-append f (gather d g) (g d) ∙ ap (λ (b : Bool). b || someOf f (g d)) (some-gather f d g)
-      ∙ or-comm (among d (λ j. someOf f (g j))) (someOf f (g d))
+  some-gather f (suc d) g =
+      some-append f (gather d g) (g d) ∙ ap (λ (b : Bool). b || someOf f (g d)) (some-gather f d g) ∙ or-comm (among d (λ j. someOf f (g j))) (someOf f (g d))
 
   pub some-one : (f : A → Bool) (x : A) → someOf f (x ∷ []) ≡ f x
   some-one f x = or-false (f x)
@@ -77,8 +75,8 @@ module _ {A : Type 0} where
       one Free = refl
       one (Holds v) = append-nil (g v)
 
-  pub some-each : (f : A → Bool) (g : Record → List A) (t : List ℕ) (k : ℕ) → someOf f (each g (recordsBelow t k))
-      ≡ among k (λ i. slotTest (λ u. someOf f (g u)) (slotAt t i))
+  pub some-each : (f : A → Bool) (g : Record → List A) (t : List ℕ) (k : ℕ)
+      → someOf f (each g (recordsBelow t k)) ≡ among k (λ i. slotTest (λ u. someOf f (g u)) (slotAt t i))
   unfolding recordsBelow each
   some-each f g t zero = refl
   some-each f g t (suc k) =
@@ -119,8 +117,8 @@ module _ {A : Type 0} where
     different-nothing seen = refl
 
     -- a star's places, of which place j adds c j
-    pub different-star : (seen : List A) (g : ℕ → List A) (c : ℕ → ℕ) (d : ℕ)
-        → ((j : ℕ) → j < d → differentAfter same (seen ++ gather j g) (g j) ≡ c j) → differentAfter same seen (gather d g) ≡ sumBelow c d
+    pub different-star : (seen : List A) (g : ℕ → List A) (c : ℕ → ℕ) (d : ℕ) → ((j : ℕ) → j < d → differentAfter same (seen ++ gather j g) (g j) ≡ c j)
+        → differentAfter same seen (gather d g) ≡ sumBelow c d
     unfolding gather sumBelow
     different-star seen g c zero h = different-nothing seen
     different-star seen g c (suc d) h =

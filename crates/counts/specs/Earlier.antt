@@ -1,8 +1,6 @@
 -- What the functions below `counts` promise: each pair and each face is counted at the first of the vertices that name it, in the order of slots
--- (PairLaws, FaceLaws).
--- `sumBelow` a sum · `earlierOf` the record at a point, if it stands before a slot · `namesPoint`, `pairCount` the pairs of a star · `cornerIs`,
--- `namesFace`, `faceBefore`, `cornerCount`
--- its faces · `slotPairs`, `slotFaces`, `slotDegree` what a slot adds.
+-- (PairLaws, FaceLaws). `sumBelow` a sum · `earlierOf` the record at a point, if it stands before a slot · `namesPoint`, `pairCount` the pairs of a
+-- star · `cornerIs`, `namesFace`, `faceBefore`, `cornerCount` its faces · `slotPairs`, `slotFaces`, `slotDegree` what a slot adds.
 -- Assumes nothing.
 use mathlib.Core.Bool.{Bool, false, cond, not, _&&_, _||_}
 use mathlib.Core.List.{List}

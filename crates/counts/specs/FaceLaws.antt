@@ -1,8 +1,8 @@
 -- Each face is counted at the first of the vertices that name it: `faces-counted`.
 --
--- The face f of a corner of v, in slot k, is the same as an earlier one exactly where one of its three other vertices stands before slot k and
--- names it, f read from that vertex
--- on: an earlier vertex is not v itself, no point standing twice; and two corners of one star have different faces, v being none of the points of its own star.
+-- The face f of a corner of v, in slot k, is the same as an earlier one exactly where one of its three other vertices stands before slot k and names
+-- it, f read from that vertex on: an earlier vertex is not v itself, no point standing twice; and two corners of one star have different faces, v being
+-- none of the points of its own star.
 -- Assumes nothing.
 use mathlib.Core.Path.{_≡_, refl, sym, ap, _∙_}
 use mathlib.Core.Logic.{_⊎_, inl, inr}
@@ -31,8 +31,8 @@ use Rattle.table.specs.declared.slots.Slot.the-variants.{Holds}
 use Rattle.queries.specs.Queries.{chosenAt}
 use Rattle.counts.specs.Counts.{differentAfter, gather, each, nextPlace, face, faceWith, facesAt, turned, fits, sameFace, facesIn}
 use Rattle.counts.specs.Earlier.{sumBelow, spotIs, cornerIs, namesFace, faceSeen, faceBefore, faceOn, faceCount, cornerCount, starFaces, slotFaces}
-use Rattle.counts.specs.DifferentLaws.{slotTest, some-one, some-none, some-gather, some-each, different-nothing, different-place}
-use Rattle.counts.specs.DifferentLaws.{different-star, different-slots}
+use Rattle.counts.specs.DifferentLaws.{slotTest, some-one, some-none, some-gather, some-each, different-nothing, different-place, different-star}
+use Rattle.counts.specs.DifferentLaws.{different-slots}
 use Rattle.counts.specs.EarlierLaws.{Passes, other-point, star-inner, earlier-yes, yes-earlier, slots-pass, pass-slots}
 use Rattle.counts.specs.StarLaws.{adjacent-away, chosen-away}
 use Rattle.counts.specs.declared.faces.Face.{Face}
@@ -70,8 +70,8 @@ same-round : (f g : Face) → sameFace f g ≡ true → SameRound f g
 unfolding sameFace
 same-round f g h = go (fits f g) (fits (turned f) g) (fits (turned (turned f)) g) refl refl refl h
   where
-    go : (a b c : Bool) → fits f g ≡ a → fits (turned f) g ≡ b → fits (turned (turned f)) g ≡ c → a
-        || (b || (c || fits (turned (turned (turned f))) g)) ≡ true → SameRound f g
+    go : (a b c : Bool) → fits f g ≡ a → fits (turned f) g ≡ b → fits (turned (turned f)) g ≡ c
+        → a || (b || (c || fits (turned (turned (turned f))) g)) ≡ true → SameRound f g
     go true b c x y z k = straight (fits-eq f g x)
     go false true c x y z k = once (fits-eq (turned f) g y)
     go false false true x y z k = twice (fits-eq (turned (turned f)) g z)
@@ -171,8 +171,7 @@ module _ (t : List ℕ) where
       go i l (At p) e k = (
         faceOn u i p,
         record { corner = i; below = l; opposite = p; chosen = e; is = refl },
-        same-round f (faceOn u i p)
-            (sym (some-one (sameFace f) (faceOn u i p)) ∙ k),
+        same-round f (faceOn u i p) (sym (some-one (sameFace f) (faceOn u i p)) ∙ k),
       )
 
 next-below : (d j : ℕ) → j < d → nextPlace d j < d
@@ -193,9 +192,8 @@ module _ (t : List ℕ) (o : InOrder t) where
     seen : (g : Face) {h : Record → Bool} (x : Passes t k h) → Makes t (x .rec) g → faceSeen t k g ≡ true
     unfolding faceSeen
     seen g x m =
-        earlier-yes t o k top (namesFace t g) (g .at)
-        (record { rec = x .rec; slot = x .slot; below = x .below; holds = x .holds; passes = makes-names t (x .rec) g m })
-        (ap (λ (f : Face). f .at) (m .is))
+        earlier-yes t o k top (namesFace t g) (g .at) (record
+        { rec = x .rec; slot = x .slot; below = x .below; holds = x .holds; passes = makes-names t (x .rec) g m }) (ap (λ (f : Face). f .at) (m .is))
 
     seen-gives : (f g : Face) → SameRound f g → faceSeen t k g ≡ true → among k (λ i. slotTest (gives t f) (slotAt t i)) ≡ true
     unfolding faceSeen
@@ -208,8 +206,7 @@ module _ (t : List ℕ) (o : InOrder t) where
           slot = x .slot;
           below = x .below;
           holds = x .holds;
-          passes =
-              makes-gives t f (x .rec) g (names-makes t (x .rec) g (y .1) (x .passes)) r;
+          passes = makes-gives t f (x .rec) g (names-makes t (x .rec) g (y .1) (x .passes)) r;
         })
 
     face-before : (f : Face) → f .at ≡ v .at → someOf (sameFace f) (each (facesAt t) (recordsBelow t k)) ≡ faceBefore t k f
@@ -271,8 +268,8 @@ module _ (t : List ℕ) (o : InOrder t) where
         before : List Face
         before = each (facesAt t) (recordsBelow t k)
 
-        go : (j : ℕ) → j < v .d → (s : Spot) → chosenAt t v j ≡ s → differentAfter sameFace (before ++ gather j (place t v)) (faceWith v j s)
-            ≡ faceCount t k v j s
+        go : (j : ℕ) → j < v .d → (s : Spot) → chosenAt t v j ≡ s
+            → differentAfter sameFace (before ++ gather j (place t v)) (faceWith v j s) ≡ faceCount t k v j s
         go j m Nothing e = different-nothing sameFace (before ++ gather j (place t v))
         go j m (At p) e =
             different-place sameFace before (place t v) j (faceOn v j p) (faceBefore t k (faceOn v j p)) (face-before (faceOn v j p) refl)

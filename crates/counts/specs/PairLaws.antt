@@ -1,8 +1,7 @@
 -- Each pair is counted at the first of the vertices that name it: `edges-counted`.
 --
--- The pair of v, in slot k, and its adjacent point a is the same as an earlier one exactly where the vertex at a stands before slot k and names v:
--- an earlier vertex is not v
--- itself, no point standing twice, and the places of one star are different points.
+-- The pair of v, in slot k, and its adjacent point a is the same as an earlier one exactly where the vertex at a stands before slot k and names v: an
+-- earlier vertex is not v itself, no point standing twice, and the places of one star are different points.
 -- Assumes nothing.
 use mathlib.Core.Path.{_≡_, refl, sym, ap, _∙_}
 use mathlib.Core.Logic.{_⊎_, inl, inr}
@@ -75,8 +74,8 @@ gives-names : (p a : Point) (u : Record) → (u .at ≡ p → ⊥) → gives p a
 unfolding namesPoint
 gives-names p a u ne h = let x = gives-place p a u h in go (x .0) (x .1) (pair-same p a (u .at) (adjacentAt u (x .0)) (x .2))
   where
-    go : (i : ℕ) → i < u .d → ((p ≡ u .at) × (a ≡ adjacentAt u i)) ⊎ ((p ≡ adjacentAt u i) × (a ≡ u .at)) → (u .at ≡ a)
-        × (among (u .d) (λ i. samePoint (adjacentAt u i) p) ≡ true)
+    go : (i : ℕ) → i < u .d → ((p ≡ u .at) × (a ≡ adjacentAt u i)) ⊎ ((p ≡ adjacentAt u i) × (a ≡ u .at))
+        → (u .at ≡ a) × (among (u .d) (λ i. samePoint (adjacentAt u i) p) ≡ true)
     go i l (inl e) = absurd (ne (sym (e .0)))
     go i l (inr e) = (sym (e .1), at-among (λ i. samePoint (adjacentAt u i) p) (u .d) i l (ap (λ (q : Point). samePoint q p) (sym (e .0)) ∙ same-refl p))
 
@@ -114,7 +113,8 @@ module _ (t : List ℕ) (o : InOrder t) where
 
     -- no two places of a star give one pair
     place-apart : (i j : ℕ) → i < j → j < v .d → someOf (samePair (pair (v .at) (adjacentAt v j))) (place v i) ≡ false
-    place-apart i j h m = some-one (samePair (pair (v .at) (adjacentAt v j))) (pair (v .at) (adjacentAt v i))
+    place-apart i j h m =
+        some-one (samePair (pair (v .at) (adjacentAt v j))) (pair (v .at) (adjacentAt v i))
         ∙ go (samePair (pair (v .at) (adjacentAt v j)) (pair (v .at) (adjacentAt v i))) refl
       where
         never : ((v .at ≡ v .at) × (adjacentAt v j ≡ adjacentAt v i)) ⊎ ((v .at ≡ adjacentAt v i) × (adjacentAt v j ≡ v .at)) → ⊥

@@ -19,8 +19,8 @@ use table::Slot;
 use table::read_slot;
 use table::same_point;
 
-// A face: its four vertices in their order round, from one of them on. Round a vertex: itself, the adjacent point of a corner, the opposite, the
-// next adjacent point.
+// A face: its four vertices in their order round, from one of them on. Round a vertex: itself, the adjacent point of a corner, the opposite, the next
+// adjacent point.
 pub struct Face {
     pub at: Point,
     pub adjacent: Point,

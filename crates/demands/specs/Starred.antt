@@ -23,8 +23,9 @@ use Rattle.table.specs.declared.entries.Looked.the-variants.{Absent, Held}
 use Rattle.base.specs.Base.{baseOf, firstBad, laidOf, layAll, layHexagon, hexagonOf, cornerRecord, internal, listedIn}
 use Rattle.mesh.specs.Subdivide.{subdivideOf, subdivided, torn, tooDeep, renewedTo, enteredTo}
 use Rattle.queries.specs.Queries.{neighboursOf, adjacentsThere, chosenAt}
-use Rattle.writers.specs.Sorting.{insertBy, sortBy}
-use Rattle.writers.specs.Files.{earlier, redundant, leaveOut, reducedFile}
+use Rattle.sorting.specs.Sorting.{insertBy, sortBy}
+use Rattle.text.specs.LineOrder.{earlier}
+use Rattle.writers.specs.Files.{redundant, leaveOut, reducedFile}
 use Rattle.text.specs.Decimal.{digits, digitsBy}
 use Rattle.text.specs.Line.{pointText, starText, lineOf, lines}
 use Rattle.text.specs.LineCount.{linesIn}

@@ -1,6 +1,5 @@
 -- Rows of numbers as the code fills them.
--- `row-back`, `row-put` a point's numbers, in a row of their own and from a place on · `filled`, `filled-start`, `filled-more`, `filled-all` an
--- answer's row, filled point by point.
+-- `row-back` a point's numbers, in a row of their own · `filled`, `filled-start`, `filled-more`, `filled-all` an answer's row, filled point by point.
 -- Assumes nothing.
 use mathlib.Core.Path.{_≡_, refl, ap}
 use mathlib.Core.List.{List, [], _∷_}
@@ -24,15 +23,6 @@ module _ (p : Point) (fa : SFits w32 (p .a)) (fb : SFits w32 (p .b)) (fm : p .m 
   -- a row of three
   pub row-back : toZ w32 (ofZ w32 (p .a)) ∷ toZ w32 (ofZ w32 (p .b)) ∷ toZ w32 (p .m .0) ∷ [] ≡ pointNumbers p
   row-back = λ i. toZ-ofZ w32 (p .a) fa i ∷ toZ-ofZ w32 (p .b) fb i ∷ back-m i ∷ []
-
-  -- three numbers of a longer row
-  pub row-put :
-      (out : List ℤ) (i : ℕ)
-      → set (set (set out i (toZ w32 (ofZ w32 (p .a)))) (i + 1) (toZ w32 (ofZ w32 (p .b)))) (i + 2) (toZ w32 (p .m .0)) ≡ sets out i (pointNumbers p)
-  row-put out i =
-      let e₁ : i + 1 ≡ suc i = omega arith in
-      let e₂ : i + 2 ≡ suc (suc i) = omega arith in
-      λ j. set (set (set out i (toZ-ofZ w32 (p .a) fa j)) (e₁ j) (toZ-ofZ w32 (p .b) fb j)) (e₂ j) (back-m j)
 
 -- the row of an answer, its first j points filled in
 unfoldable pub filled : ℕ → List Point → ℕ → List ℤ

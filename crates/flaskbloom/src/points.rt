@@ -4,9 +4,9 @@ ghost use Rattle.lattice.specs.Points.{normalOf};
 ghost use Rattle.lattice.specs.Stars.{starOf};
 ghost use Rattle.queries.specs.Queries.{neighboursOf, facesOf};
 ghost use Rattle.flaskbloom.specs.Numbers.{pointNumbers, answerNumbers, recordOf};
-use crate::numbers::ANSWER_NUMBERS;
 use crate::numbers::answer_numbers;
 use crate::numbers::point_numbers;
+use lattice::ANSWER_NUMBERS;
 use lattice::DONE;
 use lattice::Depth;
 use lattice::Level;
@@ -50,9 +50,7 @@ pub extern "C" fn fb_star(
     ensures { λ r. ⌜ r ≡ starOf (recordOf a b m d k n) .number ⌝ }
     ensures { λ r. ⌜ now (points .exit) ≡ answerNumbers (starOf (recordOf a b m d k n)) ⌝ }
 {
-    let answer = lattice::star(record_of(a, b, m, d, k, n));
-    *points = answer_numbers(answer);
-    answer.number
+    lattice::star_row(points, record_of(a, b, m, d, k, n))
 }
 
 // The adjacent points of the vertex at [a, b, m], or 1, 3, 14, 7.

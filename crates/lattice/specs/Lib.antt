@@ -3,6 +3,7 @@ pub mod Points
 pub mod Records
 pub mod Patterns
 pub mod Stars
+pub mod AnswerRows
 pub mod Subdivision
 pub mod Ranks
 pub mod Examples
@@ -13,5 +14,6 @@ pub mod RecordLaws
 pub mod Rows
 pub mod PatternLaws
 pub mod StarLaws
+pub mod AnswerRowLaws
 pub mod Places
 pub mod RankBounds

@@ -1,32 +1,32 @@
 -- The laws of orientations and pattern points, each over degree and orientation, by one test over the table.
--- `orient-even`, `orient-odd` an orientation by turns · `hex-orient`, `orient-depth` how far and how deep ·
+-- `orient-split` an orientation by turns · `hex-orient`, `orient-depth` how far and how deep ·
 -- `adjacent-close`, `first-close`, `second-close` the bounds of the pattern points ·
 -- `adjacent-near`, `first-near`, `second-near` the same at any orientation and level.
 -- Assumes nothing.
 use mathlib.Core.Path.{_≡_, refl, ap, subst}
-use Prim.Native.Nat.{ℕ, zero, suc, _+_, _%_, _≤_, _<_}
+use Prim.Native.Nat.{ℕ, zero, suc, _+_, _%_, _/_, _≤_, _<_}
 use native.Mathlib.Omega.{arith}
 use lib.IntN.{_+ℤ_, natAbs}
 use Rattle.laws.specs.Rules.{Test, _≤?_, _&_, Means, _⇒_, rule2}
 use Rattle.lattice.specs.declared.patterns.Spot.the-variants.{At, Nothing}
 use Rattle.lattice.specs.Patterns.{orient, Row, three, four, five, six, rowsOf, patternOf, onSpot, adjacentOf, firstOppositeOf, secondOppositeOf}
 use Rattle.lattice.specs.Bounds.{Hex, hex-turn60, hex-turn30, Near}
-use Rattle.lattice.specs.Points.{turn60Of, turn30Of, turns}
+use Rattle.lattice.specs.Points.{turn60Of, turns}
 use Rattle.lattice.specs.declared.points.Point.{Point}
 use Rattle.lattice.specs.declared.records.Level.{Level}
 use Rattle.lattice.specs.declared.patterns.Spot.{Spot}
 use Rattle.lattice.specs.RecordLaws.{Inner}
 use Rattle.lattice.specs.declared.records.Record.{Record}
 
-pub orient-even : (h : ℕ) (p : Point) → turns h p ≡ orient (h + h) p
+-- the 30 degree rule where k is odd, and a turn for every two
+pub orient-split : (k : ℕ) (p : Point) → turns (k / 2) (orient (k % 2) p) ≡ orient k p
 unfolding orient turns
-orient-even zero p = refl
-orient-even (suc h) p = let e : suc h + suc h ≡ suc (suc (h + h)) = omega arith in rw e (ap turn60Of (orient-even h p))
-
-pub orient-odd : (h : ℕ) (p : Point) → turns h (turn30Of p) ≡ orient (h + h + 1) p
-unfolding orient turns
-orient-odd zero p = refl
-orient-odd (suc h) p = let e : suc h + suc h + 1 ≡ suc (suc (h + h + 1)) = omega arith in rw e (ap turn60Of (orient-odd h p))
+orient-split zero p = refl
+orient-split (suc zero) p = refl
+orient-split (suc (suc k)) p =
+    let e : suc (suc k) / 2 ≡ suc (k / 2) = omega arith in
+    let f : suc (suc k) % 2 ≡ k % 2 = omega arith in
+    rw (e, f) (ap turn60Of (orient-split k p))
 
 pub hex-orient : (k : ℕ) {p : Point} → Hex 4 p → Hex 10 (orient k p)
 unfolding orient

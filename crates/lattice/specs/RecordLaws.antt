@@ -1,7 +1,7 @@
 -- What a valid record has: `Inner` of degree 3 to 6, and `inner`, which reads it off validity; `inner-small` it can be stepped from ·
 -- `valid-turn`, `valid-level` the most that orientation and level are, boundary vertices included.
 -- Assumes nothing.
-use mathlib.Core.Path.{_≡_}
+use mathlib.Core.Path.{_≡_, refl, sym}
 use Prim.Native.Nat.{ℕ, _*_, _%_, _≤_, _<_, _^_}
 use native.Mathlib.Omega.{arith}
 use native.Mathlib.Decide.{decLe, ℕ-discrete}
@@ -10,10 +10,22 @@ use lib.Dec.{ltb, leb, T, ltb→lt, eqb→eq, leb→le, eqb, lit≤}
 use borrow.Author.Tests.{ne-eqb, eq-eqb}
 use lib.IntN.{natAbs}
 use Rattle.laws.specs.Bools.{and-left, and-right}
+use Rattle.laws.specs.Each.{never}
 use Rattle.lattice.specs.Records.{within, orientationsOf, sameParity, suitsOf, validOf}
 use Rattle.lattice.specs.Points.{isNormal}
 use Rattle.lattice.specs.declared.records.Record.{Record}
 use Rattle.lattice.specs.Bounds.{Small, small-range}
+
+-- two tests that are asked together, and a third after them
+pub and-fails : (x y z : Bool) → x && y ≡ false → false ≡ x && (y && z)
+and-fails true true z e = absurd (never (sym e))
+and-fails true false z e = refl
+and-fails false y z e = refl
+
+pub and-passes : (x y z : Bool) → x && y ≡ true → z ≡ x && (y && z)
+and-passes true true z e = refl
+and-passes true false z e = absurd (never e)
+and-passes false y z e = absurd (never e)
 
 -- what a valid record of degree 3 to 6 has
 pub record Inner (r : Record) : Type 0 where

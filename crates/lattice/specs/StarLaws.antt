@@ -1,12 +1,45 @@
--- The star call's three cases: `star-invalid`, `star-boundary`, `star-inner`.
+-- The star call's three cases: `star-invalid`, `star-boundary`, `star-inner` · `step-asked`, `step-given` a step, asked of the numbers of two points.
 -- Assumes nothing.
-use mathlib.Core.Path.{_≡_, sym, _∙_, ap}
+use mathlib.Core.Path.{_≡_, sym, _∙_, ap, subst}
+use native.Mathlib.Omega.{arith}
 use mathlib.Core.Bool.{Bool, true, false, cond}
 use lib.Dec.{eqb}
 use borrow.Author.Tests.{eq-eqb, ne-eqb}
-use Rattle.lattice.specs.Stars.{refused, given, starOf}
+use mir.Syntax.{w32}
+use mir.Val.{toZ, ofZ}
+use mir.Facts.{toZ-ofZ}
+use Rattle.laws.specs.Sizes.{fits}
+use Rattle.lattice.specs.Bounds.{Small, Near, small-a, small-b}
+use Rattle.lattice.specs.Points.{pt}
+use Rattle.lattice.specs.Stars.{stepOf, refused, given, starOf}
 use Rattle.lattice.specs.Records.{validOf}
+use Rattle.lattice.specs.declared.points.Point.{Point}
+use Rattle.lattice.specs.declared.records.Level.{Level}
 use Rattle.lattice.specs.declared.records.Record.{Record}
+
+-- a step by the numbers of two points, as the machine hands them on
+module _ (v : Point) (n : Level) (p : Point) (s : Small v) (k : Near n p) where
+  va : toZ w32 (ofZ w32 (v .a)) ≡ v .a
+  va = toZ-ofZ (small-a v s)
+
+  vb : toZ w32 (ofZ w32 (v .b)) ≡ v .b
+  vb = toZ-ofZ (small-b v s)
+
+  pa : toZ w32 (ofZ w32 (p .a)) ≡ p .a
+  pa = toZ-ofZ (fits w32 (p .a) (omega (arith, k .hex .a)))
+
+  pb : toZ w32 (ofZ w32 (p .b)) ≡ p .b
+  pb = toZ-ofZ (fits w32 (p .b) (omega (arith, k .hex .b)))
+
+  pub step-asked :
+      Small (pt (toZ w32 (ofZ w32 (v .a))) (toZ w32 (ofZ w32 (v .b))) (v .m .0))
+      × Near n (pt (toZ w32 (ofZ w32 (p .a))) (toZ w32 (ofZ w32 (p .b))) (p .m .0))
+  step-asked = (subst Small (λ i. pt (sym va i) (sym vb i) (v .m .0)) s, subst (Near n) (λ i. pt (sym pa i) (sym pb i) (p .m .0)) k)
+
+  pub step-given :
+      stepOf (pt (toZ w32 (ofZ w32 (v .a))) (toZ w32 (ofZ w32 (v .b))) (v .m .0)) n (pt (toZ w32 (ofZ w32 (p .a))) (toZ w32 (ofZ w32 (p .b))) (p .m .0))
+      ≡ stepOf v n p
+  step-given = λ i. stepOf (pt (va i) (vb i) (v .m .0)) n (pt (pa i) (pb i) (p .m .0))
 
 pub star-invalid : (r : Record) → validOf r ≡ false → refused 9 ≡ starOf r
 unfolding starOf

@@ -1,6 +1,6 @@
 // The star patterns at orientation 0, a constant table for each degree, and their turns: document 01, "The twelve directions".
 ghost use mathlib.Core.Path.{_≡_};
-ghost use Prim.Native.Nat.{_≤_, _<_};
+ghost use Prim.Native.Nat.{_%_, _≤_, _<_};
 ghost use Rattle.lattice.specs.Patterns.{patternOf, orient, adjacentOf, firstOppositeOf, secondOppositeOf};
 ghost use Rattle.lattice.specs.Bounds.{Hex};
 ghost use Rattle.lattice.specs.Rows.{placeOf, pointOf};
@@ -58,15 +58,16 @@ const SIX: [Place; 6] = [
     Place(P(1, -1, 0), P(4, -2, 1), P(2, -1, 0)),
 ];
 
-// Place j of degree 3. Each arm reads at a fixed index: for one known only at run time the compiled code copies the whole table first.
+// Place j of degree 3. Each arm reads at a fixed index, so that nothing of the table is copied in the compiled code.
 fn three(j: u8) -> Place
     requires { ⌜ j < 3 ⌝ }
     ensures { λ r. ⌜ r ≡ placeOf (patternOf 3 j) ⌝ }
 {
+    let rows = THREE;
     match j {
-        0 => THREE[0],
-        1 => THREE[1],
-        _ => THREE[2],
+        0 => rows[0],
+        1 => rows[1],
+        _ => rows[2],
     }
 }
 
@@ -75,11 +76,12 @@ fn four(j: u8) -> Place
     requires { ⌜ j < 4 ⌝ }
     ensures { λ r. ⌜ r ≡ placeOf (patternOf 4 j) ⌝ }
 {
+    let rows = FOUR;
     match j {
-        0 => FOUR[0],
-        1 => FOUR[1],
-        2 => FOUR[2],
-        _ => FOUR[3],
+        0 => rows[0],
+        1 => rows[1],
+        2 => rows[2],
+        _ => rows[3],
     }
 }
 
@@ -88,12 +90,13 @@ fn five(j: u8) -> Place
     requires { ⌜ j < 5 ⌝ }
     ensures { λ r. ⌜ r ≡ placeOf (patternOf 5 j) ⌝ }
 {
+    let rows = FIVE;
     match j {
-        0 => FIVE[0],
-        1 => FIVE[1],
-        2 => FIVE[2],
-        3 => FIVE[3],
-        _ => FIVE[4],
+        0 => rows[0],
+        1 => rows[1],
+        2 => rows[2],
+        3 => rows[3],
+        _ => rows[4],
     }
 }
 
@@ -102,13 +105,14 @@ fn six(j: u8) -> Place
     requires { ⌜ j < 6 ⌝ }
     ensures { λ r. ⌜ r ≡ placeOf (patternOf 6 j) ⌝ }
 {
+    let rows = SIX;
     match j {
-        0 => SIX[0],
-        1 => SIX[1],
-        2 => SIX[2],
-        3 => SIX[3],
-        4 => SIX[4],
-        _ => SIX[5],
+        0 => rows[0],
+        1 => rows[1],
+        2 => rows[2],
+        3 => rows[3],
+        4 => rows[4],
+        _ => rows[5],
     }
 }
 
@@ -136,17 +140,20 @@ fn point(p: P) -> Point
     }
 }
 
-// A pattern point of orientation 0, at orientation k.
+// A pattern point of orientation 0, at orientation 1 where k is odd.
+fn begun(p: Point, k: u8) -> Point
+    requires { ⌜ Hex 4 p × (p .m .0 < 255) ⌝ }
+    ensures { λ r. ⌜ r ≡ orient (k % 2) p ⌝ }
+{
+    if k % 2 == 1 { turn30(p) } else { p }
+}
+
+// The same at orientation k: a turn for every two.
 fn oriented(p: Point, k: u8) -> Point
     requires { ⌜ Hex 4 p × (p .m .0 < 255) ⌝ }
     ensures { λ r. ⌜ r ≡ orient k p ⌝ }
 {
-    let half = k / 2;
-    if k % 2 == 1 {
-        turned(turn30(p), half)
-    } else {
-        turned(p, half)
-    }
+    turned(begun(p, k), k / 2)
 }
 
 // The adjacent point at place j of degree d and orientation k.
@@ -158,7 +165,7 @@ pub fn adjacent(d: u8, k: u8, j: u8) -> Point
 }
 
 // The first opposite of corner j.
-pub fn first(d: u8, k: u8, j: u8) -> Point
+pub fn first_opposite(d: u8, k: u8, j: u8) -> Point
     requires { ⌜ (3 ≤ d) × ((d ≤ 6) × (j < d)) ⌝ }
     ensures { λ r. ⌜ r ≡ firstOppositeOf d k j ⌝ }
 {
@@ -166,7 +173,7 @@ pub fn first(d: u8, k: u8, j: u8) -> Point
 }
 
 // The second opposite of corner j, or none.
-pub fn second(d: u8, k: u8, j: u8) -> Spot
+pub fn second_opposite(d: u8, k: u8, j: u8) -> Spot
     requires { ⌜ (3 ≤ d) × ((d ≤ 6) × (j < d)) ⌝ }
     ensures { λ r. ⌜ r ≡ secondOppositeOf d k j ⌝ }
 {

@@ -3,7 +3,7 @@ ghost use mathlib.Core.Path.{_≡_};
 ghost use mathlib.Core.Bool.{_&&_};
 ghost use Prim.Native.Nat.{_+_, _*_, _^_, _≤_, _<_, max};
 ghost use lib.IntN.{natAbs, _+ℤ_, _*ℤ_, pos};
-ghost use Rattle.lattice.specs.Points.{by3, normalOf, turn60Of, turn30Of, turns, sumOf};
+ghost use Rattle.lattice.specs.Points.{pt, by3, normalOf, turn60Of, turn30Of, turns, sumOf};
 ghost use Rattle.lattice.specs.Bounds.{Small, Hex};
 
 // How often the denominator holds the factor 3. It belongs to a point and never changes.
@@ -122,17 +122,15 @@ fn mix(x: i32, s: i32, y: i32, t: i32) -> i32
     x * s + y * t
 }
 
-// The sum of two points, normalised.
-pub fn sum(p: Point, q: Point) -> Point
-    requires { ⌜ Small p × Small q ⌝ }
-    ensures { λ r. ⌜ r ≡ sumOf p q ⌝ }
+// The sum of two points by their numbers, normalised.
+pub fn sum(a: i32, b: i32, m: u8, x: i32, y: i32, n: u8) -> Point
+    requires { ⌜ Small (pt a b m) × Small (pt x y n) ⌝ }
+    ensures { λ r. ⌜ r ≡ sumOf (pt a b m) (pt x y n) ⌝ }
 {
-    let m = p.m.0;
-    let n = q.m.0;
     let d = deeper(m, n);
     let s = power(d - m);
     let t = power(d - n);
-    let a = mix(p.a, s, q.a, t);
-    let b = mix(p.b, s, q.b, t);
-    normalise(a, b, d)
+    let across = mix(a, s, x, t);
+    let up = mix(b, s, y, t);
+    normalise(across, up, d)
 }

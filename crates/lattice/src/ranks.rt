@@ -8,7 +8,7 @@ ghost use Rattle.lattice.specs.Ranks.{rankOf, birthOf, moveOf, parentOf}
 use crate::patterns::adjacent;
 use crate::points::Point;
 use crate::records::Level;
-use crate::stars::stepped;
+use crate::stars::step;
 
 // What a number leaves on division by 3, never negative.
 fn left3(x: i32) -> u8
@@ -73,7 +73,10 @@ pub fn moved(p: Point, e: u8, i: Level) -> Point
     requires { ⌜ Small p × ((e < 12) × ((i .0 ≤ 12) × (e % 2 ≡ i .0 % 2))) ⌝ }
     ensures { λ r. ⌜ r ≡ moveOf p e (i .0) ⌝ }
 {
-    stepped(p, i, adjacent(6, e % 2, e / 2))
+    let m = p.m;
+    let u = adjacent(6, e % 2, e / 2);
+    let q = u.m;
+    step(p.a, p.b, m, i, u.a, u.b, q)
 }
 
 // Parent t of a point that has parents.

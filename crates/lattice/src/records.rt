@@ -1,5 +1,6 @@
 // The six fields of a vertex, and which of them document 01 calls valid.
 ghost use mathlib.Core.Path.{_≡_};
+ghost use mathlib.Core.Bool.{_&&_};
 ghost use Prim.Native.Nat.{_*_, _^_, _≤_};
 ghost use lib.IntN.{natAbs};
 ghost use Rattle.lattice.specs.Points.{normalAt};
@@ -45,12 +46,13 @@ fn range(m: u8) -> u64
     }
 }
 
-// A numerator of depth m lies in a record's range.
-fn in_range(x: i32, m: u8) -> bool
+// Both numerators of depth m lie in a record's range.
+fn in_range(a: i32, b: i32, m: u8) -> bool
     requires { ⌜ m ≤ 6 ⌝ }
-    ensures { λ r. ⌜ r ≡ within x m ⌝ }
+    ensures { λ r. ⌜ r ≡ within a m && within b m ⌝ }
 {
-    size(x) <= range(m)
+    let most = range(m);
+    (size(a) <= most) & (size(b) <= most)
 }
 
 // [a, b, m] is normalised.
@@ -101,10 +103,7 @@ fn valid_at(a: i32, b: i32, m: u8, d: u8, k: u8, n: u8) -> bool
     if 6 < m {
         return false;
     }
-    if !in_range(a, m) {
-        return false;
-    }
-    if !in_range(b, m) {
+    if !in_range(a, b, m) {
         return false;
     }
     suits(d, k, n)

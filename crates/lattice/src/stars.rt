@@ -1,19 +1,27 @@
 // The star of a record: its adjacent points and the opposites of its corners, without any mesh.
 ghost use mathlib.Core.Path.{_≡_};
 ghost use Prim.Native.Nat.{_+_, _/_, _<_};
-ghost use Rattle.lattice.specs.Stars.{scaleOf, stepOf, adjacentAt, firstAt, secondAt, cellOf, refused, starOf};
+ghost use Rattle.lattice.specs.AnswerRows.{answerNumbers};
+ghost use Rattle.lattice.specs.Points.{pt};
+ghost use Rattle.lattice.specs.Stars.{given, stepOf, adjacentAt, firstAt, secondAt, cellOf, refused, starOf};
 ghost use Rattle.lattice.specs.Bounds.{Small, Near};
 ghost use Rattle.lattice.specs.RecordLaws.{Inner};
+use crate::numbers::BOUNDARY;
+use crate::numbers::DONE;
+use crate::numbers::NOT_VALID;
 use crate::patterns::Spot;
 use crate::patterns::adjacent;
-use crate::patterns::first;
-use crate::patterns::second;
+use crate::patterns::first_opposite;
+use crate::patterns::second_opposite;
 use crate::points::Depth;
 use crate::points::Point;
 use crate::points::sum;
 use crate::records::Level;
 use crate::records::Record;
 use crate::records::valid;
+use crate::rows::ANSWER_NUMBERS;
+use crate::rows::put_point;
+use crate::rows::refuse_row;
 
 // What the star call and the queries answer: document 01's number, the count, and six points of which the unused are [0, 0, 0].
 pub struct Answer {
@@ -22,21 +30,21 @@ pub struct Answer {
     pub points: [Point; 6],
 }
 
-// A pattern point at a star's level: its depth goes up by half the level, rounded down. No depth can stand in the level's place.
-fn scaled(n: Level, p: Point) -> Point
-    requires { ⌜ p .m .0 + n .0 < 256 ⌝ }
-    ensures { λ r. ⌜ r ≡ scaleOf n p ⌝ }
+// A pattern point's depth at a star's level: up by half the level, rounded down. No depth can stand in the level's place.
+fn scaled(n: Level, q: Depth) -> Depth
+    requires { ⌜ q .0 + n .0 < 256 ⌝ }
+    ensures { λ r. ⌜ r .0 ≡ q .0 + n .0 / 2 ⌝ }
 {
-    let m = Depth(p.m.0 + n.0 / 2);
-    Point { a: p.a, b: p.b, m }
+    Depth(q.0 + n.0 / 2)
 }
 
-// From v, by a pattern point at level n.
-pub fn stepped(v: Point, n: Level, p: Point) -> Point
-    requires { ⌜ Small v × Near n p ⌝ }
-    ensures { λ r. ⌜ r ≡ stepOf v n p ⌝ }
+// From [a, b, m], by the pattern point [x, y, q] at level n. It takes numbers: a struct is copied whole at a call, which waits for what was written
+// into it.
+pub fn step(a: i32, b: i32, m: Depth, n: Level, x: i32, y: i32, q: Depth) -> Point
+    requires { ⌜ Small (pt a b (m .0)) × Near n (pt x y (q .0)) ⌝ }
+    ensures { λ r. ⌜ r ≡ stepOf (pt a b (m .0)) n (pt x y (q .0)) ⌝ }
 {
-    sum(v, scaled(n, p))
+    sum(a, b, m.0, x, y, scaled(n, q).0)
 }
 
 // The adjacent point at place j of a record's star.
@@ -45,8 +53,11 @@ pub fn adjacent_of(r: Record, j: u8) -> Point
     ensures { λ p. ⌜ p ≡ adjacentAt r j ⌝ }
 {
     let v = r.at;
+    let m = v.m;
     let n = r.n;
-    stepped(v, n, adjacent(r.d, r.k, j))
+    let p = adjacent(r.d, r.k, j);
+    let q = p.m;
+    step(v.a, v.b, m, n, p.a, p.b, q)
 }
 
 // The first opposite of corner j.
@@ -55,8 +66,11 @@ pub fn first_of(r: Record, j: u8) -> Point
     ensures { λ p. ⌜ p ≡ firstAt r j ⌝ }
 {
     let v = r.at;
+    let m = v.m;
     let n = r.n;
-    stepped(v, n, first(r.d, r.k, j))
+    let p = first_opposite(r.d, r.k, j);
+    let q = p.m;
+    step(v.a, v.b, m, n, p.a, p.b, q)
 }
 
 // The second opposite of corner j, or none.
@@ -65,10 +79,38 @@ pub fn second_of(r: Record, j: u8) -> Spot
     ensures { λ p. ⌜ p ≡ secondAt r j ⌝ }
 {
     let v = r.at;
+    let m = v.m;
     let n = r.n;
-    match second(r.d, r.k, j) {
-        Spot::At(p) => Spot::At(stepped(v, n, p)),
+    match second_opposite(r.d, r.k, j) {
+        Spot::At(p) => {
+            let q = p.m;
+            Spot::At(step(v.a, v.b, m, n, p.a, p.b, q))
+        }
         Spot::Nothing => Spot::Nothing,
+    }
+}
+
+// The whole star of a record, in a lent row: its count and its adjacent points in star order, zeros past the last.
+pub fn ring(out: &mut [i32; ANSWER_NUMBERS], v: Record)
+    requires { ⌜ Inner v ⌝ }
+    ensures { λ _. ⌜ now (out .exit) ≡ answerNumbers (given v) ⌝ }
+{
+    let d = v.d;
+    *out = [0; ANSWER_NUMBERS];
+    out[0] = d as i32;
+    let mut j = 0;
+    while j < d {
+        let at = v.at;
+        let m = at.m;
+        let n = v.n;
+        let p = adjacent(v.d, v.k, j);
+        let q = p.m;
+        put_point(
+            out,
+            3 * (j as usize) + 1,
+            step(at.a, at.b, m, n, p.a, p.b, q),
+        );
+        j += 1;
     }
 }
 
@@ -128,4 +170,20 @@ pub fn star(r: Record) -> Answer
             cell(r, 5),
         ],
     }
+}
+
+// The same in a lent row: the number is given back, the count and the points are put into the row.
+pub fn star_row(out: &mut [i32; ANSWER_NUMBERS], r: Record) -> u8
+    ensures { λ s. ⌜ s ≡ starOf r .number ⌝ }
+    ensures { λ _. ⌜ now (out .exit) ≡ answerNumbers (starOf r) ⌝ }
+{
+    if !valid(r) {
+        return refuse_row(out, NOT_VALID);
+    }
+    let d = r.d;
+    if d == 0 {
+        return refuse_row(out, BOUNDARY);
+    }
+    ring(out, r);
+    DONE
 }

@@ -2,6 +2,8 @@
 pub mod Subdivide
 pub mod Grown
 pub mod Examples
+-- what the promises of the functions below cite besides
+pub mod Points
 -- what they obey
 pub mod SubdivideLaws
 pub mod WriteLaws

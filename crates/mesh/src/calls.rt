@@ -10,6 +10,7 @@ ghost use Rattle.mesh.specs.WriteLaws.{Standing};
 use crate::checks::adjacents_fit;
 use crate::checks::all_absent;
 use crate::checks::none_deeper;
+use crate::points::points_of;
 use crate::writes::divide;
 use lattice::DONE;
 use lattice::LAST_LEVEL;
@@ -41,19 +42,21 @@ fn subdivide_vertex(t: &mut [u8], v: Record, n: usize, free: usize) -> u8
         return LAST_LEVEL;
     }
     let c = centre(v);
-    if !none_deeper(c) {
+    let new = points_of(c);
+    if !none_deeper(new) {
         return TOO_DEEP;
     }
-    if !adjacents_fit(t, v, n) {
+    let old = points_of(v);
+    if !adjacents_fit(t, v, old, n) {
         return TORN;
     }
-    if !all_absent(t, c, n) {
+    if !all_absent(t, new, n) {
         return TORN;
     }
     if free < 6 {
         return NO_ROOM;
     }
-    divide(t, v, n);
+    divide(t, v, old, new, n);
     DONE
 }
 

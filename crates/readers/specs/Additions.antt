@@ -1,6 +1,6 @@
 -- A table with records added: what reading lines and restoring do to a table in order.
--- `Adds P t u` u is t with records added, each of which is P · `adds-none`, `adds-one`, `adds-then` how it comes about · `adds-as` said of more
--- records · `adds-slots` as many slots.
+-- `Adds P t u` u is t with records added, each of which is P · `adds-none`, `adds-one`, `adds-then` how it comes about · `adds-as` said of more records
+-- · `adds-slots` as many slots.
 -- Assumes nothing.
 use mathlib.Core.Path.{_≡_, refl, sym, ap, _∙_, subst}
 use mathlib.Core.Logic.{_⊎_, inl, inr}
@@ -43,8 +43,7 @@ adds-one P t r o ok none room h =
       order = enter-order t o r ok;
       long = enter-length t r;
       keeps = λ p q k. kept p q k (same-or-not p (r .at));
-      only = λ p q k.
-          from p q k (same-or-not p (r .at));
+      only = λ p q k. from p q k (same-or-not p (r .at));
     }
   where
     kept : (p : Point) (q : Record) → lookUp t p ≡ Held q → Dec (p ≡ r .at) → lookUp (enterOf t r) p ≡ Held q

@@ -1,7 +1,6 @@
 -- How both readers begin, by cases: `lengths-table`, `table-lengths` lengths that fit · `Prepared` the length test, and both tables cleared:
--- `none-unfit`, `other-unfit`, `both-fit` and back, `prepared-unfit`, `prepared-fit` · `Begun` that,
--- and the lines: `begun-unfit`, `begun-fault`, `begun-read` and back, `begun-filled` · `full-unfit` lengths refused · `fault-full`,
--- `fault-reduced` a fault is what both answer.
+-- `none-unfit`, `other-unfit`, `both-fit` and back, `prepared-unfit`, `prepared-fit` · `Begun` that, and the lines: `begun-unfit`, `begun-fault`,
+-- `begun-read` and back, `begun-filled` · `full-unfit` lengths refused · `fault-full`, `fault-reduced` a fault is what both answer.
 -- Assumes nothing.
 use mathlib.Core.Path.{_≡_, refl, sym, ap, _∙_}
 use mathlib.Core.Bool.{Bool, true, false, cond, _&&_}
@@ -50,8 +49,8 @@ module _ (t s : List ℕ) where
   prepared-unfit (unfit e a b c) h = (a, b, c)
   prepared-unfit (fit e a b c w) h = absurd (e h)
 
-  pub prepared-fit : {t′ s′ : List ℕ} {n : ℕ} → Prepared t s t′ s′ n → (n ≡ 0 → ⊥) → (lengthsFit t s ≡ true) × (t′ ≡ clearedOf t)
-      × (s′ ≡ clearedOf s) × Table t n
+  pub prepared-fit : {t′ s′ : List ℕ} {n : ℕ} → Prepared t s t′ s′ n → (n ≡ 0 → ⊥)
+      → (lengthsFit t s ≡ true) × (t′ ≡ clearedOf t) × (s′ ≡ clearedOf s) × Table t n
   prepared-fit (unfit e a b c) h = absurd (h e)
   prepared-fit (fit e a b c w) h = (a, b, c, w)
 

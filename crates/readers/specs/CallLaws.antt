@@ -1,6 +1,6 @@
--- How the readers end, by cases: `full-judged` what `read_full` answers past the lines · `Closes` how a call ends past the lines of a reduced
--- file: `restored-order`, `restored-slots`, `restored-kept` what
--- restoring leaves, `end-stopped`, `end-judged` · `lined-again` and `reduced-refused`, `reduced-read`: what `read_reduced` answers then.
+-- How the readers end, by cases: `full-judged` what `read_full` answers past the lines · `Closes` how a call ends past the lines of a reduced file:
+-- `restored-order`, `restored-slots`, `restored-kept` what restoring leaves, `end-stopped`, `end-judged` · `lined-again` and `reduced-refused`,
+-- `reduced-read`: what `read_reduced` answers then.
 -- Assumes nothing.
 use mathlib.Core.Path.{_≡_, sym, ap, _∙_, subst}
 use mathlib.Core.Bool.{Bool, cond}
@@ -27,7 +27,8 @@ use Rattle.readers.specs.BeginLaws.{Filled, full-lines, reduced-lines}
 
 module _ (t s f : List ℕ) {number line : ℕ} (u : List ℕ) {s′ : List ℕ} (w : Filled t s f number line u s′) where
   pub full-judged : (b : Bool) → passesAll u ≡ b → cond b (accepted u s) (refused 11 0 t s) ≡ readFullOf t s f
-  full-judged b h = ap (λ (x : Bool). cond x (accepted u s) (refused 11 0 t s)) (sym (grown-passes u (w .lined .order) ∙ h))
+  full-judged b h =
+      ap (λ (x : Bool). cond x (accepted u s) (refused 11 0 t s)) (sym (grown-passes u (w .lined .order) ∙ h))
       ∙ full-lines t s f (w .fits) (Read (w .records) u) (w .lines)
 
 -- ---- past the lines of a reduced file
@@ -74,12 +75,13 @@ module _ (t s f : List ℕ) {x line : ℕ} (u : List ℕ) {s′ : List ℕ} (w :
   read-again = read-records f (clearedOf t) (w .records) u (w .lines)
 
   pub lined-again : (n : ℕ) → n ≡ slotsOf u → Lined f n (fileRecords f) u
-  lined-again n e = subst (λ (rs : List Record). Lined f n rs u) (sym read-again)
-      (subst (λ (k : ℕ). Lined f k (w .records) u) (sym (e ∙ w .lined .slots)) (w .lined))
+  lined-again n e =
+      subst (λ (rs : List Record). Lined f n rs u) (sym read-again) (subst (λ (k : ℕ). Lined f k (w .records) u) (sym (e ∙ w .lined .slots)) (w .lined))
 
   module _ (number : ℕ) (v : List ℕ) (h : Closes (fileRecords f) u number v) where
     closed : closedBy t s number v ≡ readReducedOf t s f
-    closed = h t s ∙ ap (λ (qs : List Record). endRestored t s qs (restoreAll qs (With u))) read-again
+    closed =
+        h t s ∙ ap (λ (qs : List Record). endRestored t s qs (restoreAll qs (With u))) read-again
         ∙ reduced-lines t s f (w .fits) (Read (w .records) u) (w .lines)
 
     pub reduced-refused : (number ≡ 0 → ⊥) → refused number 0 t s ≡ readReducedOf t s f

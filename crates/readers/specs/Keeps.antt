@@ -1,8 +1,8 @@
 -- Whether a reduced file kept a redundant record, told before anything is restored: "12: grown, but a redundant record was kept in a reduced file".
 -- `tableKeeps` one of the first slots holds a degree 6 record with an adjacent record of degree 3 · `keeps-redundant` in the table of the file's
 -- records that is the same as 12's own test.
--- Why: what is restored has degree 3, so the degree 6 records of the finished table are the file's; and the table before restoring holds the
--- file's records and no other.
+-- Why: what is restored has degree 3, so the degree 6 records of the finished table are the file's; and the table before restoring holds the file's
+-- records and no other.
 -- Assumes nothing.
 use mathlib.Core.Path.{_≡_, refl, sym, ap, _∙_}
 use mathlib.Core.Logic.{_⊎_, inl, inr}
@@ -96,8 +96,8 @@ centred : (t u : List ℕ) (r : Record) (w : Redundant t r) → List·Memᴰ (w 
 centred t u r w m = record { three = w .three; centre = w .centre; listed = m; six = w .six; place = w .place; below = w .below; adjacent = w .adjacent }
 
 -- t is the table of the file's records, u the same with records of degree 3 restored
-pub keeps-redundant : (f : List ℕ) (n : ℕ) (rs : List Record) (t u : List ℕ) → Lined f n rs t → Adds (λ r. r .d ≡ 3) t u → tableKeeps t (slotsOf t)
-    ≡ someOf (redundant u) rs
+pub keeps-redundant : (f : List ℕ) (n : ℕ) (rs : List Record) (t u : List ℕ) → Lined f n rs t → Adds (λ r. r .d ≡ 3) t u
+    → tableKeeps t (slotsOf t) ≡ someOf (redundant u) rs
 keeps-redundant f n rs t u w a = same-test (tableKeeps t (slotsOf t)) (someOf (redundant u) rs) there back
   where
     there : tableKeeps t (slotsOf t) ≡ true → someOf (redundant u) rs ≡ true

@@ -1,7 +1,6 @@
 -- The lines of a file, step by step as the code reads them.
 -- `lineBefore` the record of the line before · `stepAt` what becomes of a line, `tableAfter` and of the table · `EndsAs` what reading ends with ·
--- `Underway` so far: `underway-start`,
--- `underway-over`, `underway-fault`, `underway-more`.
+-- `Underway` so far: `underway-start`, `underway-over`, `underway-fault`, `underway-more`.
 -- Assumes nothing.
 use mathlib.Core.Path.{_≡_, refl, sym, ap, _∙_, subst}
 use mathlib.Core.Bool.{Bool, true, false, cond}
@@ -88,15 +87,15 @@ follow t rest (Entered r next j) = after r (rest r next)
 follow t rest Over = Read [] t
 follow t rest (Faulty number j) = Fault number j
 
-step-follow : (i : ℕ) (q : Option Record) (t : List ℕ) (rest : Record → ℕ → Lines) (l : Line) → lineRead i q t rest l
-    ≡ follow t rest (stepAt q t i (numbered i l))
+step-follow : (i : ℕ) (q : Option Record) (t : List ℕ) (rest : Record → ℕ → Lines) (l : Line)
+    → lineRead i q t rest l ≡ follow t rest (stepAt q t i (numbered i l))
 unfolding enteredStep
 step-follow i q t rest End = refl
 step-follow i q t rest Bad = refl
 step-follow i q t rest (Good r next) = go (above q r) (noSlot (findOf t (r .at)))
   where
-    go : (a b : Bool) → cond a (cond b (Fault 8 i) (after r (rest r next))) (Fault 10 i)
-        ≡ follow t rest (cond a (cond b (Faulty 8 i) (Entered r next (i + 1))) (Faulty 10 i))
+    go : (a b : Bool)
+        → cond a (cond b (Fault 8 i) (after r (rest r next))) (Fault 10 i) ≡ follow t rest (cond a (cond b (Faulty 8 i) (Entered r next (i + 1))) (Faulty 10 i))
     go true true = refl
     go true false = refl
     go false b = refl
@@ -212,9 +211,8 @@ module _ (f t₀ : List ℕ) (p i : ℕ) (q : Option Record) (t : List ℕ) (w :
         (record {
           left = w .left - 1;
           enough = omega (arith, n .0);
-          whole = λ number line u d.
-              w .whole number line u
-              (subst (λ (x : Lines). EndsAs x number line u) (sym (step (Entered r next j) e)) (ends-after r (onward f p i q t (w .left - 1) r next) d));
+          whole = λ number line u d. w .whole number line u (subst (λ (x : Lines). EndsAs x number line u) (sym (step (Entered r next j) e))
+              (ends-after r (onward f p i q t (w .left - 1) r next) d));
           within = n .1;
           first = omega (arith, w .first);
           count = omega (arith, n .0);

@@ -1,7 +1,7 @@
--- What reading the lines of a file obeys: a file is read where it is the lines of valid records that rise strictly, and no more of them than
--- slots; the table then holds those records and no other.
--- `read-lines` what a file that was read is (`Lined`) · `lines-read` such a file is read · `lines-one` valid records are told by their lines.
--- The line before is a bound on the order of lines (writers' specs/LineOrder): what the table holds lies below it, so the point of the next line is absent.
+-- What reading the lines of a file obeys: a file is read where it is the lines of valid records that rise strictly, and no more of them than slots; the
+-- table then holds those records and no other. `read-lines` what a file that was read is (`Lined`) · `lines-read` such a file is read · `lines-one`
+-- valid records are told by their lines.
+-- The line before is a bound on the order of lines (text's specs/LineOrder): what the table holds lies below it, so the point of the next line is absent.
 -- Assumes nothing.
 use mathlib.Core.Path.{_≡_, refl, sym, ap, _∙_, subst}
 use mathlib.Core.Logic.{_⊎_, inl, inr}
@@ -32,10 +32,9 @@ use Rattle.text.specs.ReadingLaws.{Stands, stands-at}
 use Rattle.text.specs.LineLaws.{line-write, line-read, line-next, line-end, line-bad, line-prefix, lines-next}
 use Rattle.text.specs.declared.line.Line.{Line}
 use Rattle.text.specs.declared.line.Line.the-variants.{Good, Bad, End}
-use Rattle.writers.specs.SortLaws.{Rising}
+use Rattle.sorting.specs.SortLaws.{Rising}
 use Rattle.writers.specs.FileLaws.{Before}
-use Rattle.writers.specs.LineOrder.{orderOf, order-earlier}
-use Rattle.writers.specs.KeptLaws.{close}
+use Rattle.text.specs.LineOrder.{orderOf, close, order-earlier}
 use Rattle.readers.specs.Readers.{Lines, Read, Fault, after, above, noSlot, lineRead, linesFrom, readLines}
 use Rattle.readers.specs.Additions.{Adds, adds-none, adds-one, adds-then, adds-as, adds-slots, held-absent}
 
@@ -161,7 +160,8 @@ module _ (t : List ℕ) (o : InOrder t) (q : Option Record) (low : Below t q) (r
           rises = (λ x m. order-before r x ok (w .valid x m) (w .later x m), w .rises);
           valid = λ x m. sound x (List·Memᴰ·cases-cons m);
           later = λ x m. late x (List·Memᴰ·cases-cons m);
-          adds = adds-then (λ x. List·Memᴰ x (r ∷ rs)) t (enterOf t r) u (line-adds (λ x. List·Memᴰ x (r ∷ rs)) (List·Memᴰ·head refl))
+          adds =
+              adds-then (λ x. List·Memᴰ x (r ∷ rs)) t (enterOf t r) u (line-adds (λ x. List·Memᴰ x (r ∷ rs)) (List·Memᴰ·head refl))
               (adds-as (λ x. List·Memᴰ x rs) (λ x. List·Memᴰ x (r ∷ rs)) (enterOf t r) u (λ x m. List·Memᴰ·tail m) (w .adds));
           held = λ x m. stays x (List·Memᴰ·cases-cons m);
           count = omega arith;
@@ -285,8 +285,8 @@ module _ (t : List ℕ) (n : ℕ) (w : Table t n) where
   -- what a file that was read is
   pub read-lines : (f : List ℕ) (rs : List Record) (u : List ℕ) → readLines f (clearedOf t) ≡ Read rs u → Lined f n rs u
   read-lines f rs u e =
-      let x : From f 0 none (clearedOf t) rs u =
-      subst (Told f 0 none (clearedOf t)) e (lines-told f (length f) 0 1 none (clearedOf t) (clear-order t fits) tt nothing (omega arith)) in
+      let x : From f 0 none (clearedOf t) rs u = subst (Told f 0 none (clearedOf t)) e
+      (lines-told f (length f) 0 1 none (clearedOf t) (clear-order t fits) tt nothing (omega arith)) in
       record {
         text = x .text;
         rises = x .rises;

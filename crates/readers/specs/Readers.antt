@@ -1,6 +1,6 @@
 -- Document 01, "Files" and "Numbers given back": what the readers do. What the promises cite: `readFullOf`, `readReducedOf`.
--- `Lines`, `readLines` the lines of a file entered, or refused · `Restored`, `restoreAll` what a reduced file leaves out, entered · `Outcome`
--- number, line, table and scratch.
+-- `Lines`, `readLines` the lines of a file entered, or refused · `Restored`, `restoreAll` what a reduced file leaves out, entered · `Outcome` number,
+-- line, table and scratch.
 -- Assumes nothing.
 use mathlib.Core.Bool.{Bool, true, false, cond, _&&_}
 use mathlib.Core.List.{List, [], _∷_}
@@ -61,8 +61,8 @@ linesFrom f (suc left) p i q t = lineRead i q t (λ r next. linesFrom f left nex
 abbrev pub readLines : List ℕ → List ℕ → Lines
 readLines f t = linesFrom f (length f) 0 1 none t
 
--- ---- "The reduced reader then takes the degree 6 records in file order and enters each absent adjacent point, j rising, as d 3, level n,
--- orientation (6+2j+k) mod 4."
+-- ---- "The reduced reader then takes the degree 6 records in file order and enters each absent adjacent point, j rising, as d 3, level n, orientation
+-- (6+2j+k) mod 4."
 -- that record is `bornOf v j`, the one that a subdivision enters round its centre
 
 -- the table so far; or the number of the refusal

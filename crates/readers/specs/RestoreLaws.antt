@@ -1,6 +1,6 @@
 -- What restoring obeys. Afterwards every adjacent point of the degree 6 records is there, and what was entered is what document 01 says of them
--- (`restore-all`: `Restores`).
--- `restores-into` where the points absent lack nothing but such records of a table g in order, and room for them is there, restoring ends well and within g.
+-- (`restore-all`: `Restores`). `restores-into` where the points absent lack nothing but such records of a table g in order, and room for them is there,
+-- restoring ends well and within g.
 -- Assumes nothing.
 use mathlib.Core.Path.{_≡_, refl, sym, ap, _∙_, subst}
 use mathlib.Core.Logic.{_⊎_, inl, inr}
@@ -77,8 +77,8 @@ record Around (P : Record → Type 0) (v : Record) (j : ℕ) (t w : List ℕ) : 
   adds : Adds P t w
   has : (i : ℕ) → i < j → (q : Record) × (lookUp w (adjacentAt v i) ≡ Held q)
 
-restore-to : (P : Record → Type 0) (v : Record) (j : ℕ) → ((i : ℕ) → i < j → P (bornOf v i)) → (t w : List ℕ) → InOrder t → restoreTo v j (With t)
-    ≡ With w → Around P v j t w
+restore-to : (P : Record → Type 0) (v : Record) (j : ℕ) → ((i : ℕ) → i < j → P (bornOf v i)) → (t w : List ℕ) → InOrder t
+    → restoreTo v j (With t) ≡ With w → Around P v j t w
 unfolding restoreTo
 restore-to P v zero h t w o e = record { adds = subst (Adds P t) (with-is e) (adds-none P t o); has = λ i l. absurd (omega arith) }
 restore-to P v (suc j) h t w o e = go (restoreTo v j (With t)) refl e (λ u k. restore-to P v j (λ i l. h i (omega arith)) t u o k)
@@ -123,8 +123,8 @@ module _ (P : Record → Type 0) where
       → Adds P t w × (v .d ≡ 6 → (j : ℕ) → j < 6 → (q : Record) × (lookUp w (adjacentAt v j) ≡ Held q))
   restore-star v h t w o = go (eqb (v .d) 6) refl
     where
-      go : (b : Bool) → eqb (v .d) 6 ≡ b → cond b (restoreTo v 6 (With t)) (With t) ≡ With w → Adds P t w
-          × (v .d ≡ 6 → (j : ℕ) → j < 6 → (q : Record) × (lookUp w (adjacentAt v j) ≡ Held q))
+      go : (b : Bool) → eqb (v .d) 6 ≡ b → cond b (restoreTo v 6 (With t)) (With t) ≡ With w
+          → Adds P t w × (v .d ≡ 6 → (j : ℕ) → j < 6 → (q : Record) × (lookUp w (adjacentAt v j) ≡ Held q))
       go true e k = let a = restore-to P v 6 (h (eqb-true (v .d) 6 e)) t w o k in (a .adds, λ d. a .has)
       go false e k = (subst (Adds P t) (with-is k) (adds-none P t o), λ d. absurd (not-both (eq-eqb (v .d) 6 d) e))
 
@@ -220,12 +220,11 @@ module _ (g : List ℕ) (whole : InOrder g) (t : List ℕ) (o : InOrder t) (with
           let is : In g (bornOf v j) = ap (lookUp g) at ∙ h ∙ ap Held same in (
             enterOf u (bornOf v j),
             restore-new u (a .order) (bornOf v j) away ok free,
-            adds-then (In g) t u (enterOf u (bornOf v j)) a
-                (adds-one (In g) u (bornOf v j) (a .order) ok away free is),
+            adds-then (In g) t u (enterOf u (bornOf v j)) a (adds-one (In g) u (bornOf v j) (a .order) ok away free is),
           )
 
-  into-to : (v : Record) (j : ℕ) → ((i : ℕ) → i < j → Lacks g t v i) → (u : List ℕ) → Adds (In g) t u → (w : List ℕ)
-      × (restoreTo v j (With u) ≡ With w) × Adds (In g) t w
+  into-to : (v : Record) (j : ℕ) → ((i : ℕ) → i < j → Lacks g t v i) → (u : List ℕ) → Adds (In g) t u
+      → (w : List ℕ) × (restoreTo v j (With u) ≡ With w) × Adds (In g) t w
   unfolding restoreTo
   into-to v zero h u a = (u, refl, a)
   into-to v (suc j) h u a =
@@ -233,8 +232,8 @@ module _ (g : List ℕ) (whole : InOrder g) (t : List ℕ) (o : InOrder t) (with
       let (w, k, c) = into-one v j (h j (omega arith)) x b in
       (w, ap (λ (y : Restored). restore y (bornOf v j)) e ∙ k, c)
 
-  pub restores-into : (rs : List Record) → ((v : Record) → List·Memᴰ v rs → v .d ≡ 6 → (j : ℕ) → j < 6 → Lacks g t v j) → (u : List ℕ)
-      → Adds (In g) t u → (w : List ℕ) × (restoreAll rs (With u) ≡ With w) × Adds (In g) t w
+  pub restores-into : (rs : List Record) → ((v : Record) → List·Memᴰ v rs → v .d ≡ 6 → (j : ℕ) → j < 6 → Lacks g t v j) → (u : List ℕ) → Adds (In g) t u
+      → (w : List ℕ) × (restoreAll rs (With u) ≡ With w) × Adds (In g) t w
   unfolding restoreAll
   restores-into [] h u a = (u, refl, a)
   restores-into (v ∷ rs) h u a =

@@ -1,9 +1,7 @@
 -- What a reduced file leaves out, step by step as the code enters it.
 -- `restoredBy` a number and a table as what restoring has come to · `restore-there`, `restore-entered`, `restore-invalid`, `restore-full`,
--- `restore-neither` one record · `to-none`,
--- `to-more`, `to-stopped` one star · `star-six`, `star-other` · `fileRecords` the records of a file, read again: `read-records` · `Restoring` so
--- far: `restoring-start`, `restoring-end`,
--- `restoring-more`, `restoring-stopped`.
+-- `restore-neither` one record · `to-none`, `to-more`, `to-stopped` one star · `star-six`, `star-other` · `fileRecords` the records of a file, read
+-- again: `read-records` · `Restoring` so far: `restoring-start`, `restoring-end`, `restoring-more`, `restoring-stopped`.
 -- Assumes nothing.
 use mathlib.Core.Path.{_≡_, refl, sym, ap, _∙_, subst}
 use mathlib.Core.Bool.{Bool, true, false, cond}
@@ -142,8 +140,8 @@ pub read-records : (f t : List ℕ) (rs : List Record) (u : List ℕ) → readLi
 read-records f t rs u e = subst (Same (fileRecords f)) e (same-lines f (length f) 0 1 none t)
 
 -- one line, where enough are left
-records-step : (f : List ℕ) (left p : ℕ) → length f ≤ p + left → (l : Line) → lineAt f p ≡ l → recordsAt f left p
-    ≡ lineRecord (λ r next. recordsAt f (left - 1) next) l
+records-step : (f : List ℕ) (left p : ℕ) → length f ≤ p + left → (l : Line) → lineAt f p ≡ l
+    → recordsAt f left p ≡ lineRecord (λ r next. recordsAt f (left - 1) next) l
 unfolding recordsAt
 records-step f zero p h l e = ap (lineRecord (λ r next. [])) (sym (line-end f p (omega arith)) ∙ e)
 records-step f (suc left) p h l e =

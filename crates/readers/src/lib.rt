@@ -21,8 +21,8 @@ pub use lines::ReadBack;
 use local::all_pass;
 use table::slots_of;
 
-// Reads a full file into a table, with a scratch table of the same length. Refused with 1 both are untouched; else scratch ends all 255, and so
-// does the table where it is refused.
+// Reads a full file into a table, with a scratch table of the same length. Refused with 1 both are untouched; else scratch ends all 255, and so does
+// the table where it is refused.
 // Linear in the table's slots and in the file, as long as the searches are short.
 pub fn read_full(table: &mut [u8], scratch: &mut [u8], file: &[u8]) -> ReadBack
     ensures { λ r. ⌜ outcome (r .number) (r .line) (now (table .exit)) (now (scratch .exit))

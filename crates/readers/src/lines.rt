@@ -3,7 +3,7 @@ ghost use mathlib.Core.Path.{_≡_};
 ghost use Prim.Native.Nat.{_+_, _<_, _^_};
 ghost use Rattle.table.specs.Slots.{Table};
 ghost use Rattle.reader.specs.Met.{metAt};
-ghost use Rattle.writers.specs.Files.{earlier};
+ghost use Rattle.text.specs.LineOrder.{earlier};
 ghost use Rattle.readers.specs.Readers.{above, readLines};
 ghost use Rattle.readers.specs.LineSteps.{lineBefore, enteredStep, stepAt, tableAfter, EndsAs};
 use lattice::DONE;
@@ -31,8 +31,8 @@ pub fn answer(number: u8, line: u64) -> ReadBack
     ReadBack { number, line }
 }
 
-// What became of a line: its record is entered, and the next line stands at a position and has a number; there is none; or it is refused with a
-// number, and this line is at fault.
+// What became of a line: its record is entered, and the next line stands at a position and has a number; there is none; or it is refused with a number,
+// and this line is at fault.
 pub enum Step {
     Entered(Record, usize, u64),
     Over,

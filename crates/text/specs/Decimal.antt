@@ -1,5 +1,5 @@
--- Document 01, "Files": how a number is written. What the promises cite: `digits` a natural number, `numeral` a whole one, `ended` a field with
--- the byte that ends it.
+-- Document 01, "Files": how a number is written. What the promises cite: `digits` a natural number, `numeral` a whole one, `ended` a field with the
+-- byte that ends it.
 -- Assumes nothing.
 use mathlib.Core.Bool.{cond}
 use mathlib.Core.List.{List, [], _∷_, _++_}

@@ -1,8 +1,7 @@
 -- What the written numbers obey: the digits of a number are those of its tens and its last, so every law goes by tens.
--- `digits-small`, `digits-more` the two cases · `by-tens` induction · `Digits` bytes that are digits, `digits-are` · `digits-value` what the
--- digits count, `value-digits` the
--- number that digits without a leading zero write · `digits-plain` no leading zero · `width-above`, `width-below`, `digits-some` how many there
--- are · `numeral-minus`, `numeral-plus` the sign · `lastDigits` written from the last back.
+-- `digits-small`, `digits-more` the two cases · `by-tens` induction · `Digits` bytes that are digits, `digits-are` · `digits-value` what the digits
+-- count, `value-digits` the number that digits without a leading zero write · `digits-plain` no leading zero · `width-above`, `width-below`,
+-- `digits-some` how many there are · `numeral-minus`, `numeral-plus` the sign.
 -- Assumes nothing.
 use mathlib.Core.Path.{_≡_, refl, sym, _∙_, subst, ap}
 use mathlib.Core.Bool.{Bool, true, false, cond}
@@ -15,10 +14,7 @@ use borrow.Author.Tests.{lt-ltb, le-ltb, le-leb, eq-eqb, ne-eqb, leb-true, ltb-t
 use lib.Dec.{eqb, ltb, leb}
 use lib.IntN.{ℤ, pos, negsuc, natAbs}
 use lib.Signed.{ltZ}
-use lib.ListN.{length, getD, set, length-append, List·getD-append}
-use lib.Seq.{sets}
-use Rattle.laws.specs.Sets.{sets-append}
-use Rattle.laws.specs.Stores.{set-sets}
+use lib.ListN.{length, getD, length-append, List·getD-append}
 use Rattle.laws.specs.Each.{never, both-left, both-right}
 use Rattle.text.specs.Decimal.{minus, digit, digitsBy, digits, numeral}
 use Rattle.text.specs.Reading.{isDigit, value, plain}
@@ -213,37 +209,3 @@ numeral-minus (negsuc m) n h e = ap (λ (k : ℕ). minus ∷ digits k) (sym e)
 pub numeral-plus : (z : ℤ) (n : ℕ) → ltZ z (pos 0) ≡ false → n ≡ natAbs z → numeral z ≡ digits n
 numeral-plus (pos m) n h e = ap digits (sym e)
 numeral-plus (negsuc m) n h e = absurd (never (sym h))
-
--- ---- written from the last back
-
--- the last j digits of v, with zeros before where it has fewer
-unfoldable pub lastDigits : ℕ → ℕ → List ℕ
-lastDigits zero v = []
-lastDigits (suc j) v = lastDigits j (v / 10) ++ digit (v % 10) ∷ []
-
-pub last-length : (j v : ℕ) → length (lastDigits j v) ≡ j
-unfolding lastDigits
-last-length zero v = refl
-last-length (suc j) v = omega (arith, length-append (lastDigits j (v / 10)) (digit (v % 10) ∷ []), last-length j (v / 10))
-
-pub digits-last : (n : ℕ) → lastDigits (length (digits n)) n ≡ digits n
-unfolding lastDigits
-digits-last =
-    by-tens (λ n. lastDigits (length (digits n)) n ≡ digits n)
-    (λ n h.
-    let l : length (digits n) ≡ 1 = ap length (digits-small n h) in
-    let d : 48 + n % 10 ≡ 48 + n = omega arith in
-    ap (λ (j : ℕ). lastDigits j n) l ∙ ap (λ (b : ℕ). b ∷ []) d ∙ sym (digits-small n h))
-    (λ n h r.
-    let l : length (digits n) ≡ suc (length (digits (n / 10))) = omega (arith, more-length n h) in
-    ap (λ (j : ℕ). lastDigits j n) l ∙ ap (λ (s : List ℕ). s ++ digit (n % 10) ∷ []) r ∙ sym (digits-more n h))
-
--- one digit more, stored before those already there
-pub last-store : (o : List ℕ) (at j v : ℕ) → sets (set o (at + j) (digit (v % 10))) at (lastDigits j (v / 10)) ≡ sets o at (lastDigits (suc j) v)
-unfolding lastDigits
-last-store o at j v =
-    let xs = lastDigits j (v / 10) in
-    let l : at + length xs ≡ at + j = omega (arith, last-length j (v / 10)) in
-    let h : at + length xs ≤ at + j = omega arith in
-    sym (set-sets xs o at (at + j) (digit (v % 10)) h) ∙ ap (λ (k : ℕ). set (sets o at xs) k (digit (v % 10))) (sym l)
-    ∙ sets-append xs (digit (v % 10) ∷ []) o at

@@ -8,6 +8,8 @@ pub mod ReadingLaws
 -- lines
 pub mod Near
 pub mod LineLengths
+pub mod Back
+pub mod LineOrder
 pub mod LineCount
 pub mod LineLaws
 -- examples, computed

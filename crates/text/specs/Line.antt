@@ -1,6 +1,5 @@
 -- Document 01, "Files": a record's line. What the promises cite: `lineOf` the line of a record, `lines` those of several, `lineAt` the line at a
--- position of any bytes.
--- `pointText`, `starText` its halves, as written · `placeAt`, `starAt`, `spelledAt` the same as read, valid or not.
+-- position of any bytes. `pointText`, `starText` its halves, as written · `placeAt`, `starAt`, `spelledAt` the same as read, valid or not.
 -- Assumes nothing.
 use mathlib.Core.Bool.{cond}
 use mathlib.Core.List.{List, [], _∷_, _++_}

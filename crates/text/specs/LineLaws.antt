@@ -1,8 +1,7 @@
--- Why written and parsed lines are one format: a written line parses to its record (`line-write`), and only a written line parses (`line-read`).
--- So the bytes at a
--- position settle the answer: `line-one` no two valid records' lines stand there, `line-prefix` no line begins another, `line-bad` all else is
--- Bad, `line-end` the end of the file.
--- `line-next` how far a line goes · `lines-join`, `lines-next` the lines of several records, one after the other.
+-- Why written and parsed lines are one format: a written line parses to its record (`line-write`), and only a written line parses (`line-read`). So the
+-- bytes at a position settle the answer: `line-one` no two valid records' lines stand there, `line-prefix` no line begins another, `line-bad` all else
+-- is Bad, `line-end` the end of the file. `line-next` how far a line goes · `lines-join`, `lines-next` the lines of several records, one after the
+-- other.
 -- Assumes nothing.
 use mathlib.Core.Path.{_≡_, refl, sym, _∙_, subst, ap}
 use mathlib.Core.Bool.{Bool, true, false, cond}
@@ -50,12 +49,11 @@ place-write t p q x ha hb hm s =
     rw (
       signed-write t p far tab (x .a) _ refl ha s₁,
       signed-write t (p + length ta) far tab (x .b) _ refl hb s₂,
-      number-write t
-          (p + length ta + length tb) near tab (x .m .0) q refl hm s₃,
+      number-write t (p + length ta + length tb) near tab (x .m .0) q refl hm s₃,
     )
 
-pub star-write : (t : List ℕ) (p q : ℕ) (x : Point) (d k n : ℕ) → d ≤ near → k ≤ near → n ≤ near → Stands t p (starText d k n) q → starAt t p x
-    ≡ Good (rec x d k n) q
+pub star-write : (t : List ℕ) (p q : ℕ) (x : Point) (d k n : ℕ) → d ≤ near → k ≤ near → n ≤ near → Stands t p (starText d k n) q
+    → starAt t p x ≡ Good (rec x d k n) q
 unfolding starAt starText
 star-write t p q x d k n hd hk hn s =
     let td = ended (digits d) tab in
@@ -68,8 +66,7 @@ star-write t p q x d k n hd hk hn s =
     rw (
       number-write t p near tab d _ refl hd s₁,
       number-write t (p + length td) near tab k _ refl hk s₂,
-      number-write t
-          (p + length td + length tk) near feed n q refl hn s₃,
+      number-write t (p + length td + length tk) near feed n q refl hn s₃,
     )
 
 stands-within : {t xs : List ℕ} {p q : ℕ} → Stands t p xs q → 0 < length xs → p < length t
@@ -125,8 +122,8 @@ module _ (t : List ℕ) (x : Point) (q : ℕ) where
   m-read a b p NoNumber e h = nowhere h
   m-read a b p (Natural m r) e h = let w = place-is h in (m, w .0, subst (Stands t p (ended (digits m) tab)) (w .1) (number-read t p near tab m r e))
 
-  b-read : (a : ℤ) (p : ℕ) (s : Signed) → signedAt t p far tab ≡ s → withB t a s ≡ At x q → (b : ℤ) × (m : ℕ) × (pt a b m ≡ x)
-      × Stands t p (ended (numeral b) tab ++ ended (digits m) tab) q
+  b-read : (a : ℤ) (p : ℕ) (s : Signed) → signedAt t p far tab ≡ s → withB t a s ≡ At x q
+      → (b : ℤ) × (m : ℕ) × (pt a b m ≡ x) × Stands t p (ended (numeral b) tab ++ ended (digits m) tab) q
   b-read a p NoWhole e h = nowhere h
   b-read a p (Whole b r) e h =
       let w = m-read a b r (numberAt t r near tab) refl h in
@@ -158,8 +155,8 @@ module _ (t : List ℕ) (x : Point) (s : Record) (q : ℕ) where
   n-read d k p NoNumber e h = not-bad h
   n-read d k p (Natural n r) e h = let w = good-is h in (n, w .0, subst (Stands t p (ended (digits n) feed)) (w .1) (number-read t p near feed n r e))
 
-  k-read : (d p : ℕ) (v : Number) → numberAt t p near tab ≡ v → withK t x d v ≡ Good s q → (k : ℕ) × (n : ℕ) × (rec x d k n ≡ s)
-      × Stands t p (ended (digits k) tab ++ ended (digits n) feed) q
+  k-read : (d p : ℕ) (v : Number) → numberAt t p near tab ≡ v → withK t x d v ≡ Good s q
+      → (k : ℕ) × (n : ℕ) × (rec x d k n ≡ s) × Stands t p (ended (digits k) tab ++ ended (digits n) feed) q
   k-read d p NoNumber e h = not-bad h
   k-read d p (Natural k r) e h =
       let w = n-read d k r (numberAt t r near feed) refl h in
@@ -190,8 +187,8 @@ pub line-read : (t : List ℕ) (p q : ℕ) (r : Record) → lineAt t p ≡ Good 
 unfolding lineAt
 line-read t p q r = go (spelledAt t p) refl
   where
-    sure : (s : Record) (k : ℕ) (b : Bool) → validOf s ≡ b → spelledAt t p ≡ Good s k → cond b (Good s k) Bad ≡ Good r q → (validOf r ≡ true)
-        × Stands t p (lineOf r) q
+    sure : (s : Record) (k : ℕ) (b : Bool) → validOf s ≡ b → spelledAt t p ≡ Good s k → cond b (Good s k) Bad ≡ Good r q
+        → (validOf r ≡ true) × Stands t p (lineOf r) q
     sure s k true v e h =
         let w = good-is h in
         (subst (λ (y : Record). validOf y ≡ true) (w .0) v, spelled-read t p q r (e ∙ h))

@@ -1,7 +1,6 @@
 -- How long lines are, by their fields.
--- `point-length`, `star-length`, `line-halves` a line's parts · `line-long` its six fields · `line-least`, `line-most` at least 12 bytes, and at
--- most 26 for a valid record ·
--- `lines-least` those of several.
+-- `point-length`, `star-length`, `line-halves` a line's parts · `line-long` its six fields · `line-least`, `line-most` at least 12 bytes, and at most
+-- 26 for a valid record · `lines-least` those of several.
 -- Assumes nothing.
 use mathlib.Core.Path.{_≡_}
 use mathlib.Core.Bool.{true}
@@ -21,8 +20,8 @@ use Rattle.text.specs.Near.{valid-near}
 three : (xs ys zs : List ℕ) → length (xs ++ (ys ++ zs)) ≡ length xs + (length ys + length zs)
 three xs ys zs = omega (arith, length-append xs (ys ++ zs), length-append ys zs)
 
-pub point-length : (p : Point) → length (pointText p)
-    ≡ length (ended (numeral (p .a)) tab) + (length (ended (numeral (p .b)) tab) + length (ended (digits (p .m .0)) tab))
+pub point-length : (p : Point)
+    → length (pointText p) ≡ length (ended (numeral (p .a)) tab) + (length (ended (numeral (p .b)) tab) + length (ended (digits (p .m .0)) tab))
 unfolding pointText
 point-length p = three (ended (numeral (p .a)) tab) (ended (numeral (p .b)) tab) (ended (digits (p .m .0)) tab)
 
@@ -35,8 +34,7 @@ unfolding lineOf
 line-halves r = length-append (pointText (r .at)) (starText (r .d) (r .k) (r .n .0))
 
 -- six fields, and a byte after each
-pub line-long : (r : Record) → length (lineOf r)
-    ≡ length (numeral (r .at .a)) + length (numeral (r .at .b)) + length (digits (r .at .m .0)) +
+pub line-long : (r : Record) → length (lineOf r) ≡ length (numeral (r .at .a)) + length (numeral (r .at .b)) + length (digits (r .at .m .0)) +
     (length (digits (r .d)) + length (digits (r .k)) + length (digits (r .n .0))) + 6
 line-long r =
     omega (

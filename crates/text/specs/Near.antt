@@ -44,8 +44,8 @@ turns-near d k = go (eqb d 3) (eqb d 4) (eqb d 5) (eqb d 6) refl refl refl refl
 suits-near : (d k n : ℕ) → suitsOf d k n ≡ true → (d ≤ 6) × (k ≤ 11) × (n ≤ 12)
 suits-near d k n = go (eqb d 0) refl
   where
-    go : (z : Bool) → eqb d 0 ≡ z → cond z (eqb k 0 && eqb n 0) (ltb k (orientationsOf d) && (leb n 12 && sameParity k n)) ≡ true → (d ≤ 6)
-        × (k ≤ 11) × (n ≤ 12)
+    go : (z : Bool) → eqb d 0 ≡ z → cond z (eqb k 0 && eqb n 0) (ltb k (orientationsOf d) && (leb n 12 && sameParity k n)) ≡ true
+        → (d ≤ 6) × (k ≤ 11) × (n ≤ 12)
     go true e h = (
       omega (arith, eqb-true d 0 e),
       omega (arith, eqb-true k 0 (both-left (eqb k 0) (eqb n 0) h)),

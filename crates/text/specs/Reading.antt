@@ -1,6 +1,6 @@
 -- Document 01, "Files": how a number is read at a position of a file, whatever its bytes. What the promises cite: `numberAt` a natural number,
--- `signedAt` a whole one.
--- `isDigit` · `run` the digits that bytes begin with · `value` what they count · `plain` no leading zero · `begins` the next byte.
+-- `signedAt` a whole one. `isDigit` · `run` the digits that bytes begin with · `value` what they count · `plain` no leading zero · `begins` the next
+-- byte.
 -- Assumes nothing.
 use mathlib.Core.Bool.{Bool, false, cond, _&&_}
 use mathlib.Core.List.{List, [], _∷_}

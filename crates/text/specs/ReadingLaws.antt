@@ -125,8 +125,8 @@ unfolding numberAt
 number-write t p most stop v q h small s =
     let whole : drop p t ≡ digits v ++ stop ∷ drop q t = s .here ∙ append-snoc (digits v) stop (drop q t) in
     let spelt : run (drop p t) ≡ digits v = ap run whole ∙ run-all (digits v) (drop q t) stop (digits-are v) h in
-    let met : begins stop (drop (p + length (digits v)) t) ≡ true =
-    byte-stands t (p + length (digits v)) stop (drop q t) (stands-rest t (digits v) (stop ∷ drop q t) p whole) in
+    let met : begins stop (drop (p + length (digits v)) t)
+    ≡ true = byte-stands t (p + length (digits v)) stop (drop q t) (stands-rest t (digits v) (stop ∷ drop q t) p whole) in
     let past : p + length (digits v) + 1 ≡ q = omega (arith, s .past, length-append (digits v) (stop ∷ [])) in
     ap (λ (l : List ℕ). numberOf l t p most stop) spelt ∙ rw (digits-value v, le-leb v most small, met, digits-plain v) (ap (Natural v) past)
 
@@ -158,8 +158,8 @@ plus-read t p most stop (Natural n r) z q e h =
     )
 
 -- only a written number is read
-pub signed-read : (t : List ℕ) (p most stop : ℕ) (z : ℤ) (q : ℕ) → signedAt t p most stop ≡ Whole z q → Stands t p (ended (numeral z) stop) q
-    × (natAbs z ≤ most)
+pub signed-read : (t : List ℕ) (p most stop : ℕ) (z : ℤ) (q : ℕ) → signedAt t p most stop ≡ Whole z q
+    → Stands t p (ended (numeral z) stop) q × (natAbs z ≤ most)
 unfolding signedAt
 signed-read t p most stop z q = go (begins minus (drop p t)) refl
   where
@@ -169,13 +169,13 @@ signed-read t p most stop z q = go (begins minus (drop p t)) refl
     go false b h = plus-read t p most stop (numberAt t p most stop) z q refl h
 
 -- the two cases of a reader with a sign
-pub signed-minus : (t : List ℕ) (p most stop : ℕ) (n : Number) → begins minus (drop p t) ≡ true → numberAt t (p + 1) most stop ≡ n → asMinus n
-    ≡ signedAt t p most stop
+pub signed-minus : (t : List ℕ) (p most stop : ℕ) (n : Number) → begins minus (drop p t) ≡ true → numberAt t (p + 1) most stop ≡ n
+    → asMinus n ≡ signedAt t p most stop
 unfolding signedAt
 signed-minus t p most stop n b e = rw (b, e)
 
-pub signed-plus : (t : List ℕ) (p most stop : ℕ) (n : Number) → begins minus (drop p t) ≡ false → numberAt t p most stop ≡ n → asWhole n
-    ≡ signedAt t p most stop
+pub signed-plus : (t : List ℕ) (p most stop : ℕ) (n : Number) → begins minus (drop p t) ≡ false → numberAt t p most stop ≡ n
+    → asWhole n ≡ signedAt t p most stop
 unfolding signedAt
 signed-plus t p most stop n b e = rw (b, e)
 
@@ -265,7 +265,8 @@ module _ (t : List ℕ) (at most i v : ℕ) (r : Scanned t at most i v) where
     where
       go : Dec (at < i) → getD (run (drop at t)) 0 0 ≡ getD t at 0
       go (yes l) = r .first l
-      go (no l) = let same : i ≡ at = omega (arith, r .from) in
+      go (no l) =
+          let same : i ≡ at = omega (arith, r .from) in
           subst (λ (j : ℕ). getD (run (drop j t)) 0 0 ≡ getD t j 0) same (ap (λ (s : List ℕ). getD s 0 0) (run-step t i h e))
 
   -- a digit that takes it above what is wanted: so is the whole

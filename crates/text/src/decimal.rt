@@ -1,5 +1,5 @@
-// Decimal numbers in bytes: no plus sign, no leading zero, minus only before a nonzero number. Each ends with a byte of the caller's choice, a tab
-// or a line feed.
+// Decimal numbers in bytes: no plus sign, no leading zero, minus only before a nonzero number. Each ends with a byte of the caller's choice, a tab or a
+// line feed.
 ghost use mathlib.Core.Path.{_≡_};
 ghost use Prim.Native.Nat.{_+_, _-_, _≤_, _<_};
 ghost use lib.IntN.{negℤ, pos, natAbs};
@@ -121,20 +121,21 @@ pub fn width(n: u32) -> usize
     w
 }
 
-// Writes a number's digits at a position, from the last back, and gives the position past them.
-fn write_digits(out: &mut [u8], at: usize, n: u32) -> usize
-    requires { ⌜ at + length (digits n) ≤ length (now out) ⌝ }
-    ensures { λ r. ⌜ Wrote (now (out .entry)) at (digits n) (now (out .exit)) r ⌝ }
+// Writes a number's digits, the last before a position, from the last back, and gives the position of the first.
+fn digits_back(out: &mut [u8], end: usize, n: u32) -> usize
+    requires { ⌜ (length (digits n) ≤ end) × (end ≤ length (now out)) ⌝ }
+    ensures { λ at. ⌜ Wrote (now (out .entry)) at (digits n) (now (out .exit)) end ⌝ }
 {
-    let end = at + width(n);
-    let mut i = end;
+    let mut at = end;
     let mut v = n;
-    while at < i {
-        i -= 1;
-        out[i] = b'0' + (v % 10) as u8;
+    loop {
+        at -= 1;
+        out[at] = b'0' + (v % 10) as u8;
         v = v / 10;
+        if v == 0 {
+            return at;
+        }
     }
-    end
 }
 
 // Writes a number and the byte that ends it at a position, and gives the position past both.
@@ -142,9 +143,19 @@ pub fn write_number(out: &mut [u8], at: usize, n: u32, stop: u8) -> usize
     requires { ⌜ at + length (ended (digits n) stop) ≤ length (now out) ⌝ }
     ensures { λ r. ⌜ Wrote (now (out .entry)) at (ended (digits n) stop) (now (out .exit)) r ⌝ }
 {
-    let i = write_digits(out, at, n);
-    out[i] = stop;
-    i + 1
+    let end = at + width(n) + 1;
+    number_back(out, end, n, stop);
+    end
+}
+
+// Writes a number and the byte that ends it, both before a position, and gives the position of the first digit.
+pub fn number_back(out: &mut [u8], end: usize, n: u32, stop: u8) -> usize
+    requires { ⌜ (length (ended (digits n) stop) ≤ end) × (end ≤ length (now out)) ⌝ }
+    ensures { λ at. ⌜ Wrote (now (out .entry)) at (ended (digits n) stop) (now (out .exit)) end ⌝ }
+{
+    let last = end - 1;
+    out[last] = stop;
+    digits_back(out, last, n)
 }
 
 // The size of a number, without its sign: i64 holds that of the least i32 too.
@@ -155,17 +166,18 @@ fn size(z: i32) -> u32
     if w < 0 { (-w) as u32 } else { w as u32 }
 }
 
-// The same as `write_number` with a sign.
-pub fn write_signed(out: &mut [u8], at: usize, z: i32, stop: u8) -> usize
-    requires { ⌜ at + length (ended (numeral z) stop) ≤ length (now out) ⌝ }
-    ensures { λ r. ⌜ Wrote (now (out .entry)) at (ended (numeral z) stop) (now (out .exit)) r ⌝ }
+// The same as `number_back` with a sign.
+pub fn signed_back(out: &mut [u8], end: usize, z: i32, stop: u8) -> usize
+    requires { ⌜ (length (ended (numeral z) stop) ≤ end) × (end ≤ length (now out)) ⌝ }
+    ensures { λ at. ⌜ Wrote (now (out .entry)) at (ended (numeral z) stop) (now (out .exit)) end ⌝ }
 {
     let n = size(z);
     if z < 0 {
+        let at = number_back(out, end, n, stop) - 1;
         out[at] = b'-';
-        return write_number(out, at + 1, n, stop);
+        return at;
     }
-    write_number(out, at, n, stop)
+    number_back(out, end, n, stop)
 }
 
 // How many bytes a number with its sign has.

@@ -2,9 +2,11 @@
 //
 // One definition of a line, `lineOf` of specs/Line, is what is written and what is parsed: specs/LineLaws shows that a written line parses to its record
 // and that only a written line parses. No input wraps or stops a parser: what is no such line is refused.
-// The floors above call `parse_line`, `line_length` and `write_line` for files, `width` and `write_number` for counts.
+// The floors above call `parse_line`, `line_length` and `write_line_back` for files, `width` and `write_number` for counts,
+// `order` to sort.
 mod decimal;
 mod line;
+mod line_order;
 
 pub use decimal::width;
 pub use decimal::write_number;
@@ -13,4 +15,5 @@ pub use line::Line;
 pub use line::TAB;
 pub use line::line_length;
 pub use line::parse_line;
-pub use line::write_line;
+pub use line::write_line_back;
+pub use line_order::order;

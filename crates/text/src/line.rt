@@ -6,12 +6,12 @@ ghost use Rattle.laws.specs.Stores.{Wrote};
 ghost use Rattle.text.specs.Line.{pointText, starText, lineOf, placeAt, starAt, spelledAt, lineAt};
 use crate::decimal::Number;
 use crate::decimal::Signed;
+use crate::decimal::number_back;
 use crate::decimal::read_number;
 use crate::decimal::read_signed;
+use crate::decimal::signed_back;
 use crate::decimal::signed_width;
 use crate::decimal::width;
-use crate::decimal::write_number;
-use crate::decimal::write_signed;
 use lattice::Depth;
 use lattice::Level;
 use lattice::Point;
@@ -127,32 +127,32 @@ pub fn line_length(r: Record) -> usize
     point + star + 6
 }
 
-// Writes a point's three fields at a position, and gives the position past them.
-pub fn write_point(out: &mut [u8], at: usize, p: Point) -> usize
-    requires { ⌜ at + length (pointText p) ≤ length (now out) ⌝ }
-    ensures { λ r. ⌜ Wrote (now (out .entry)) at (pointText p) (now (out .exit)) r ⌝ }
+// Writes a point's three fields before a position, from the last back, and gives the position of the first.
+fn point_back(out: &mut [u8], end: usize, p: Point) -> usize
+    requires { ⌜ (length (pointText p) ≤ end) × (end ≤ length (now out)) ⌝ }
+    ensures { λ at. ⌜ Wrote (now (out .entry)) at (pointText p) (now (out .exit)) end ⌝ }
 {
-    let past_a = write_signed(out, at, p.a, TAB);
-    let past_b = write_signed(out, past_a, p.b, TAB);
-    write_number(out, past_b, p.m.0 as u32, TAB)
+    let past_b = number_back(out, end, p.m.0 as u32, TAB);
+    let past_a = signed_back(out, past_b, p.b, TAB);
+    signed_back(out, past_a, p.a, TAB)
 }
 
-// Writes the rest of a record's line at a position, and gives the position past it.
-fn write_star(out: &mut [u8], at: usize, d: u8, k: u8, n: u8) -> usize
-    requires { ⌜ at + length (starText d k n) ≤ length (now out) ⌝ }
-    ensures { λ r. ⌜ Wrote (now (out .entry)) at (starText d k n) (now (out .exit)) r ⌝ }
+// Writes the rest of a record's line before a position, and gives the position of its first field.
+fn star_back(out: &mut [u8], end: usize, d: u8, k: u8, n: u8) -> usize
+    requires { ⌜ (length (starText d k n) ≤ end) × (end ≤ length (now out)) ⌝ }
+    ensures { λ at. ⌜ Wrote (now (out .entry)) at (starText d k n) (now (out .exit)) end ⌝ }
 {
-    let past_d = write_number(out, at, d as u32, TAB);
-    let past_k = write_number(out, past_d, k as u32, TAB);
-    write_number(out, past_k, n as u32, FEED)
+    let past_k = number_back(out, end, n as u32, FEED);
+    let past_d = number_back(out, past_k, k as u32, TAB);
+    number_back(out, past_d, d as u32, TAB)
 }
 
-// Writes a record's line at a position, and gives the position past its line feed.
-pub fn write_line(out: &mut [u8], at: usize, r: Record) -> usize
-    requires { ⌜ at + length (lineOf r) ≤ length (now out) ⌝ }
-    ensures { λ e. ⌜ Wrote (now (out .entry)) at (lineOf r) (now (out .exit)) e ⌝ }
+// Writes a record's line, its line feed before a position, and gives the position where it begins: no width has to be known.
+pub fn write_line_back(out: &mut [u8], end: usize, r: Record) -> usize
+    requires { ⌜ (length (lineOf r) ≤ end) × (end ≤ length (now out)) ⌝ }
+    ensures { λ at. ⌜ Wrote (now (out .entry)) at (lineOf r) (now (out .exit)) end ⌝ }
 {
     let p = r.at;
-    let past_m = write_point(out, at, p);
-    write_star(out, past_m, r.d, r.k, r.n.0)
+    let past_m = star_back(out, end, r.d, r.k, r.n.0);
+    point_back(out, past_m, p)
 }

@@ -1,7 +1,7 @@
 -- The file depends on the set of records alone, not on where they stand in the table.
--- `sorted-rises` the records of a table rise strictly in their file, `sorted-holds`, `holds-sorted` and are the table's · `sorted-one` no other
--- list does so · `left-rises`, `left-holds`, `holds-left`,
--- `left-one` the same of those that a test leaves · `full-same`, `reduced-same` two tables that hold the same at every point have the same files.
+-- `sorted-rises` the records of a table rise strictly in their file, `sorted-holds`, `holds-sorted` and are the table's · `sorted-one` no other list
+-- does so · `left-rises`, `left-holds`, `holds-left`, `left-one` the same of those that a test leaves · `full-same`, `reduced-same` two tables that
+-- hold the same at every point have the same files.
 -- Assumes nothing.
 use mathlib.Core.Path.{_≡_, refl, sym, ap, _∙_}
 use mathlib.Core.Logic.{_⊎_, inl, inr}
@@ -19,10 +19,9 @@ use Rattle.table.specs.Order.{InOrder}
 use Rattle.table.specs.Entries.{lookUp, recordsOf}
 use Rattle.table.specs.MapLaws.{Apart, records-looked, looked-records, records-apart, lookup-valid}
 use Rattle.text.specs.Line.{lines}
-use Rattle.writers.specs.SortLaws.{mem-sort, sort-mem, Rising, Decides, sort-rising, rising-one}
+use Rattle.sorting.specs.SortLaws.{mem-sort, sort-mem, Rising, Decides, sort-rising, rising-one}
 use Rattle.writers.specs.Files.{before, sorted, fullFile, sixNames, redundant, leaveOut, reducedFile}
-use Rattle.writers.specs.LineOrder.{orderOf, Close, order-earlier, order-one}
-use Rattle.writers.specs.KeptLaws.{close}
+use Rattle.text.specs.LineOrder.{orderOf, Close, close, order-earlier, order-one}
 
 -- r's line stands before s's
 abbrev pub Before : Record → Record → Type 0

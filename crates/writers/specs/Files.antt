@@ -1,18 +1,15 @@
 -- Document 01, "Files": the full and the reduced file of a table, and what the writers do. What the promises cite: `writeFullOf`, `writeReducedOf`.
 -- `before` the order of lines, `sorted` records in it · `fullFile` · `redundant` the records that the reduced file leaves out, `reducedFile` ·
--- `Outcome`, `writeOf` a file
--- written, or refused.
+-- `Outcome`, `writeOf` a file written, or refused.
 -- Assumes nothing.
 use mathlib.Core.Bool.{Bool, cond, _&&_, _||_}
 use mathlib.Core.List.{List, [], _∷_, _++_}
 use Prim.Native.Nat.{ℕ}
 use lib.Dec.{eqb, ltb}
 use lib.ListN.{length, drop}
-use lib.Signed.{ltZ}
 use Rattle.laws.specs.Choices.{unless}
-use Rattle.laws.specs.Rules.{eqZ, among}
+use Rattle.laws.specs.Rules.{among}
 use Rattle.laws.specs.Some.{someOf}
-use Rattle.writers.specs.Sorting.{sortBy}
 use Rattle.lattice.specs.Stars.{adjacentAt}
 use Rattle.lattice.specs.declared.points.Point.{Point}
 use Rattle.lattice.specs.declared.records.Record.{Record}
@@ -20,11 +17,10 @@ use Rattle.table.specs.Search.{samePoint}
 use Rattle.table.specs.Order.{inOrderOf}
 use Rattle.table.specs.Entries.{recordsOf}
 use Rattle.text.specs.Line.{lines}
+use Rattle.text.specs.LineOrder.{earlier}
+use Rattle.sorting.specs.Sorting.{sortBy}
 
--- "Lines rise strictly by m, then a, then b.": p is the point of an earlier line than q
-unfoldable pub earlier : Point → Point → Bool
-earlier p q = ltb (p .m .0) (q .m .0) || (eqb (p .m .0) (q .m .0) && (ltZ (p .a) (q .a) || (eqZ (p .a) (q .a) && ltZ (p .b) (q .b))))
-
+-- "Lines rise strictly by m, then a, then b."
 abbrev pub before : Record → Record → Bool
 before r s = earlier (r .at) (s .at)
 

@@ -1,10 +1,11 @@
 -- What the code writes of a table, slot by slot: the records that are not marked to be left out, and their keys.
--- `keptAt` what is written of a slot · `standing`, `keysBelow` the records and the keys of the first slots · `recordOf` the record of a key.
+-- `keptAt` what is written of a slot · `keyOf` the key of a record · `standing`, `keysBelow` the records and the keys of the first slots · `recordOf`
+-- the record of a key.
 -- Assumes nothing.
 use mathlib.Core.Path.{_≡_}
 use mathlib.Core.Bool.{Bool, cond, _&&_}
 use mathlib.Core.List.{List, [], _∷_, _++_}
-use Prim.Native.Nat.{ℕ, zero, suc, _+_, _%_}
+use Prim.Native.Nat.{ℕ, zero, suc, _+_, _*_, _%_}
 use lib.Dec.{eqb}
 use lib.IntN.{pos}
 use Rattle.lattice.specs.Points.{pt}
@@ -14,8 +15,17 @@ use Rattle.table.specs.Entries.{listed}
 use Rattle.table.specs.declared.slots.Slot.{Slot}
 use Rattle.table.specs.declared.slots.Slot.the-variants.{Free, Holds}
 use Rattle.marks.specs.Marks.{markedAt}
-use Rattle.writers.specs.Keys.{places, Put}
-use Rattle.writers.specs.LineOrder.{keyOf}
+use Rattle.text.specs.LineOrder.{orderOf}
+use Rattle.sorting.specs.Keys.{Put}
+
+-- the slots of the greatest table: there are no more keys
+abbrev pub places : ℕ
+places = 65536
+
+-- the key of record r in slot i
+unfoldable pub keyOf : Record → ℕ → ℕ
+unfolding orderOf
+keyOf r i = orderOf (r .at) * places + i
 
 -- the bytes of a mark for each slot
 abbrev pub markBytes : ℕ

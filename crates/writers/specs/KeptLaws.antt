@@ -1,9 +1,7 @@
 -- The records that are kept, their keys, and what sorting the keys does to the records.
--- `standing-more`, `keys-none`, `keys-more` slot by slot · `keys-length`, `keys-grow` · `keys-sorted` the records of the sorted keys are the
--- records in file order ·
--- `keys-inside` a key's slot is in the table · `lines-sorted` as many bytes in any order · `Filled` the keys in the output: `filled-none`,
--- `filled-more` · `kept-part`, `kept-valid`,
--- `kept-close` what is kept stands in the table and is valid.
+-- `standing-more`, `keys-none`, `keys-more` slot by slot · `keys-length`, `keys-grow` · `keys-sorted` the records of the sorted keys are the records in
+-- file order · `keys-inside` a key's slot is in the table · `lines-sorted` as many bytes in any order · `Filled` the keys in the output: `filled-none`,
+-- `filled-more` · `kept-part`, `kept-valid`, `kept-close` what is kept stands in the table and is valid.
 -- Assumes nothing.
 use mathlib.Core.Path.{_≡_, refl, sym, ap, _∙_, subst}
 use mathlib.Core.Logic.{_⊎_, inl, inr}
@@ -25,15 +23,14 @@ use Rattle.table.specs.declared.slots.Slot.{Slot}
 use Rattle.table.specs.declared.slots.Slot.the-variants.{Free, Holds}
 use Rattle.text.specs.Line.{lineOf, lines}
 use Rattle.text.specs.LineLaws.{lines-join}
-use Rattle.text.specs.Near.{valid-near}
+use Rattle.text.specs.LineOrder.{orderOf, Close, close, order-earlier, order-one}
 use Rattle.marks.specs.Marks.{markedAt}
-use Rattle.writers.specs.Sorting.{insertBy, sortBy}
-use Rattle.writers.specs.SortLaws.{sort-map}
+use Rattle.sorting.specs.Sorting.{insertBy, sortBy, keyWidth, keyIn}
+use Rattle.sorting.specs.SortLaws.{sort-map}
+use Rattle.sorting.specs.Tally.{nth}
+use Rattle.sorting.specs.Keys.{Put}
 use Rattle.writers.specs.Files.{before, sorted}
-use Rattle.writers.specs.Tally.{nth}
-use Rattle.writers.specs.Keys.{places, keyWidth, keyIn, Put}
-use Rattle.writers.specs.LineOrder.{orderOf, keyOf, Close, order-earlier, order-one}
-use Rattle.writers.specs.Kept.{keptOf, keptAt, standing, keyed, keysBelow, recordIn, recordOf, Added}
+use Rattle.writers.specs.Kept.{places, keyOf, keptOf, keptAt, standing, keyed, keysBelow, recordIn, recordOf, Added}
 
 -- ---- slot by slot
 
@@ -72,20 +69,6 @@ keys-grow f i (suc n) h = go (decLe i n) (λ l. keys-grow f i n l)
     go (yes l) ih = let a = ih l in omega (arith, length-append (keysBelow f n) (keyed n (f n)))
     go (no l) ih = let e : i ≡ suc n = omega arith in subst (λ (k : ℕ). length (keysBelow f k) ≤ length (keysBelow f (suc n))) (sym e) (omega arith)
 
--- how many slots are kept is at most how many there are
-pub keys-few : (f : ℕ → Slot) (n : ℕ) → length (keysBelow f n) ≤ n
-unfolding keysBelow
-keys-few f zero = omega arith
-keys-few f (suc n) =
-    let a = keys-few f n in
-    let b = length-append (keysBelow f n) (keyed n (f n)) in
-    let c = one (f n) in
-    omega arith
-  where
-    one : (s : Slot) → length (keyed n s) ≤ 1
-    one Free = omega arith
-    one (Holds r) = omega arith
-
 -- a key, and the slot that it comes from
 pub record Comes (f : ℕ → Slot) (n v : ℕ) : Type 0 where
   pub slot : ℕ
@@ -108,9 +91,6 @@ keys-come f (suc n) v m = go (f n) refl (List·Memᴰ·append-cases (keysBelow f
 key-slot : (r : Record) (i : ℕ) → i < places → keyOf r i % places ≡ i
 unfolding keyOf
 key-slot r i h = omega arith
-
-pub close : (r : Record) → validOf r ≡ true → Close (r .at)
-close r v = let n = valid-near r v in record { a = n .a; b = n .b; m = n .m }
 
 -- ---- of a table in order, where f keeps some of its slots
 
@@ -141,16 +121,16 @@ module _ (t : List ℕ) (o : InOrder t) (f : ℕ → Slot) (part : (i : ℕ) (r 
       one Free e = refl
       one (Holds r) e = λ i. (ap (λ (x : ℕ). recordIn (slotAt t x)) (key-slot r k (few k (omega arith))) ∙ ap recordIn (part k r e)) i ∷ []
 
-  key-order : (r s : Record) (i j : ℕ) → i < places → j < places → (orderOf (r .at) ≡ orderOf (s .at) → i ≡ j) → ltb (keyOf r i) (keyOf s j)
-      ≡ ltb (orderOf (r .at)) (orderOf (s .at))
+  key-order : (r s : Record) (i j : ℕ) → i < places → j < places → (orderOf (r .at) ≡ orderOf (s .at) → i ≡ j)
+      → ltb (keyOf r i) (keyOf s j) ≡ ltb (orderOf (r .at)) (orderOf (s .at))
   unfolding keyOf
   key-order r s i j hi hj one = go (decLt (orderOf (r .at)) (orderOf (s .at))) (decLt (orderOf (s .at)) (orderOf (r .at)))
     where
       go : Dec (orderOf (r .at) < orderOf (s .at)) → Dec (orderOf (s .at) < orderOf (r .at))
           → ltb (orderOf (r .at) * places + i) (orderOf (s .at) * places + j) ≡ ltb (orderOf (r .at)) (orderOf (s .at))
       go (yes l) m = lt-ltb (orderOf (r .at) * places + i) (orderOf (s .at) * places + j) (omega arith) ∙ sym (lt-ltb (orderOf (r .at)) (orderOf (s .at)) l)
-      go (no l) (yes m) = le-ltb (orderOf (r .at) * places + i) (orderOf (s .at) * places + j) (omega arith)
-          ∙ sym (le-ltb (orderOf (r .at)) (orderOf (s .at)) (omega arith))
+      go (no l) (yes m) =
+          le-ltb (orderOf (r .at) * places + i) (orderOf (s .at) * places + j) (omega arith) ∙ sym (le-ltb (orderOf (r .at)) (orderOf (s .at)) (omega arith))
       go (no l) (no m) =
           let e : orderOf (r .at) ≡ orderOf (s .at) = omega arith in
           let q = one e in
@@ -281,7 +261,8 @@ written-none s e = ap (λ (x : Slot). length (lines (listed x))) (sym e)
 
 pub written-one : (s : Slot) (r : Record) → s ≡ Holds r → length (lineOf r) ≡ length (lines (listed s))
 unfolding lines
-written-one s r e = let a = length-append (lineOf r) [] in let b : length (lineOf r) ≡ length (lineOf r ++ []) = omega arith in b
+written-one s r e =
+    let a = length-append (lineOf r) [] in let b : length (lineOf r) ≡ length (lineOf r ++ []) = omega arith in b
     ∙ ap (λ (x : Slot). length (lines (listed x))) (sym e)
 
 pub standing-start : (f : ℕ → Slot) → 0 ≡ length (lines (standing f 0))
@@ -289,7 +270,8 @@ unfolding standing lines
 standing-start f = refl
 
 pub standing-length : (f : ℕ → Slot) (i : ℕ) → length (lines (standing f (i + 1))) ≡ length (lines (standing f i)) + length (lines (listed (f i)))
-standing-length f i = ap (λ (x : List Record). length (lines x)) (standing-more f i) ∙ ap length (lines-join (standing f i) (listed (f i)))
+standing-length f i =
+    ap (λ (x : List Record). length (lines x)) (standing-more f i) ∙ ap length (lines-join (standing f i) (listed (f i)))
     ∙ length-append (lines (standing f i)) (lines (listed (f i)))
 
 pub keys-room : (f : ℕ → Slot) (i n : ℕ) → i < n → length (keysBelow f i) + length (keyed i (f i)) ≤ length (keysBelow f n)

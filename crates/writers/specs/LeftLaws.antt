@@ -1,18 +1,16 @@
--- Lines written from the last back, while the keys of those still to come stand as a heap at the output's beginning.
--- `fileOf` the file of what is kept · `Ready` the keys stand there, no line does · `Left` k keys are left, the lines of the others stand from `at`
--- on: `left-start`, `left-top` the
--- next key is the greatest left, `left-step`, `left-end`.
+-- Lines written from the last back, while the keys of those still to come stand sorted at the output's beginning.
+-- `fileOf` the file of what is kept · `Ready` the keys stand there, no line does · `Left` k keys are left, the lines of the others stand from `at` on:
+-- `left-start`, `left-top` the next key is the last of those left, `left-step`, `left-end`.
 -- Assumes nothing.
 use mathlib.Core.Path.{_≡_, sym, ap, _∙_, subst}
 use mathlib.Core.Bool.{Bool, cond}
 use mathlib.Core.List.{List, [], _∷_, _++_, map, map-append, append-assoc}
-use Prim.Native.Nat.{ℕ, suc, _+_, _*_, _-_, _%_, _≤_, _<_}
+use Prim.Native.Nat.{ℕ, suc, _+_, _*_, _%_, _≤_, _<_}
 use native.Mathlib.Omega.{arith}
-use native.Mathlib.Decide.{decLt}
-use borrow.Author.Tests.{ltb-true, ltb-false, lt-ltb, le-ltb}
-use lib.Dec.{eqb, ltb}
+use borrow.Author.Tests.{lt-ltb, le-ltb}
+use lib.Dec.{ltb}
 use lib.ListN.{length, take, drop, length-append, length-map}
-use lib.Seq.{sets, sets-eq, drop-at, drop-drop, drop-cons, drop-length, take-suc, take-length, length-take-le, length-sets}
+use lib.Seq.{sets, sets-eq, drop-at, drop-cons, drop-length, take-suc, take-length, length-take-le, length-sets, ext-getD}
 use Rattle.laws.specs.Stores.{Wrote}
 use Rattle.lattice.specs.declared.records.Record.{Record}
 use Rattle.table.specs.Slots.{slotWidth, slotsOf}
@@ -20,14 +18,14 @@ use Rattle.table.specs.Order.{InOrder}
 use Rattle.text.specs.Line.{lineOf, lines}
 use Rattle.text.specs.LineLaws.{lines-join}
 use Rattle.text.specs.LineLengths.{shortest, lines-least}
-use Rattle.writers.specs.Sorting.{sortBy}
-use Rattle.writers.specs.SortLaws.{sort-length, mem-sort, Rising, rising-at, Decides, sort-rising, at-mem}
+use Rattle.sorting.specs.Sorting.{sortBy, keyWidth, keyIn, keysIn, Sorts}
+use Rattle.sorting.specs.SortLaws.{sort-length, mem-sort, at-mem}
+use Rattle.sorting.specs.Tally.{nth}
+use Rattle.sorting.specs.Keys.{key-before}
+use Rattle.sorting.specs.KeyLaws.{firsts-length, firsts-at}
 use Rattle.writers.specs.Files.{before, sorted, outcome, putOf}
-use Rattle.writers.specs.Tally.{bit, tally, tally-more, tally-same, tally-last, tally-sort, nth}
-use Rattle.writers.specs.Heaps.{Heap, heap-top, heap-same}
-use Rattle.writers.specs.Keys.{places, keyWidth, keyIn, key-before, Popped, Sifted}
-use Rattle.writers.specs.Kept.{keptAt, standing, keysBelow, recordOf}
-use Rattle.writers.specs.KeptLaws.{keys-sorted, keys-inside, keys-few, keys-length, lines-sorted, kept-part, Filled}
+use Rattle.writers.specs.Kept.{places, keptAt, standing, keysBelow, recordOf}
+use Rattle.writers.specs.KeptLaws.{keys-sorted, keys-inside, keys-length, lines-sorted, kept-part, Filled}
 
 -- the file of the records that are not marked
 abbrev pub fileOf : List ℕ → List ℕ → List ℕ
@@ -41,9 +39,7 @@ abbrev pub ordered : List ℕ → List ℕ → List ℕ
 ordered t m = sortBy ltb (keysOf t m)
 
 pub record Ready (t m o : List ℕ) (k total : ℕ) : Type 0 where
-  pub count : k ≡ length (keysOf t m)
-  pub same : (v : ℕ) → tally (keyIn o) k v ≡ tally (nth (keysOf t m)) k v
-  pub heap : Heap (keyIn o) 0 k
+  pub keys : keysIn o k ≡ ordered t m
   pub long : total ≡ length (fileOf t m)
   pub room : total ≤ length o
 
@@ -56,15 +52,7 @@ pub record Left (t K rest o : List ℕ) (k at : ℕ) : Type 0 where
   pub place : at ≡ length (linesOf t (take k K))
   pub done : drop at o ≡ linesOf t (drop k K) ++ rest
   pub room : at ≤ length o
-  pub same : (v : ℕ) → tally (keyIn o) k v ≡ tally (nth K) k v
-  pub heap : Heap (keyIn o) 0 k
-
-decided : (xs : List ℕ) → Rising (Decides ltb (λ x y. x ≤ y)) xs
-decided [] = tt
-decided (x ∷ xs) = (λ y m. (λ e. let l = ltb-true x y e in omega arith, λ e. ltb-false x y e), decided xs)
-
-pub ordered-rising : (t m : List ℕ) → Rising (λ x y. x ≤ y) (ordered t m)
-ordered-rising t m = sort-rising ltb (λ x y. x ≤ y) (λ x y z p q. omega arith) (keysOf t m) (decided (keysOf t m))
+  pub keys : (i : ℕ) → i < k → keyIn o i ≡ nth K i
 
 module _ (t : List ℕ) (in-order : InOrder t) (m : List ℕ) where
   pub ordered-file : linesOf t (ordered t m) ≡ fileOf t m
@@ -78,7 +66,7 @@ module _ (t : List ℕ) (in-order : InOrder t) (m : List ℕ) where
   pub left-start : (o : List ℕ) (k total : ℕ) → Ready t m o k total → Left t (ordered t m) (drop total o) o k total
   unfolding lines
   left-start o k total r =
-      let e : k ≡ length (ordered t m) = r .count ∙ sym (sort-length ltb (keysOf t m)) in
+      let e : k ≡ length (ordered t m) = sym (firsts-length (keyIn o) k) ∙ ap length (r .keys) in
       let a : take k (ordered t m) ≡ ordered t m = ap (λ (n : ℕ). take n (ordered t m)) e ∙ take-length (ordered t m) in
       let b : drop k (ordered t m) ≡ [] = ap (λ (n : ℕ). drop n (ordered t m)) e ∙ drop-length (ordered t m) in
       record {
@@ -86,23 +74,18 @@ module _ (t : List ℕ) (in-order : InOrder t) (m : List ℕ) where
         place = r .long ∙ ap length (sym ordered-file) ∙ ap (λ (l : List ℕ). length (linesOf t l)) (sym a);
         done = ap (λ (l : List ℕ). linesOf t l ++ drop total o) (sym b);
         room = r .room;
-        same = λ v. r .same v ∙ ap (λ (n : ℕ). tally (nth (keysOf t m)) n v) (r .count) ∙ sym (tally-sort ltb (keysOf t m) v)
-            ∙ ap (λ (n : ℕ). tally (nth (ordered t m)) n v) (sym (r .count));
-        heap = r .heap;
+        keys = λ i h. sym (firsts-at (keyIn o) k i h) ∙ ap (λ (l : List ℕ). nth l i) (r .keys);
       }
 
 drop-stored : (o : List ℕ) (at : ℕ) (xs : List ℕ) → at + length xs ≤ length o → drop at (sets o at xs) ≡ xs ++ drop (at + length xs) o
-drop-stored o at xs h = ap (drop at) (sets-eq xs o at h ∙ append-assoc (take at o) xs (drop (at + length xs) o))
+drop-stored o at xs h =
+    ap (drop at) (sets-eq xs o at h ∙ append-assoc (take at o) xs (drop (at + length xs) o))
     ∙ drop-at (take at o) (xs ++ drop (at + length xs) o) at (length-take-le at o (omega arith))
 
-module _ (t K rest o : List ℕ) (k at : ℕ) (rises : Rising (λ x y. x ≤ y) K) (l : Left t K rest o (k + 1) at) where
-  -- the key on top is the last of those left
-  pub left-top : keyIn o 0 ≡ nth K k
-  left-top = tally-last (keyIn o) (nth K) (k + 1) 0 k (l .same) (omega arith) (omega arith) (heap-top (keyIn o) (k + 1) (l .heap)) (λ i h. go i h (decLt i k))
-    where
-      go : (i : ℕ) → i < k + 1 → Dec (i < k) → nth K i ≤ nth K k
-      go i h (yes p) = rising-at (λ x y. x ≤ y) 0 K i k rises p (omega (arith, l .count))
-      go i h (no p) = let e : i ≡ k = omega arith in let q : nth K i ≡ nth K k = ap (nth K) e in omega arith
+module _ (t K rest o : List ℕ) (k at : ℕ) (l : Left t K rest o (k + 1) at) where
+  -- the next key is the last of those left
+  pub left-top : keyIn o k ≡ nth K k
+  left-top = l .keys k (omega arith)
 
   abbrev top : Record
   top = recordOf t (nth K k)
@@ -137,45 +120,24 @@ module _ (t K rest o : List ℕ) (k at : ℕ) (rises : Rising (λ x y. x ≤ y) 
       let c = length-take-le j K h in
       omega arith
 
-  pub left-step : (o₁ o₂ : List ℕ) (at′ past : ℕ) → Popped o k o₁ → at ≡ at′ + length (lineOf top) → Wrote o₁ at′ (lineOf top) o₂ past → Left t K rest o₂ k at′
-  left-step o₁ o₂ at′ past p e w =
+  pub left-step : (o′ : List ℕ) (at′ past : ℕ) → at ≡ at′ + length (lineOf top) → Wrote o at′ (lineOf top) o′ past → Left t K rest o′ k at′
+  left-step o′ at′ past e w =
       let c = l .count in
       let s = left-place in
       let f = keys-end k (omega arith) in
-      let kept : (i : ℕ) → i < k → keyIn o₂ i ≡ keyIn o₁ i = λ i h. ap (λ (x : List ℕ). keyIn x i) (w .bytes)
-      ∙ key-before (lineOf top) o₁ at′ i (omega arith) in
-      let long₁ = p .long in
-      let room₁ = l .room in
+      let room = l .room in
       record {
         count = omega arith;
         place = omega arith;
-        done = done;
-        room = let x : length o₂ ≡ length o₁ = ap length (w .bytes) ∙ length-sets o₁ at′ (lineOf top) in omega arith;
-        same = λ v.
-            let a = tally-same (keyIn o₁) (keyIn o₂) k v kept in
-            let b = p .less v in
-            let d = l .same v in
-            let g = tally-more (nth K) k v in
-            let h : bit (eqb (keyIn o 0) v) ≡ bit (eqb (nth K k) v) = ap (λ (x : ℕ). bit (eqb x v)) left-top in
-            omega arith;
-        heap = heap-same (keyIn o₁) (keyIn o₂) 0 k kept (p .heap);
+        done =
+            ap (drop at′) (w .bytes) ∙ drop-stored o at′ (lineOf top) (omega arith)
+            ∙ ap (λ (n : ℕ). lineOf top ++ drop n o) (sym e) ∙ ap (λ (x : List ℕ). lineOf top ++ x) (l .done)
+            ∙ sym (append-assoc (lineOf top) (linesOf t (drop (k + 1) K)) rest) ∙ ap (λ (x : List ℕ). x ++ rest) (sym behind);
+        room = let x : length o′ ≡ length o = ap length (w .bytes) ∙ length-sets o at′ (lineOf top) in omega arith;
+        keys = λ i h.
+            ap (λ (x : List ℕ). keyIn x i) (w .bytes) ∙ key-before (lineOf top) o at′ i (omega arith)
+            ∙ l .keys i (omega arith);
       }
-    where
-      kept-past : drop at o₁ ≡ drop at o
-      kept-past =
-          let f = keys-end (k + 1) (l .count) in
-          let q = l .place in
-          let d = keyWidth * (k + 1) in
-          let x : at ≡ d + (at - d) = omega arith in
-          ap (λ (n : ℕ). drop n o₁) x ∙ sym (drop-drop (at - d) d o₁) ∙ ap (drop (at - d)) (p .past) ∙ drop-drop (at - d) d o ∙ ap (λ (n : ℕ). drop n o) (sym x)
-
-      done : drop at′ o₂ ≡ linesOf t (drop k K) ++ rest
-      done =
-          let long₁ = p .long in
-          let room₁ = l .room in
-          ap (drop at′) (w .bytes) ∙ drop-stored o₁ at′ (lineOf top) (omega arith)
-          ∙ ap (λ (n : ℕ). lineOf top ++ drop n o₁) (sym e) ∙ ap (λ (x : List ℕ). lineOf top ++ x) (kept-past ∙ l .done)
-          ∙ sym (append-assoc (lineOf top) (linesOf t (drop (k + 1) K)) rest) ∙ ap (λ (x : List ℕ). x ++ rest) (sym behind)
 
 pub left-end : (t K rest o : List ℕ) (at : ℕ) → Left t K rest o 0 at → o ≡ linesOf t K ++ rest
 unfolding lines
@@ -188,9 +150,6 @@ left-room t K rest o k at l =
     let b = length-map (take k K) (recordOf t) in
     let c = length-take-le k K (l .count) in
     omega (arith, l .place)
-
-pub ordered-few : (t : List ℕ) → InOrder t → (m : List ℕ) → length (ordered t m) ≤ places
-ordered-few t o m = omega (arith, sort-length ltb (keysOf t m), keys-few (keptAt t m) (slotsOf t), o .fits .most)
 
 -- ---- the whole call
 
@@ -213,7 +172,8 @@ keys-all t m n e = subst (λ (x : ℕ). shortest * length (keysBelow (keptAt t m
 module _ (t m o : List ℕ) (total : ℕ) (long : total ≡ length (fileOf t m)) where
   pub put-short : length o < total → outcome 13 0 o ≡ putOf (fileOf t m) o
   unfolding putOf
-  put-short h = ap (λ (b : Bool). cond b (outcome 13 0 o) (outcome 0 (length (fileOf t m)) (fileOf t m ++ drop (length (fileOf t m)) o)))
+  put-short h =
+      ap (λ (b : Bool). cond b (outcome 13 0 o) (outcome 0 (length (fileOf t m)) (fileOf t m ++ drop (length (fileOf t m)) o)))
       (sym (lt-ltb (length o) (length (fileOf t m)) (omega arith)))
 
   pub put-done : (o′ : List ℕ) → total ≤ length o → o′ ≡ fileOf t m ++ drop total o → outcome 0 total o′ ≡ putOf (fileOf t m) o
@@ -223,21 +183,18 @@ module _ (t m o : List ℕ) (total : ℕ) (long : total ≡ length (fileOf t m))
       ∙ ap (λ (b : Bool). cond b (outcome 13 0 o) (outcome 0 (length (fileOf t m)) (fileOf t m ++ drop (length (fileOf t m)) o)))
       (sym (le-ltb (length o) (length (fileOf t m)) (omega arith)))
 
-  module _ (o₁ o₂ : List ℕ) (k : ℕ) (room : total ≤ length o) (f : Filled o (keysOf t m) o₁ k) (s : Sifted o₁ 0 k o₂) where
+  module _ (o₁ o₂ : List ℕ) (k : ℕ) (room : total ≤ length o) (f : Filled o (keysOf t m) o₁ k) (s : Sorts o₁ k o₂) where
+    filled-keys : keysIn o₁ k ≡ keysOf t m
+    filled-keys =
+        let n = firsts-length (keyIn o₁) k in
+        ext-getD 0 (keysIn o₁ k) (keysOf t m) (n ∙ f .count)
+        (λ i l. let h : i < k = omega arith in firsts-at (keyIn o₁) k i h ∙ f .keys i (omega (arith, f .count)))
+
     pub ready : Ready t m o₂ k total
-    ready = record {
-      count = f .count;
-      same = λ v. s .same v ∙ tally-same (nth (keysOf t m)) (keyIn o₁) k v (λ i l. f .keys i (omega (arith, f .count)));
-      heap = s .heap;
-      long = long;
-      room = omega (arith, s .long, f .long);
-    }
+    ready = record { keys = s .keys ∙ ap (sortBy ltb) filled-keys; long = long; room = omega (arith, s .long, f .long) }
 
     pub ready-past : drop total o₂ ≡ drop total o
     ready-past =
         let a = keys-fit t m in
         let c = f .count in
-        let d = keyWidth * k in
-        let x : total ≡ d + (total - d) = omega arith in
-        ap (λ (n : ℕ). drop n o₂) x ∙ sym (drop-drop (total - d) d o₂) ∙ ap (drop (total - d)) (s .past) ∙ drop-drop (total - d) d o₁
-        ∙ ap (λ (n : ℕ). drop n o₁) (sym x) ∙ f .past total (omega arith)
+        s .past total (omega arith) ∙ f .past total (omega arith)

@@ -51,8 +51,8 @@ unfolding leaveOut
 leave-append f [] qs = refl
 leave-append f (r ∷ rs) qs = go (f r) (leave-append f rs qs)
   where
-    go : (b : Bool) → leaveOut f (rs ++ qs) ≡ leaveOut f rs ++ leaveOut f qs → cond b (leaveOut f (rs ++ qs)) (r ∷ leaveOut f (rs ++ qs))
-        ≡ cond b (leaveOut f rs) (r ∷ leaveOut f rs) ++ leaveOut f qs
+    go : (b : Bool) → leaveOut f (rs ++ qs) ≡ leaveOut f rs ++ leaveOut f qs
+        → cond b (leaveOut f (rs ++ qs)) (r ∷ leaveOut f (rs ++ qs)) ≡ cond b (leaveOut f rs) (r ∷ leaveOut f rs) ++ leaveOut f qs
     go true e = e
     go false e = ap (λ (l : List Record). r ∷ l) e
 
@@ -79,9 +79,8 @@ module _ (t : List ℕ) (o : InOrder t) (k : ℕ) (in-table : k < slotsOf t) (r 
   slot-names : (s : Slot) → slotFinds t s k ≡ someOf (sixNames (r .at)) (listed s)
   slot-names Free = refl
   slot-names (Holds v) =
-      ap (λ (b : Bool). eqb (v .d) 6 && b)
-      (among-same 6 (λ j. isAt (findOf t (adjacentAt v j)) k) (λ j. samePoint (adjacentAt v j) (r .at)) (λ j. found-same (adjacentAt v j)))
-      ∙ or-none (sixNames (r .at) v)
+      ap (λ (b : Bool). eqb (v .d) 6 && b) (among-same 6 (λ j. isAt (findOf t (adjacentAt v j)) k) (λ j. samePoint (adjacentAt v j) (r .at))
+      (λ j. found-same (adjacentAt v j))) ∙ or-none (sixNames (r .at) v)
     where
       or-none : (b : Bool) → b ≡ b || false
       or-none true = refl

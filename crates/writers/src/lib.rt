@@ -1,7 +1,7 @@
 // The files of a table: document 01, "Files", written into lent bytes.
 //
 // Two public calls answer every table and output: `write_full` and `write_reduced`. kept.rt goes through the slots, named.rt says which records
-// are left out, keys.rt sorts, lines.rt writes. The promises cite specs/Files.
+// are left out, keys.rt has what they are sorted by, lines.rt writes. The promises cite specs/Files.
 ghost use mathlib.Core.Path.{_≡_};
 ghost use Rattle.table.specs.Order.{InOrder};
 ghost use Rattle.table.specs.Slots.{slotsOf};
@@ -10,19 +10,18 @@ ghost use Rattle.writers.specs.LeftLaws.{fileOf};
 
 mod kept;
 mod keys;
-mod line_order;
 mod lines;
 mod named;
 
 use crate::kept::file_length;
 use crate::kept::put_keys;
-use crate::keys::make_heap;
 use crate::lines::write_lines;
 use crate::named::MARK_BYTES;
 use crate::named::mark_all;
 use lattice::DONE;
 use lattice::NOT_IN_ORDER;
 use lattice::SHORT;
+use sorting::sort;
 use table::in_order;
 use table::slots_of;
 
@@ -48,7 +47,7 @@ fn write_kept(table: &[u8], marks: &[u8; MARK_BYTES], n: usize, out: &mut [u8]) 
         return answer(SHORT, 0);
     }
     let k = put_keys(table, marks, n, out);
-    make_heap(out, k);
+    sort(out, k);
     write_lines(table, out, k, total);
     answer(DONE, total as u64)
 }

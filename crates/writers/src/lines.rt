@@ -1,24 +1,21 @@
-// The lines of a file, from the last back: each key is taken off the heap at the output's beginning, and its line written at the end, which never
-// meets the keys.
+// The lines of a file, from the last back: the keys stand sorted at the output's beginning, and the lines, written at the end, never meet those left.
 ghost use mathlib.Core.Path.{_≡_};
 ghost use mathlib.Core.List.{List, _++_};
 ghost use Prim.Native.Nat.{ℕ, _+_, _*_, _%_, _≤_};
 ghost use lib.ListN.{length, drop};
 ghost use Rattle.table.specs.Slots.{slotWidth};
 ghost use Rattle.table.specs.Order.{InOrder};
-ghost use Rattle.writers.specs.Keys.{places};
-ghost use Rattle.writers.specs.Kept.{recordOf};
+ghost use Rattle.writers.specs.Kept.{places, recordOf};
 ghost use Rattle.writers.specs.LeftLaws.{Ready, fileOf};
-use crate::keys::pop;
-use crate::line_order::PLACES;
+use crate::keys::PLACES;
 use lattice::Depth;
 use lattice::Level;
 use lattice::Point;
 use lattice::Record;
+use sorting::key;
 use table::Slot;
 use table::read_slot;
-use text::line_length;
-use text::write_line;
+use text::write_line_back;
 
 // The record of a key.
 fn record_of(table: &[u8], v: u64) -> Record
@@ -41,7 +38,7 @@ fn record_of(table: &[u8], v: u64) -> Record
     }
 }
 
-// Writes the lines of k keys, which are a heap, whatever marks m left them; total is how long the lines are.
+// Writes the lines of k keys, which are sorted, whatever marks m left them; total is how long the lines are.
 pub fn write_lines(table: &[u8], out: &mut [u8], k: usize, total: usize)
     requires { ⌜ InOrder (now table) × ((m : List ℕ) × Ready (now table) m (now out) k total) ⌝ }
     ensures { λ _. ⌜ ((m : List ℕ) → Ready (now (table .entry)) m (now (out .entry)) k total → now (out .exit)
@@ -51,8 +48,7 @@ pub fn write_lines(table: &[u8], out: &mut [u8], k: usize, total: usize)
     let mut at = total;
     while 0 < left {
         left -= 1;
-        let r = record_of(table, pop(out, left));
-        at -= line_length(r);
-        write_line(out, at, r);
+        let r = record_of(table, key(out, left));
+        at = write_line_back(out, at, r);
     }
 }

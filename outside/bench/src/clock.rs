@@ -1,6 +1,7 @@
 //! Timing by turns: the library, plain Rust and, where there is one, a third; the least of the rounds, which other work on the machine
 //! disturbs least.
 
+use crate::bars::{bar, Over};
 use std::time::{Duration, Instant};
 
 pub struct Task {
@@ -10,7 +11,8 @@ pub struct Task {
 }
 
 pub struct Bench {
-    rounds: usize,
+    pub rounds: usize,
+    pub over: Over,
     lines: Vec<String>,
 }
 
@@ -28,7 +30,7 @@ pub fn least(rounds: usize, task: Timed) -> Duration {
 
 impl Bench {
     pub fn new(rounds: usize) -> Bench {
-        Bench { rounds, lines: Vec::new() }
+        Bench { rounds, over: Over::default(), lines: Vec::new() }
     }
 
     pub fn run(&mut self, task: Task, library: Timed, plain: Timed, third: Option<Timed>) {
@@ -45,7 +47,12 @@ impl Bench {
         let per_unit = |times: Vec<Duration>| times.into_iter().min().expect("a round").as_nanos() as f64 / task.units as f64;
         let has_third = !third.is_empty();
         let (library, plain) = (per_unit(library), per_unit(plain));
-        let mut line = format!("  {:36} {library:>11.1} {plain:>11.1} {:>6.2}", task.name, library / plain);
+        let ratio = library / plain;
+        let (most, mark) = match bar(task.name) {
+            Some(bar) => (format!("{bar:.2}"), self.over.most(task.name, ratio, bar)),
+            None => (String::new(), ""),
+        };
+        let mut line = format!("  {:36} {library:>11.1} {plain:>11.1} {ratio:>6.2} {most:>5} {mark:4}", task.name);
         if has_third {
             let third = per_unit(third);
             line += &format!(" {third:>11.1} {:>6.2}", library / third);
@@ -57,8 +64,8 @@ impl Bench {
 
     pub fn print(&self) {
         println!(
-            "least of {} rounds\n  {:36} {:>11} {:>11} {:>6} {:>11} {:>6}",
-            self.rounds, "", "library", "plain Rust", "ratio", "HashMap", "ratio"
+            "least of {} rounds\n  {:36} {:>11} {:>11} {:>6} {:>5} {:4} {:>11} {:>6}",
+            self.rounds, "", "library", "plain Rust", "ratio", "bar", "", "HashMap", "ratio"
         );
         self.lines.iter().for_each(|line| println!("{line}"));
     }

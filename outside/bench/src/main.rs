@@ -1,13 +1,16 @@
 //! The library beside plain Rust, each task timed by turns in one run; the least of several rounds, per unit, and the ratio.
 //!
-//! usage: bench [ROUNDS]. `sheets` makes the meshes; `clock` times and prints; `lookups` is the library's search, which no call of the C
-//! interface makes alone. The plain Rust is the crate `plain`: the same flat table,
-//! a constant table of stars, sort_unstable, the local check; for searches and subdivision also the same algorithm on std's HashMap.
+//! usage: bench [ROUNDS] [--bars] [--openmesh READ WRITTEN], the nanoseconds that OpenMesh took; or bench --sheet FILE.off, the sheet for it.
+//! `sheets` makes the meshes; `clock` times and prints; `bars` has the most that a ratio may be; `lookups` is the library's search, which
+//! no call of the C interface makes alone. The plain Rust is the crate `plain`: the same flat table, a constant table of stars,
+//! sort_unstable, the local check; for searches and subdivision also the same algorithm on std's HashMap.
 
+mod bars;
 mod clock;
 mod lookups;
 mod sheets;
 
+use bars::{GROWN_FROM, GROWTH, READS, WRITES};
 use clock::{Bench, Task};
 use differential::rng::Rng;
 use flaskbloom::slices as library;
@@ -20,9 +23,33 @@ use std::hint::black_box;
 
 const MOST: usize = 65_536;
 
+struct Words {
+    rounds: usize,
+    bars: bool,
+    openmesh: Option<[f64; 2]>,
+}
+
+fn words() -> Words {
+    let mut words = Words { rounds: 9, bars: false, openmesh: None };
+    let mut given = std::env::args().skip(1);
+    while let Some(word) = given.next() {
+        let mut number = || given.next().and_then(|word| word.parse().ok()).expect("nanoseconds");
+        match &word[..] {
+            "--bars" => words.bars = true,
+            "--openmesh" => words.openmesh = Some([number(), number()]),
+            "--sheet" => {
+                std::fs::write(given.next().expect("a file"), off(&published())).expect("the file is written");
+                std::process::exit(0);
+            }
+            _ => words.rounds = word.parse().expect("a number of rounds"),
+        }
+    }
+    words
+}
+
 fn main() {
-    let rounds = std::env::args().nth(1).map_or(9, |word| word.parse().expect("a number of rounds"));
-    let mut bench = Bench::new(rounds);
+    let words = words();
+    let mut bench = Bench::new(words.rounds);
     stars(&mut bench);
     searches(&mut bench);
     order(&mut bench);
@@ -34,8 +61,17 @@ fn main() {
     files(&mut bench, table);
     census(&mut bench);
     bench.print();
-    growth(&levels, rounds);
+    growth(&levels, &mut bench);
+    if let Some(times) = words.openmesh {
+        openmesh(times, &mut bench);
+    }
     sizes(table);
+    let over = &bench.over.0;
+    if words.bars {
+        println!("\n{} past their bars", if over.is_empty() { "none".into() } else { over.len().to_string() });
+        over.iter().for_each(|line| println!("  {line}"));
+        std::process::exit(!over.is_empty() as i32);
+    }
 }
 
 fn stars(bench: &mut Bench) {
@@ -53,11 +89,14 @@ fn stars(bench: &mut Bench) {
 
 /// Every point of a table in random order, and as many that are not in it.
 fn searches(bench: &mut Bench) {
-    for (names, load) in [(["lookup, load 0.5, hit", "lookup, load 0.5, miss"], 0.5), (["lookup, load 0.9, hit", "lookup, load 0.9, miss"], 0.9)] {
+    for (names, load) in
+        [(["lookup, load 0.5, hit", "lookup, load 0.5, miss"], 0.5), (["lookup, load 0.9, hit", "lookup, load 0.9, miss"], 0.9)]
+    {
         let table = based_to((MOST as f64 * load) as usize, MOST);
         let map: HashMap<Point, Star> = records(&table).collect();
         let mut there: Vec<Point> = map.keys().copied().collect();
-        let mut elsewhere: Vec<Point> = (-250..=250).flat_map(|a| (-250..=250).map(move |b| Point { a, b, m: 0 })).filter(|p| !map.contains_key(p)).collect();
+        let mut elsewhere: Vec<Point> =
+            (-250..=250).flat_map(|a| (-250..=250).map(move |b| Point { a, b, m: 0 })).filter(|p| !map.contains_key(p)).collect();
         there.sort_unstable_by_key(|p| (p.a, p.b));
         Rng::new(1).shuffle(&mut there);
         Rng::new(2).shuffle(&mut elsewhere);
@@ -206,7 +245,9 @@ fn census(bench: &mut Bench) {
 }
 
 /// From about 500 to 50,000 vertices: the library's time per vertex at each size, in tables as full each time.
-fn growth(levels: &[(Vec<u8>, Vec<i32>)], rounds: usize) {
+fn growth(levels: &[(Vec<u8>, Vec<i32>)], bench: &mut Bench) {
+    let rounds = bench.rounds;
+    let mut rows: Vec<(usize, [f64; 5])> = Vec::new();
     println!(
         "\ngrowth: nanoseconds a vertex, tables three quarters full\n  {:>8} {:>14} {:>11} {:>12} {:>10} {:>13}",
         "vertices", "subdivide_all", "write_full", "write_reduced", "read_full", "read_reduced"
@@ -228,6 +269,36 @@ fn growth(levels: &[(Vec<u8>, Vec<i32>)], rounds: usize) {
         let read = per_vertex(&mut || clock::time(|| assert_eq!(library::read_full(&mut table, &mut scratch, &file).0, 0)));
         let read_less = per_vertex(&mut || clock::time(|| assert_eq!(library::read_reduced(&mut table, &mut scratch, &reduced).0, 0)));
         println!("  {vertices:>8} {subdivide:>14.0} {full:>11.0} {less:>12.0} {read:>10.0} {read_less:>13.0}");
+        rows.push((vertices, [subdivide, full, less, read, read_less]));
+    }
+    let (most, last) = rows.last().expect("a sheet");
+    let (_, first) = rows.iter().find(|(vertices, _)| *vertices == GROWN_FROM).expect("the sheet that growth is counted from");
+    let ratio = |i: usize| last[i] / first[i];
+    print!("  {:>8} {:>14.2} {:>11.2} {:>12.2} {:>10.2} {:>13.2}", "ratio", ratio(0), ratio(1), ratio(2), ratio(3), ratio(4));
+    println!("   a vertex of {most} beside one of {GROWN_FROM}, at most {GROWTH:.2}");
+    for (i, call) in ["subdivide_all", "write_full", "write_reduced", "read_full", "read_reduced"].into_iter().enumerate() {
+        bench.over.most(&format!("{call}, a vertex of {most} beside one of {GROWN_FROM}"), ratio(i), GROWTH);
+    }
+}
+
+/// The full file beside OpenMesh's OFF file of the same sheet, both from memory and to memory.
+fn openmesh(times: [f64; 2], bench: &mut Bench) {
+    let sheet = published();
+    let vertices = count(&sheet);
+    let (mut table, mut scratch, mut out) = (sheet.clone(), sheet.clone(), vec![0; 26 * vertices]);
+    let write = clock::least(bench.rounds, &mut || clock::time(|| assert_eq!(library::write_full(&sheet, &mut out).0, 0)));
+    let long = library::write_full(&sheet, &mut out).1 as usize;
+    let read =
+        clock::least(bench.rounds, &mut || clock::time(|| assert_eq!(library::read_full(&mut table, &mut scratch, &out[..long]).0, 0)));
+    println!(
+        "\nbeside OpenMesh, {vertices} vertices, nanoseconds a vertex\n  {:12} {:>8} {:>8} {:>14} {:>9}",
+        "", "library", "OpenMesh", "times as fast", "at least"
+    );
+    for (name, ours, theirs, bar) in [("read_full", read, times[0], READS), ("write_full", write, times[1], WRITES)] {
+        let ours = ours.as_nanos() as f64;
+        let mark = bench.over.least(&format!("{name} beside OpenMesh"), theirs / ours, bar);
+        let per_vertex = |ns: f64| ns / vertices as f64;
+        println!("  {name:12} {:>8.0} {:>8.0} {:>14.1} {bar:>9.1} {mark}", per_vertex(ours), per_vertex(theirs), theirs / ours);
     }
 }
 

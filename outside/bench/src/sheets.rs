@@ -1,8 +1,10 @@
 //! The meshes that are timed: discs of hexagons, and one refined level by level.
 
 use differential::makers;
-use plain::mesh::records;
+use plain::lattice::{rows, sum, Point};
+use plain::mesh::{opposite, records};
 use plain::table::{enter, SLOT};
+use std::collections::{BTreeMap, HashMap};
 
 pub fn disc(hexagons: usize) -> Vec<i32> {
     makers::flat(&makers::disc(hexagons))
@@ -26,8 +28,21 @@ pub fn based_to(vertices: usize, slots: usize) -> Vec<u8> {
 
 /// A sheet of 54 hexagons and six levels of it, each with the points that are subdivided next.
 pub fn levels() -> Vec<(Vec<u8>, Vec<i32>)> {
+    refined(&disc(54))
+}
+
+/// Document 000's sheet, 11 columns of hexagons, alternately 6 and 5 high, at level 6: 52,891 vertices.
+pub fn published() -> Vec<u8> {
+    let column = |x: i32| (0..6 - x % 2).flat_map(move |row| [3 * (x / 2) + x % 2 - row, x % 2 + 2 * row]);
+    let centres: Vec<i32> = (0..11).flat_map(column).collect();
+    let table = refined(&centres).pop().expect("six levels").0;
+    assert_eq!(count(&table), 52_891);
+    table
+}
+
+fn refined(centres: &[i32]) -> Vec<(Vec<u8>, Vec<i32>)> {
     let mut table = vec![0; 65_536 * SLOT];
-    assert_eq!(plain::base(&mut table, &disc(54)).0, 0);
+    assert_eq!(plain::base(&mut table, centres).0, 0);
     let mut all = Vec::new();
     for level in 0..6 {
         let due = records(&table).filter(|(_, s)| s.d == 6 && s.n == level);
@@ -37,6 +52,32 @@ pub fn levels() -> Vec<(Vec<u8>, Vec<i32>)> {
     }
     all.push((table, Vec::new()));
     all
+}
+
+/// A mesh as an OFF file: its vertices as positions, and its faces, each once.
+pub fn off(table: &[u8]) -> String {
+    let places: HashMap<Point, usize> = records(table).enumerate().map(|(i, (p, _))| (p, i)).collect();
+    let mut faces = BTreeMap::new();
+    for (p, v) in records(table) {
+        let rows = rows(v);
+        for (j, row) in rows.iter().enumerate() {
+            let next = sum(p, rows[(j + 1) % rows.len()].adjacent, v.n);
+            let face = [p, sum(p, row.adjacent, v.n), opposite(table, p, v, row).expect("a grown mesh"), next].map(|q| places[&q]);
+            let mut sorted = face;
+            sorted.sort_unstable();
+            faces.entry(sorted).or_insert(face);
+        }
+    }
+    let mut text = format!("OFF\n{} {} 0\n", places.len(), faces.len());
+    for (p, _) in records(table) {
+        let scale = 3f64.powi(p.m as i32);
+        let (a, b) = (p.a as f64 / scale, p.b as f64 / scale);
+        text += &format!("{} {} 0\n", a + b / 2.0, b * 0.75f64.sqrt());
+    }
+    for [v, adjacent, opposite, next] in faces.into_values() {
+        text += &format!("4 {v} {adjacent} {opposite} {next}\n");
+    }
+    text
 }
 
 /// The same records in a table of so many slots.

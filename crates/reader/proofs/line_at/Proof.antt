@@ -1,8 +1,8 @@
--- `reader::line_at` meets its contract: a walk of its MIR, by hand. A `Reader` is made and held in a local; what stands on its line and that
--- line's number are asked of it, and `numbered` puts the two together.
+-- `reader::line_at` meets its contract: a walk of its MIR, by hand. A `Reader` is made and held in a local; what stands on its line and that line's
+-- number are asked of it, and `numbered` puts the two together.
 -- All that the proof knows of `on`, `line_here`, `number` and `numbered` is that each meets its contract.
--- The struct is Copy: what it owns is had twice, once for each of the functions that take it. In a local MIR erases the lifetime of the struct's
--- type, so its machine value is shown to have the type at `erased`.
+-- The struct is Copy: what it owns is had twice, once for each of the functions that take it. In a local MIR erases the lifetime of the struct's type,
+-- so its machine value is shown to have the type at `erased`.
 -- Assumes nothing.
 use mathlib.Core.Path.{_≡_, refl, ap, _∙_}
 use Prim.Native.Nat.{ℕ, _+_, _<_, _^_}
@@ -136,7 +136,8 @@ module _ {M : Type 1} (𝓤 : URA M) (H : Heap 𝓤) (A : Atoms 𝓤) (W : Given
       qed W ((‵ (flft κ q) ⊛ ‵ ftrue) ∷ ‵ (owns (ShrSlice (named 0) κ u8 ∷ usize ∷ u64 ∷ []) x vs) ∷ []) ∵
       move ! (1 ∷ []) $ fsplit ! $ use1 W (‵ Own ⊛ ‵ Own) (shr-slice-copy 𝓤 H A W (named 0) κ u8 .twice s (v ∷ [])) $ split ! $
       move ! (0 ∷ 2 ∷ []) $ fjoin ! $ move ! (2 ∷ 0 ∷ []) $ use2 W (raw (On 𝓤 H A mem run .pre to-on))
-      (qed W ((‵ (flft κ q) ⊛ ‵ ftrue) ∷ ‵ (owns (ShrSlice (named 0) κ u8 ∷ usize ∷ u64 ∷ []) x vs) ∷ []) ∵ join ! $ frame ! $ done !) $ frame ! $ done !
+      (qed W ((‵ (flft κ q) ⊛ ‵ ftrue) ∷ ‵ (owns (ShrSlice (named 0) κ u8 ∷ usize ∷ u64 ∷ []) x vs) ∷ []) ∵ join ! $ frame ! $ done !) $ frame ! $ done
+      !
 
   abbrev IsD : Reader → Type 0
   IsD r = (r .file ≡ s) × ((r .at ≡ p) × (r .line ≡ i))
@@ -149,8 +150,8 @@ module _ {M : Type 1} (𝓤 : URA M) (H : Heap 𝓤) (A : Atoms 𝓤) (W : Given
   to-reader u = (((κ, tt), (q, tt), tt, (d, tt), (u ∷ [], tt)), tt)
 
   goes-reader : (u : Val) → ent 𝓤 (⋆ 𝓤 H A (‵ (OwnD u) ∷ (‵ (flft κ q) ⊛ ‵ ftrue) ∷ [])) (Here 𝓤 H A mem run .pre (to-reader u))
-  goes-reader u = qed W (‵ (OwnD u) ∷ (‵ (flft κ q) ⊛ ‵ ftrue) ∷ []) ∵ nothing ! $ move ! (1 ∷ 0 ∷ []) $ fjoin ! $ move !
-      (1 ∷ 0 ∷ []) $ join ! $ frame ! $ done !
+  goes-reader u =
+      qed W (‵ (OwnD u) ∷ (‵ (flft κ q) ⊛ ‵ ftrue) ∷ []) ∵ nothing ! $ move ! (1 ∷ 0 ∷ []) $ fjoin ! $ move ! (1 ∷ 0 ∷ []) $ join ! $ frame ! $ done !
 
   here-said : (l : Line) → ent 𝓤 (ensured 𝓤 H A here.ended (here.clauses 𝓤 H A mem run) (κ, tt) (d, tt) tt l) (fact 𝓤 (l ≡ lineAt (now s) p))
   here-said l = exE 𝓤 _ (λ ws. snd∗ 𝓤 (sem 𝓤 H A (lasts here.ended (κ, tt) (d, tt) ws)) (fact 𝓤 (l ≡ lineAt (now s) p)))
@@ -173,8 +174,9 @@ module _ {M : Type 1} (𝓤 : URA M) (H : Heap 𝓤) (A : Atoms 𝓤) (W : Given
   exits : (m : Met) (w : Val) → m ≡ metAt (now s) p i → ent 𝓤 (⋆ 𝓤 H A (‵ (S.the-row .own m (w ∷ [])) ∷ (‵ (flft κ q) ⊛ ‵ ftrue) ∷ ‵ Own ∷ [])) (Post w)
   exits m w e =
       qed W (‵ (S.the-row .own m (w ∷ [])) ∷ (‵ (flft κ q) ⊛ ‵ ftrue) ∷ ‵ Own ∷ []) ∵
-      suffices ! _ (ends-at 𝓤 H A read.ended stayed (read.clauses 𝓤 H A mem run) W (((κ, tt), (q, tt), tt, x, vs), tt) w m (tt, (tt, (tt, tt)))
-      (tt, (tt, (tt, tt)))) $ says ! e $
+      suffices ! _
+      (ends-at 𝓤 H A read.ended stayed (read.clauses 𝓤 H A mem run) W (((κ, tt), (q, tt), tt, x, vs), tt) w m (tt, (tt, (tt, tt))) (tt, (tt, (tt, tt))))
+      $ says ! e $
       move ! (1 ∷ []) $ frame ! $ nothing ! $ owned ! u64 (Is u64) (uint-makes 𝓤 H A W w64) i _ (refl, i-fits) $ fjoin ! $ owned ! usize (Is usize)
       (uint-makes 𝓤 H A W w64) p _ (refl, p-fits) $ fjoin ! $
       move ! (2 ∷ 0 ∷ []) $ fjoin ! $ frame ! $ done !
@@ -190,18 +192,16 @@ module _ {M : Type 1} (𝓤 : URA M) (H : Heap 𝓤) (A : Atoms 𝓤) (W : Given
         → ent 𝓤 (onEntry 𝓤 H A read.signature (κ, tt) (q, tt) x vs) (WpFn 𝓤 H C Λ code.function (v ∷ vint w64 p ∷ vint w64 i ∷ []) Post)
     walk is-s =
         qed W (raw (onEntry 𝓤 H A read.signature (κ, tt) (q, tt) x vs) ∷ []) ∵ enter ! C Λ code.function (v ∷ vint w64 p ∷ vint w64 i ∷ []) _ $
-        alloc1 ! (λ l₀. alloc1 !
-        (λ l₁. alloc1 ! (λ l₂. alloc1 ! (λ l₃. alloc1 ! (λ l₄. alloc1 ! (λ l₅. alloc1 ! (λ l₆. alloc1 ! (λ l₇. alloc1 ! (λ l₈. alloc0 ! $ params1 ! $
+        alloc1 ! (λ l₀. alloc1 ! (λ l₁. alloc1 ! (λ l₂. alloc1 !
+        (λ l₃. alloc1 ! (λ l₄. alloc1 ! (λ l₅. alloc1 ! (λ l₆. alloc1 ! (λ l₇. alloc1 ! (λ l₈. alloc0 ! $ params1 ! $
         pass1 ! (init ! 14 refl (shr-slice-lawful 𝓤 H A W (named 0) κ u8 .typed s (v ∷ []) is-s .0)) $ pass1 !
         (init ! 12 refl (tt, record { fits = p-fits })) $ pass1 ! (init ! 10 refl (tt, record { fits = i-fits })) $ pass0 ! $
         -- `on`
         move ! (18 ∷ []) $ use1 W (raw (On 𝓤 H A mem run .pre to-on) ⊛ ‵ Own) goes-on $ split ! $
-        calls-at ! fm (On 𝓤 H A mem run) known-on to-on
-        (and-then ! (load ! (from ! (stop !)) (look ! 16 refl))
+        calls-at ! fm (On 𝓤 H A mem run) known-on to-on (and-then ! (load ! (from ! (stop !)) (look ! 16 refl))
         (and-then ! (load ! (from ! (stop !)) (look ! 14 refl)) (and-then ! (load ! (from ! (stop !)) (look ! 12 refl)) (no-more !)))) (λ u.
-        use1 W (later (some (λ (r : Reader).
-        ((‵ (flft κ q) ⊛ ‵ ftrue) ⊛ ‵ (B (κ, tt) .own r (u ∷ []))) ⊛ raw (ensured 𝓤 H A on.ended (on.clauses 𝓤 H A mem run) (κ, tt) x tt r))))
-        (id⊢ 𝓤 _) $ await ! tt $ pick ! (λ r.
+        use1 W (later (some (λ (r : Reader). ((‵ (flft κ q) ⊛ ‵ ftrue) ⊛ ‵ (B (κ, tt) .own r (u ∷ []))) ⊛ raw
+        (ensured 𝓤 H A on.ended (on.clauses 𝓤 H A mem run) (κ, tt) x tt r)))) (id⊢ 𝓤 _) $ await ! tt $ pick ! (λ r.
         split ! $ move ! (1 ∷ []) $ use1 W (raw (fact 𝓤 (IsD r))) (on-said r) $ heard ! (IsD r) (λ e. split ! $
         rewrite ! 1 (λ (h : Reader). ‵ (B (κ, tt) .own h (u ∷ []))) (λ j. record { file = e .0 j; at = e .1 .0 j; line = e .1 .1 j }) refl $ move ! (1 ∷ []) $
         -- [what the reader owns; the token; what s owns; room for _8; …; _7; …; _6; …; _5; …; _4; …; _3; …; _2; …; _1; …; _0; …]
@@ -212,8 +212,7 @@ module _ {M : Type 1} (𝓤 : URA M) (H : Heap 𝓤) (A : Atoms 𝓤) (W : Given
         (LL.copy (T.the-type (namedLft 1 0 tt (κ, tt))) (T′.the-copy (namedLft 1 0 tt (κ, tt))) 𝓤 H A W .twice d (u ∷ [])) $ split ! $
         move ! (0 ∷ 2 ∷ []) $ use2 W (raw (Here 𝓤 H A mem run .pre (to-reader u))) (goes-reader u) $
         calls-at ! fm (Here 𝓤 H A mem run) known-here (to-reader u) (and-then ! (load ! (from ! (stop !)) (look ! 7 refl)) (no-more !)) (λ u-l.
-        use1 W (later (some (λ (l : Line).
-        ((‵ (flft κ q) ⊛ ‵ ftrue) ⊛ ‵ (L.the-row .own l (u-l ∷ []))) ⊛ raw
+        use1 W (later (some (λ (l : Line). ((‵ (flft κ q) ⊛ ‵ ftrue) ⊛ ‵ (L.the-row .own l (u-l ∷ []))) ⊛ raw
         (ensured 𝓤 H A here.ended (here.clauses 𝓤 H A mem run) (κ, tt) (d, tt) tt l)))) (id⊢ 𝓤 _) $ await ! tt $ pick ! (λ l.
         split ! $ move ! (1 ∷ []) $ use1 W (raw (fact 𝓤 (l ≡ lineAt (now s) p))) (here-said l) $ heard ! (l ≡ lineAt (now s) p)
         (λ e-l. split ! $ move ! (1 ∷ []) $
@@ -224,8 +223,7 @@ module _ {M : Type 1} (𝓤 : URA M) (H : Heap 𝓤) (A : Atoms 𝓤) (W : Given
         -- `number`
         move ! (2 ∷ 1 ∷ []) $ use2 W (raw (Number 𝓤 H A mem run .pre (to-reader u))) (goes-reader u) $
         calls-at ! fm (Number 𝓤 H A mem run) known-number (to-reader u) (and-then ! (load ! (from ! (stop !)) (look ! 3 refl)) (no-more !)) (λ u-n.
-        use1 W (later (some (λ (n : ℕ).
-        ((‵ (flft κ q) ⊛ ‵ ftrue) ⊛ ‵ (u64 .own n (u-n ∷ []))) ⊛ raw
+        use1 W (later (some (λ (n : ℕ). ((‵ (flft κ q) ⊛ ‵ ftrue) ⊛ ‵ (u64 .own n (u-n ∷ []))) ⊛ raw
         (ensured 𝓤 H A number.ended (number.clauses 𝓤 H A mem run) (κ, tt) (d, tt) tt n)))) (id⊢ 𝓤 _) $ await ! tt $ pick ! (λ n.
         split ! $ move ! (1 ∷ []) $ use1 W (raw (fact 𝓤 (n ≡ i))) (number-said n) $ heard ! (n ≡ i)
         (λ e-n. split ! $ rewrite ! 1 (λ (k : ℕ). ‵ (u64 .own k (u-n ∷ []))) e-n refl $ move ! (1 ∷ []) $
@@ -235,18 +233,17 @@ module _ {M : Type 1} (𝓤 : URA M) (H : Heap 𝓤) (A : Atoms 𝓤) (W : Given
         move ! (2 ∷ 0 ∷ []) $ use2 W (raw (Tell 𝓤 H A mem run .pre (to-tell l u-l u-n))) (goes-tell l u-l u-n) $
         calls-at ! fm (Tell 𝓤 H A mem run) known-tell (to-tell l u-l u-n)
         (and-then ! (load ! (from ! (stop !)) (look ! 9 refl)) (and-then ! (load ! (from ! (stop !)) (look ! 5 refl)) (no-more !))) (λ w.
-        use1 W (later (some (λ (m : Met).
-        (‵ ftrue ⊛ ‵ (S.the-row .own m (w ∷ []))) ⊛ raw (ensured 𝓤 H A tell.ended (tell.clauses 𝓤 H A mem run) tt (l, (i, tt)) tt m))))
-        (id⊢ 𝓤 _) $ await ! tt $ pick ! (λ m.
+        use1 W (later (some (λ (m : Met). (‵ ftrue ⊛ ‵ (S.the-row .own m (w ∷ []))) ⊛ raw
+        (ensured 𝓤 H A tell.ended (tell.clauses 𝓤 H A mem run) tt (l, (i, tt)) tt m)))) (id⊢ 𝓤 _) $ await ! tt $ pick ! (λ m.
         split ! $ move ! (1 ∷ []) $ use1 W (raw (fact 𝓤 (m ≡ numbered i l))) (tell-said l m) $ heard ! (m ≡ numbered i l) (λ e-m. split ! $ drop ! $
         -- [the result; the token; what s owns; _8; …]
         peeks ! S.the-row (Is S.the-row) (shows 𝓤 H A S.the-row) m (w ∷ [])
         (λ is-m. land ! (from ! (stop !)) (init ! 19 refl (EL.lawful S.the-type S′.the-laws 𝓤 H A W tt .typed m _ is-m .0)) $
         returns ! (look ! 19 refl) $ forget ! 3 refl $ forget ! 5 refl $ forget ! 7 refl $ forget ! 9 refl $ forget ! 11 refl $ forget ! 13 refl $
         forget ! 15 refl $ forget ! 17 refl $ forget ! 19 refl $
-        move ! (19 ∷ 20 ∷ []) $ free1 ! $ move ! (17 ∷ 18 ∷ []) $ free1 ! $ move ! (15 ∷ 16 ∷ []) $ free1 ! $ move !
-        (13 ∷ 14 ∷ []) $ free1 ! $ move ! (11 ∷ 12 ∷ []) $ free1 ! $ move ! (9 ∷ 10 ∷ []) $ free1 ! $ move ! (7 ∷ 8 ∷ []) $ free1 ! $ move !
-        (5 ∷ 6 ∷ []) $ free1 ! $ move ! (3 ∷ 4 ∷ []) $ free1 ! $ free0 ! $
+        move ! (19 ∷ 20 ∷ []) $ free1 ! $ move ! (17 ∷ 18 ∷ []) $ free1 ! $ move ! (15 ∷ 16 ∷ []) $ free1 ! $ move ! (13 ∷ 14 ∷ []) $ free1 ! $ move !
+        (11 ∷ 12 ∷ []) $ free1 ! $ move ! (9 ∷ 10 ∷ []) $ free1 ! $ move ! (7 ∷ 8 ∷ []) $ free1 ! $ move ! (5 ∷ 6 ∷ []) $ free1 ! $ move ! (3 ∷ 4 ∷ [])
+        $ free1 ! $ free0 ! $
         by ! (exits m w (e-m ∙ ap (numbered i) e-l)))))))))))))))))))))))))))
 
 module _ {M : Type 1} (𝓤 : URA M) (H : Heap 𝓤) (A : Atoms 𝓤) (W : Given 𝓤 H A) (mem : Memory → SProp 𝓤) (run : Routine → Fun 𝓤) where
@@ -260,8 +257,8 @@ module _ {M : Type 1} (𝓤 : URA M) (H : Heap 𝓤) (A : Atoms 𝓤) (W : Given
       (are .1 .1 .0 .1) ok C Λ fm known-on known-here known-number known-tell (are .0)))
 
 read-meets : {M : Type 1} (𝓤 : URA M) (H : Heap 𝓤) (A : Atoms 𝓤) (W : Given 𝓤 H A) (mem : Memory → SProp 𝓤) (run : Routine → Fun 𝓤) (𝓣 : Tables 𝓤 H)
-    → Triple 𝓤 (𝓣 .C #reader·on) (On 𝓤 H A mem run) → Triple 𝓤 (𝓣 .C #reader·line-here) (Here 𝓤 H A mem run)
-    → Triple 𝓤 (𝓣 .C #reader·number) (Number 𝓤 H A mem run) → Triple 𝓤 (𝓣 .C #reader·numbered) (Tell 𝓤 H A mem run)
+    → Triple 𝓤 (𝓣 .C #reader·on) (On 𝓤 H A mem run) → Triple 𝓤 (𝓣 .C #reader·line-here) (Here 𝓤 H A mem run) → Triple 𝓤 (𝓣 .C #reader·number)
+    (Number 𝓤 H A mem run) → Triple 𝓤 (𝓣 .C #reader·numbered) (Tell 𝓤 H A mem run)
     → Meets 𝓤 H A read.signature (WpFn 𝓤 H (𝓣 .C) (𝓣 .Λ) code.function) (read.spec 𝓤 H A mem run)
 read-meets 𝓤 H A W mem run 𝓣 known-on known-here known-number known-tell =
     walk-meets 𝓤 H A read.ended stayed W (

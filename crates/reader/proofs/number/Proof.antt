@@ -1,5 +1,5 @@
--- `reader::number` meets its contract: a walk of its MIR, by hand. A number is read from a field of the struct, and the struct is seen at exit as
--- it was passed.
+-- `reader::number` meets its contract: a walk of its MIR, by hand. A number is read from a field of the struct, and the struct is seen at exit as it
+-- was passed.
 -- That the number fits its type is in the struct's relation, at the field's place.
 -- Assumes nothing.
 use mathlib.Core.Path.{refl}
@@ -69,15 +69,17 @@ module _ {M : Type 1} (𝓤 : URA M) (H : Heap 𝓤) (A : Atoms 𝓤) (W : Given
     walk p =
         qed W ((‵ (flft κ q) ⊛ ‵ ftrue) ∷ ‵ (owns (B (κ, tt) ∷ []) (d, tt) (mach ∷ [], tt)) ∷ []) ∵ enter ! C Λ code.function (mach ∷ []) _ $
         alloc1 ! (λ l₀. alloc1 ! (λ l₁. alloc0 ! $ params1 ! $
-        pass1 ! (init ! 0 refl
-        (LL.lawful (T.the-type (namedLft 1 0 tt (κ, tt))) (T′.the-laws (namedLft 1 0 tt (κ, tt))) 𝓤 H A W .typed d (mach ∷ []) p .0)) $ pass0 ! $
+        pass1 !
+        (init ! 0 refl (LL.lawful (T.the-type (namedLft 1 0 tt (κ, tt))) (T′.the-laws (namedLft 1 0 tt (κ, tt))) 𝓤 H A W .typed d (mach ∷ []) p .0)) $
+        pass0 ! $
         assigns ! (of-opd ! (load ! (from ! (fld ! refl (stop !))) (look-in ! 0 (sub ! 2 refl (whole !))))) (from ! (stop !))
         (init ! 2 refl (tt, record { fits = p .1 .1 .1 .1 .0 .1 })) $
         returns ! (look ! 2 refl) $ forget ! 0 refl $ forget ! 2 refl $ move ! (2 ∷ 3 ∷ []) $ free1 ! $ free1 ! $ free0 ! $ by ! (exits (p .1 .1 .1 .1 .0 .1))))
 
 module _ {M : Type 1} (𝓤 : URA M) (H : Heap 𝓤) (A : Atoms 𝓤) (W : Given 𝓤 H A) (mem : Memory → SProp 𝓤) (run : Routine → Fun 𝓤) where
   number-walks : (C : Calls 𝓤 H) (Λ : Loops 𝓤 H) → Walks 𝓤 H A number.ended stayed (WpFn 𝓤 H C Λ code.function) (number.clauses 𝓤 H A mem run)
-  number-walks C Λ = walked 𝓤 H A number.ended stayed (number.clauses 𝓤 H A mem run) (WpFn 𝓤 H C Λ code.function)
+  number-walks C Λ =
+      walked 𝓤 H A number.ended stayed (number.clauses 𝓤 H A mem run) (WpFn 𝓤 H C Λ code.function)
       (λ κs. (LL.vals (T.the-type (namedLft 1 0 tt κs)) (T′.the-laws (namedLft 1 0 tt κs)), tt))
       (λ κs. (LL.tells (T.the-type (namedLft 1 0 tt κs)) (T′.the-laws (namedLft 1 0 tt κs)), tt))
       (λ κs qs bounds a g are. via 𝓤 _ (fst∗ 𝓤 _ (emp 𝓤)) (walk 𝓤 H A W mem run (κs .0) (qs .0) (a .0) C Λ (are .0)))

@@ -75,8 +75,8 @@ module _ {M : Type 1} (𝓤 : URA M) (H : Heap 𝓤) (A : Atoms 𝓤) (W : Given
       qed W ((‵ (flft κ q) ⊛ ‵ ftrue) ∷ ‵ (owns (ShrSlice (named 0) κ u8 ∷ usize ∷ u64 ∷ []) x vs) ∷ []) ∵
       suffices ! _ (ends-at 𝓤 H A on.ended stayed (on.clauses 𝓤 H A mem run) W (((κ, tt), (q, tt), tt, x, vs), tt) (T′.lowered made) made
       (tt, (tt, (tt, tt))) (tt, (tt, (tt, tt)))) $ says ! (refl, (refl, refl)) $
-      frame ! $ fsplit ! $ use1 W (‵ Own ⊛ ‵ Own) (shr-slice-copy 𝓤 H A W (named 0) κ u8 .twice s (v ∷ [])) $ split ! $ move !
-      (0 ∷ 2 ∷ []) $ fjoin ! $ frame ! $
+      frame ! $ fsplit ! $ use1 W (‵ Own ⊛ ‵ Own) (shr-slice-copy 𝓤 H A W (named 0) κ u8 .twice s (v ∷ [])) $ split ! $ move ! (0 ∷ 2 ∷ []) $ fjoin ! $
+      frame ! $
       -- [what file owns]: what the fields own together, of it and of the numbers' facts, is what the struct owns
       nothing ! $ owned ! u64 (Is u64) (uint-makes 𝓤 H A W w64) i _ (refl, i-fits) $ fjoin ! $ owned ! usize (Is usize) (uint-makes 𝓤 H A W w64) p _
       (refl, p-fits) $ fjoin ! $
@@ -88,9 +88,8 @@ module _ {M : Type 1} (𝓤 : URA M) (H : Heap 𝓤) (A : Atoms 𝓤) (W : Given
     walk is =
         let typed = shr-slice-lawful 𝓤 H A W (named 0) κ u8 .typed s (v ∷ []) is .0 in
         qed W (raw (onEntry 𝓤 H A on.signature (κ, tt) (q, tt) x vs) ∷ []) ∵ enter ! C Λ code.function (v ∷ vint w64 p ∷ vint w64 i ∷ []) _ $
-        alloc1 ! (λ l₀. alloc1 !
-        (λ l₁. alloc1 ! (λ l₂.
-        alloc1 ! (λ l₃. alloc0 ! $ params1 ! $ pass1 ! (init ! 4 refl typed) $ pass1 ! (init ! 2 refl (tt, record { fits = p-fits })) $ pass1 !
+        alloc1 ! (λ l₀. alloc1 ! (λ l₁. alloc1 ! (λ l₂. alloc1 !
+        (λ l₃. alloc0 ! $ params1 ! $ pass1 ! (init ! 4 refl typed) $ pass1 ! (init ! 2 refl (tt, record { fits = p-fits })) $ pass1 !
         (init ! 0 refl (tt, record { fits = i-fits })) $ pass0 ! $
         assigns ! (agg ! (and-then ! (load ! (from ! (stop !)) (look ! 4 refl))
         (and-then ! (load ! (from ! (stop !)) (look ! 2 refl)) (and-then ! (load ! (from ! (stop !)) (look ! 0 refl)) (no-more !))))) (from ! (stop !))
@@ -100,18 +99,18 @@ module _ {M : Type 1} (𝓤 : URA M) (H : Heap 𝓤) (A : Atoms 𝓤) (W : Given
 
 module _ {M : Type 1} (𝓤 : URA M) (H : Heap 𝓤) (A : Atoms 𝓤) (W : Given 𝓤 H A) (mem : Memory → SProp 𝓤) (run : Routine → Fun 𝓤) where
   on-walks : (C : Calls 𝓤 H) (Λ : Loops 𝓤 H) → Walks 𝓤 H A on.ended stayed (WpFn 𝓤 H C Λ code.function) (on.clauses 𝓤 H A mem run)
-  on-walks C Λ = walked 𝓤 H A on.ended stayed (on.clauses 𝓤 H A mem run) (WpFn 𝓤 H C Λ code.function)
-      (λ κs. (slice-vals, (uint-vals w64, (uint-vals w64, tt)))) (λ κs. (shr-slice-tells (named 0) (κs .0) u8, (uint-tells w64, (uint-tells w64, tt))))
-      (λ κs qs bounds a g are.
-      via 𝓤 _ (fst∗ 𝓤 _ (emp 𝓤)) (walk 𝓤 H A W mem run (κs .0) (qs .0) (a .0) (a .1 .0) (a .1 .1 .0) (are .1 .0 .1) (are .1 .1 .0 .1) C Λ (are .0)))
+  on-walks C Λ =
+      walked 𝓤 H A on.ended stayed (on.clauses 𝓤 H A mem run) (WpFn 𝓤 H C Λ code.function) (λ κs. (slice-vals, (uint-vals w64, (uint-vals w64, tt))))
+      (λ κs. (shr-slice-tells (named 0) (κs .0) u8, (uint-tells w64, (uint-tells w64, tt))))
+      (λ κs qs bounds a g are. via 𝓤 _ (fst∗ 𝓤 _ (emp 𝓤))
+      (walk 𝓤 H A W mem run (κs .0) (qs .0) (a .0) (a .1 .0) (a .1 .1 .0) (are .1 .0 .1) (are .1 .1 .0 .1) C Λ (are .0)))
 
 on-meets : {M : Type 1} (𝓤 : URA M) (H : Heap 𝓤) (A : Atoms 𝓤) → Given 𝓤 H A → (mem : Memory → SProp 𝓤) (run : Routine → Fun 𝓤) (𝓣 : Tables 𝓤 H)
     → Meets 𝓤 H A on.signature (WpFn 𝓤 H (𝓣 .C) (𝓣 .Λ) code.function) (on.spec 𝓤 H A mem run)
-on-meets 𝓤 H A W mem run 𝓣 =
-    walk-meets 𝓤 H A on.ended stayed W (
-      goes-none-slice 𝓤 H A W 1 (0 ∷ []) tt (plain (λ _. u8)) yes,
-      (goes-none 𝓤 H A W 1 (λ _. usize) yes (λ κs x f. refl), (goes-none 𝓤 H A W 1 (λ _. u64) yes (λ κs x f. refl), tt)),
-    ) (on.clauses 𝓤 H A mem run)
+on-meets 𝓤 H A W mem run 𝓣 = walk-meets 𝓤 H A on.ended stayed W (
+  goes-none-slice 𝓤 H A W 1 (0 ∷ []) tt (plain (λ _. u8)) yes,
+  (goes-none 𝓤 H A W 1 (λ _. usize) yes (λ κs x f. refl), (goes-none 𝓤 H A W 1 (λ _. u64) yes (λ κs x f. refl), tt)),
+) (on.clauses 𝓤 H A mem run)
     (WpFn 𝓤 H (𝓣 .C) (𝓣 .Λ) code.function) (WpFn-mono 𝓤 H (W .laws) 𝓣 code.function) (on-walks 𝓤 H A W mem run (𝓣 .C) (𝓣 .Λ))
 
 pub on-spec : {M : Type 1} → stated.statement M

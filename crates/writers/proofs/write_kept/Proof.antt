@@ -1,13 +1,11 @@
--- `writers::write_kept` meets its promise: the length, the keys, the heap, the lines. Assumes nothing.
+-- `writers::write_kept` meets its promise: the length, the keys, sorted, the lines. Assumes nothing.
 use mathlib.Core.Path.{_≡_, _∙_, ap}
 use mathlib.Core.List.{List, _++_}
 use Prim.Native.Nat.{ℕ, _≤_}
 use native.Mathlib.Omega.{arith}
 use lib.ListN.{length}
 use borrow.Author.Needs.{needs}
-use Rattle.table.specs.Slots.{slotsOf}
-use Rattle.writers.specs.Kept.{keptAt}
-use Rattle.writers.specs.KeptLaws.{keys-few, Filled}
+use Rattle.writers.specs.KeptLaws.{Filled}
 use Rattle.writers.specs.LeftLaws.{fileOf, keysOf, Ready, filled-all, counted-all, keys-all, keys-fit, put-short, put-done, ready, ready-past}
 use Rattle.writers.specs.CallLaws.{out-is}
 use Rattle.writers.proofs.write_kept.Statement.{statement}
@@ -52,24 +50,22 @@ module _ (c : tie.After-put-keys) where
   filled : Filled (o f) (keysOf (t f) (m f)) (c .put-keys .last .1 .1 .1 .0) (c .put-keys .result)
   filled = filled-all (t f) (m f) (o f) (s f .args .n) (s f .pre .1) (c .put-keys .ensures)
 
-make-heap-requires : tie.Need-make-heap-requires
-make-heap-requires c κs =
+sort-requires : tie.Need-sort-requires
+sort-requires c κs =
     let w = c .before .before .before in
     let count = filled w .count in
     let same = filled w .long in
     let fit = keys-fit (t (f w)) (m (f w)) in
     let all = long (f w) in
-    let few = keys-few (keptAt (t (f w)) (m (f w))) (slotsOf (t (f w))) in
-    let most = s (f w) .pre .0 .fits .most in
-    (omega (arith, room w), omega arith)
+    omega (arith, room w)
 
--- past the heap
-module _ (c : tie.After-make-heap) where
+-- past the sort
+module _ (c : tie.After-sort) where
   abbrev w : tie.After-put-keys
   w = c .before .before .before .before
 
-  stand : Ready (t (f w)) (m (f w)) (c .make-heap .last .0) (w .put-keys .result) (f w .file-length .result)
-  stand = ready (t (f w)) (m (f w)) (o (f w)) (f w .file-length .result) (long (f w)) _ _ (w .put-keys .result) (room w) (filled w) (c .make-heap .ensures)
+  stand : Ready (t (f w)) (m (f w)) (c .sort .last .0) (w .put-keys .result) (f w .file-length .result)
+  stand = ready (t (f w)) (m (f w)) (o (f w)) (f w .file-length .result) (long (f w)) _ _ (w .put-keys .result) (room w) (filled w) (c .sort .ensures)
 
 write-lines-requires : tie.Need-write-lines-requires
 write-lines-requires c κs = let h = c .before .before .before in (s (f (w h)) .pre .0, (m (f (w h)), stand h))
@@ -80,7 +76,7 @@ returns-2 c =
     let h = x .before .before .before .before in
     let g = f (w h) in
     let total = g .file-length .result in
-    let past = ready-past (t g) (m g) (o g) total (long g) _ _ (w h .put-keys .result) (room (w h)) (filled (w h)) (h .make-heap .ensures) in
+    let past = ready-past (t g) (m g) (o g) total (long g) _ _ (w h .put-keys .result) (room (w h)) (filled (w h)) (h .sort .ensures) in
     out-is _ (c .answer2 .ensures .0) (c .answer2 .ensures .1)
     ∙ put-done (t g) (m g) (o g) total (long g) _ (room (w h)) (x .write-lines .ensures (m g) (stand h) ∙ ap (λ (l : List ℕ). fileOf (t g) (m g) ++ l) past)
 
@@ -92,7 +88,7 @@ write-kept-spec =
     (λ c κs. search needs)
     returns
     put-keys-requires
-    make-heap-requires
+    sort-requires
     write-lines-requires
     (λ c κs. search needs)
     (λ c. search needs)

@@ -22,7 +22,8 @@ returns c =
 
 -- past the first test: the table is in order
 ordered : (n : tie.After-slots-of) → InOrder (n .before .before .before .before .before .args .table .now)
-ordered n = let i = n .before .before in
+ordered n =
+    let i = n .before .before in
     test-order (i .before .before .before .args .table .now) (sym (i .in-order .ensures) ∙ not-false (i .in-order .result) (n .before .if1 .left))
 
 mark-all-requires : tie.Need-mark-all-requires

@@ -20,11 +20,13 @@ mul-width : tie.Need-mul-width Inv-loop μ-loop
 mul-width c = record { fits = omega (arith, c .loop-test .taken, c .before .before .before .pre) }
 
 add-w : tie.Need-add-w Inv-loop μ-loop
-add-w c = let l = c .before .before .before in
+add-w c =
+    let l = c .before .before .before in
     record { fits = omega (arith, l .loop .inv .most, l .loop .inv .below, c .width .ensures .1 .1, l .before .before .pre) }
 
 add-w-2 : tie.Need-add-w-2 Inv-loop μ-loop
-add-w-2 c = let l = c .before .before .before in
+add-w-2 c =
+    let l = c .before .before .before in
     record { fits = omega (arith, l .loop .inv .most, l .loop .inv .below, c .width .ensures .1 .1, l .before .before .pre) }
 
 loop-again : tie.Need-loop-again Inv-loop μ-loop
@@ -38,8 +40,7 @@ returns : tie.Need-returns Inv-loop μ-loop
 returns c =
     let l = c .before in (
       measured-all (l .before .before .args .ns .now) (l .loop .i) (l .loop .w) (l .loop .inv) (c .loop-test .left),
-      omega
-          (arith, l .loop .inv .most, l .loop .inv .below, l .before .before .pre),
+      omega (arith, l .loop .inv .most, l .loop .inv .below, l .before .before .pre),
     )
 
 pub row-width-spec : {M : Type 1} → statement M

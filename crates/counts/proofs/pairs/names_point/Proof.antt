@@ -48,8 +48,7 @@ loop-again c =
     let l = c .before .before .before .before in
     let a = l .before .args in (
       omega (arith, c .before .before .before .loop-test .taken),
-      among-more (at (a .u) (a .p)) (l .loop .i) (l .loop .inv .1)
-          (tested (c .before) ∙ c .if1 .left),
+      among-more (at (a .u) (a .p)) (l .loop .i) (l .loop .inv .1) (tested (c .before) ∙ c .if1 .left),
     )
 
 returns-2 : tie.Need-returns-2 Inv-loop μ-loop

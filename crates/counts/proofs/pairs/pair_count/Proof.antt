@@ -21,8 +21,7 @@ returns-2 c =
     let b = c .before in
     let a = b .before in
     let s = a .before .before .before .args in (
-      pair-counted (s .t .now) (s .k) (s .v) (s .j) (a .adjacent-of .result) (a .adjacent-of .ensures) _
-          (sym (b .pair-before .ensures) ∙ c .if1 .left),
+      pair-counted (s .t .now) (s .k) (s .v) (s .j) (a .adjacent-of .result) (a .adjacent-of .ensures) _ (sym (b .pair-before .ensures) ∙ c .if1 .left),
       omega arith,
     )
 

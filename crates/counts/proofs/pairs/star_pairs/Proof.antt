@@ -26,10 +26,8 @@ pair-count-requires : tie.Need-pair-count-requires Inv-loop μ-loop
 pair-count-requires c κs = let s = c .before .before .before in (s .pre .0, (star c, omega (arith, c .loop-test .taken)))
 
 add-count : tie.Need-add-count Inv-loop μ-loop
-add-count c = record {
-  fits =
-      omega (arith, c .before .before .loop .inv .1 .most, c .before .before .loop .inv .0, star (c .before) .top, c .pair-count .ensures .1);
-}
+add-count c =
+    record { fits = omega (arith, c .before .before .loop .inv .1 .most, c .before .before .loop .inv .0, star (c .before) .top, c .pair-count .ensures .1) }
 
 loop-again : tie.Need-loop-again Inv-loop μ-loop
 loop-again c =
@@ -45,8 +43,7 @@ returns c =
     let l = c .before in
     let s = l .before .before in
     let e : l .loop .j ≡ s .args .v .d = omega (arith, l .loop .inv .0, c .loop-test .left) in (
-      l .loop .inv .1 .is
-          ∙ ap (sumBelow (pairCount (s .args .t .now) (s .args .k) (s .args .v))) e,
+      l .loop .inv .1 .is ∙ ap (sumBelow (pairCount (s .args .t .now) (s .args .k) (s .args .v))) e,
       omega (arith, l .loop .inv .1 .most, valid-degree (s .args .v) (s .pre .1)),
     )
 

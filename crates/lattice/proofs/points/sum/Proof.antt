@@ -8,8 +8,9 @@ use mir.Syntax.{w32}
 use mir.Val.{SFits, toZ, ofZ}
 use mir.Facts.{toZ-ofZ}
 use Rattle.lattice.proofs.points.sum.Statement.{statement}
-use Rattle.lattice.specs.Bounds.{small-wide, small-high, small-a, small-b, pow-fits}
-use Rattle.lattice.specs.Points.{normalOf, sumAt}
+use Rattle.lattice.specs.Bounds.{small-wide, small-high, pow-fits}
+use Rattle.lattice.specs.Points.{pt, normalOf, sumAt}
+use Rattle.lattice.specs.declared.points.Point.{Point}
 use Rattle.lattice.proofs.points.sum.Tie as tie
 
 -- what `mix` asks, at two powers of 3
@@ -38,42 +39,46 @@ sub-power-2 c = search needs
 power-requires-2 : tie.Need-power-requires-2
 power-requires-2 c κs = search needs
 
+-- the two points, of the numbers that are asked
+abbrev p : tie.Start → Point
+p s = pt (s .args .a) (s .args .b) (s .args .m)
+
+abbrev q : tie.Start → Point
+q s = pt (s .args .x) (s .args .y) (s .args .n)
+
 mix-requires : tie.Need-mix-requires
 mix-requires c κs =
-    let s = c .before .before .before .before .before in
-    let e = c .before .before .before .before .deeper .ensures in
-    asked (small-a _ (s .pre .0)) (small-a _ (s .pre .1)) (c .before .before .before .power .ensures) (c .before .before .power2 .ensures)
+    let s = c .before .before .before in
+    let e = c .before .before .deeper .ensures in
+    asked (s .fits .a) (s .fits .x) (c .before .power .ensures) (c .power2 .ensures)
     (omega arith) (omega arith)
-    (small-wide (s .args .p) _ (omega arith) (s .pre .0)) (small-wide (s .args .q) _ (omega arith) (s .pre .1))
+    (small-wide (p s) _ (omega arith) (s .pre .0)) (small-wide (q s) _ (omega arith) (s .pre .1))
 
 mix-requires-2 : tie.Need-mix-requires-2
 mix-requires-2 c κs =
-    let s = c .before .before .before .before .before .before .before .before in
-    let e = c .before .before .before .before .before .before .before .deeper .ensures in
-    asked (small-b _ (s .pre .0)) (small-b _ (s .pre .1)) (c .before .before .before .before .before .before .power .ensures)
-    (c .before .before .before .before .before .power2 .ensures)
+    let s = c .before .before .before .before in
+    let e = c .before .before .before .deeper .ensures in
+    asked (s .fits .b) (s .fits .y) (c .before .before .power .ensures) (c .before .power2 .ensures)
     (omega arith) (omega arith)
-    (small-high (s .args .p) _ (omega arith) (s .pre .0)) (small-high (s .args .q) _ (omega arith) (s .pre .1))
+    (small-high (p s) _ (omega arith) (s .pre .0)) (small-high (q s) _ (omega arith) (s .pre .1))
 
 normalise-requires : tie.Need-normalise-requires
 normalise-requires c κs = search needs
 
 returns : tie.Need-returns
 returns c =
-    let s = c .before .before .before .before .before .before .before .before .before .before in
-    let p = s .args .p in
-    let q = s .args .q in
-    let t3 = c .before .before .before .before .before .before .before .before .power in
-    let t4 = c .before .before .before .before .before .before .before .power2 in
-    let ma = c .before .before .before .before .mix in
-    let mb = c .before .mix2 in
-    let d = c .before .before .before .before .before .before .before .before .before .deeper in
-    let e = d .ensures in
-    let ea = mixed (record { sfits = ma .ok }) (ma .ensures) (small-a p (s .pre .0)) (small-a q (s .pre .1)) (t3 .ensures) (t4 .ensures) (omega arith)
-    (omega arith) in
-    let eb = mixed (record { sfits = mb .ok }) (mb .ensures) (small-b p (s .pre .0)) (small-b q (s .pre .1)) (t3 .ensures) (t4 .ensures) (omega arith)
-    (omega arith) in
-    c .normalise .ensures ∙ (λ i. normalOf (ea i) (eb i) (d .result)) ∙ ap (sumAt p q) e
+    let m2 = c .before in
+    let m1 = m2 .before in
+    let t = m1 .before in
+    let u = t .before in
+    let d = u .before in
+    let s = d .before in
+    let e = d .deeper .ensures in
+    let ea = mixed (record { sfits = m1 .mix .ok }) (m1 .mix .ensures) (s .fits .a) (s .fits .x) (u .power .ensures) (t .power2 .ensures)
+    (omega arith) (omega arith) in
+    let eb = mixed (record { sfits = m2 .mix2 .ok }) (m2 .mix2 .ensures) (s .fits .b) (s .fits .y) (u .power .ensures) (t .power2 .ensures)
+    (omega arith) (omega arith) in
+    c .normalise .ensures ∙ (λ i. normalOf (ea i) (eb i) (d .deeper .result)) ∙ ap (sumAt (p s) (q s)) e
 
 pub sum-spec : {M : Type 1} → statement M
 sum-spec =

@@ -2,10 +2,12 @@
 use borrow.Author.Needs.{needs}
 use borrow.Author.Tests.{le-leb, lt-leb, not-true, not-false}
 use mathlib.Core.Path.{_≡_, _∙_}
-use Rattle.laws.specs.Machine.{asked, asked₂}
+use mathlib.Core.Bool.{_&&_}
+use Rattle.laws.specs.Machine.{asked₂}
 use Rattle.lattice.proofs.records.valid_at.Statement.{statement}
-use Rattle.lattice.specs.Records.{within}
+use Rattle.lattice.specs.Records.{within, suitsOf}
 use Rattle.lattice.specs.Points.{normalAt}
+use Rattle.lattice.specs.RecordLaws.{and-fails, and-passes}
 use Rattle.lattice.proofs.records.valid_at.Tie as tie
 
 is-normal-requires : tie.Need-is-normal-requires
@@ -26,55 +28,34 @@ returns-2 c =
 in-range-requires : tie.Need-in-range-requires
 in-range-requires c κs = search needs
 
-a-tested : (c : tie.After-in-range) → within (c .before .before .before .before .args .a) (c .before .before .before .before .args .m) ≡ c .in-range .result
-a-tested c = let s = c .before .before .before .before in asked (λ z. within z (s .args .m)) (s .fits .a) (c .in-range .ensures)
+ranges-tested : (c : tie.After-in-range) → let s = c .before .before .before .before in
+    within (s .args .a) (s .args .m) && within (s .args .b) (s .args .m) ≡ c .in-range .result
+ranges-tested c =
+    let s = c .before .before .before .before in
+    asked₂ (λ x y. within x (s .args .m) && within y (s .args .m)) (s .fits .a) (s .fits .b) (c .in-range .ensures)
 
 returns-3 : tie.Need-returns-3
 returns-3 c =
     let q = c .before in
     let e = q .before in
     let p = e .before .before in
-    simp (normal-tested p ∙ not-false _ (e .before .if1 .left), le-leb (p .before .args .m) 6 (e .if2 .left), a-tested q ∙ not-true _ (c .if3 .taken))
-
-in-range-requires-2 : tie.Need-in-range-requires-2
-in-range-requires-2 c κs = search needs
-
-b-tested : (c : tie.After-in-range2) → within (c .before .before .before .before .before .before .args .b)
-    (c .before .before .before .before .before .before .args .m) ≡ c .in-range2 .result
-b-tested c = let s = c .before .before .before .before .before .before in asked (λ z. within z (s .args .m)) (s .fits .b) (c .in-range2 .ensures)
-
-returns-4 : tie.Need-returns-4
-returns-4 c =
-    let r = c .before in
-    let q = r .before .before in
-    let e = q .before in
-    let p = e .before .before in
-    simp (
-      normal-tested p ∙ not-false _ (e .before .if1 .left),
-      le-leb (p .before .args .m) 6 (e .if2 .left),
-      a-tested q
-          ∙ not-false _ (r .before .if3 .left),
-      b-tested r ∙ not-true _ (c .if4 .taken),
-    )
+    let a = p .before .args in
+    simp (normal-tested p ∙ not-false _ (e .before .if1 .left), le-leb (a .m) 6 (e .if2 .left))
+    (and-fails (within (a .a) (a .m)) (within (a .b) (a .m)) (suitsOf (a .d) (a .k) (a .n)) (ranges-tested q ∙ not-true _ (c .if3 .taken)))
 
 suits-requires : tie.Need-suits-requires
 suits-requires c κs = search needs
 
-returns-5 : tie.Need-returns-5
-returns-5 c =
+returns-4 : tie.Need-returns-4
+returns-4 c =
     let o = c .before in
-    let r = o .before in
-    let q = r .before .before in
+    let q = o .before in
     let e = q .before in
     let p = e .before .before in
+    let a = p .before .args in
     c .suits .ensures
-    ∙ simp (
-      normal-tested p ∙ not-false _ (e .before .if1 .left),
-      le-leb (p .before .args .m) 6 (e .if2 .left),
-      a-tested q
-          ∙ not-false _ (r .before .if3 .left),
-      b-tested r ∙ not-false _ (o .if4 .left),
-    )
+    ∙ simp (normal-tested p ∙ not-false _ (e .before .if1 .left), le-leb (a .m) 6 (e .if2 .left))
+    (and-passes (within (a .a) (a .m)) (within (a .b) (a .m)) (suitsOf (a .d) (a .k) (a .n)) (ranges-tested q ∙ not-false _ (o .if3 .left)))
 
 pub valid-at-spec : {M : Type 1} → statement M
-valid-at-spec = tie.close (tie.spec is-normal-requires returns returns-2 in-range-requires returns-3 in-range-requires-2 returns-4 suits-requires returns-5)
+valid-at-spec = tie.close (tie.spec is-normal-requires returns returns-2 in-range-requires returns-3 suits-requires returns-4)

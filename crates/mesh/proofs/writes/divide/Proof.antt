@@ -14,6 +14,7 @@ use Rattle.mesh.proofs.writes.divide.Statement.{statement}
 use Rattle.mesh.specs.WriteLaws.{Renewable, whole-renewable, ready-turn, renewed-table}
 use Rattle.mesh.specs.CallLaws.{centre-inner, subdivided-is}
 use Rattle.mesh.specs.Subdivide.{renewedTo, enteredTo}
+use Rattle.mesh.specs.Points.{pointsOf}
 use Rattle.mesh.proofs.writes.divide.Tie as tie
 
 -- the table with the centre replaced
@@ -22,7 +23,7 @@ centred : (c : tie.After-replace)
 centred c = c .replace .ensures ∙ ap (replaceOf (c .before .before .before .before .args .t .now)) (c .before .before .centre .ensures)
 
 centre-requires : tie.Need-centre-requires
-centre-requires c κs = let s = c .before in let r = s .pre .1 .ready in let b = r .below in (ready-turn r, omega arith)
+centre-requires c κs = let s = c .before in let r = s .pre .1 .0 .ready in let b = r .below in (ready-turn r, omega arith)
 
 replace-requires : tie.Need-replace-requires
 replace-requires c κs = search needs
@@ -35,7 +36,7 @@ renew-all-requires c κs =
     let v = s .args .v in
     let e = sym (centred w) in (
       subst (λ (u : List ℕ). Table u (s .args .n)) e (replace-table t (centreOf v) (s .args .n) (s .pre .0)),
-      subst (λ (u : List ℕ). Renewable u v) e (whole-renewable (s .pre .1)),
+      (subst (λ (u : List ℕ). Renewable u v) e (whole-renewable (s .pre .1 .0)), s .pre .1 .1 .0),
     )
 
 -- and the old adjacent vertices after it
@@ -56,10 +57,10 @@ enter-all-requires c κs =
     let s = w .before .before .before .before in
     let t = s .args .t .now in
     let v = s .args .v in
-    let r = s .pre .1 .ready in (
+    let r = s .pre .1 .0 .ready in (
       subst (λ (u : List ℕ). Table u (s .args .n)) (sym (renewed-all x))
           (renewed-table (replaceOf t (centreOf v)) v 6 (s .args .n) (replace-table t (centreOf v) (s .args .n) (s .pre .0))),
-      subst (λ (y : Record). Inner y × (y .d ≡ 6)) (sym (w .before .before .centre .ensures)) (centre-inner t v r, r .six),
+      subst (λ (y : Record). Inner y × ((y .d ≡ 6) × (s .args .new ≡ pointsOf y))) (sym (w .before .before .centre .ensures)) (centre-inner t v r, (r .six, s .pre .1 .1 .1)),
     )
 
 same-length : tie.Need-same-length

@@ -10,25 +10,30 @@ use Rattle.table.specs.Slots.{Table}
 use Rattle.mesh.proofs.writes.renew_all.Statement.{statement}
 use Rattle.mesh.specs.WriteLaws.{renewed-more, renewed-none, renewed-length, renewed-table}
 use Rattle.mesh.specs.Subdivide.{renewOf, renewedTo}
+use Rattle.mesh.specs.Points.{points-at}
 use Rattle.mesh.proofs.writes.renew_all.Tie as tie
 
 abbrev Inv-loop : tie.InvT-loop
-Inv-loop t₀ v n j₀ t j = (j ≤ 6) × (t ≡ renewedTo t₀ v j)
+Inv-loop t₀ v n old j₀ t j = (j ≤ 6) × (t ≡ renewedTo t₀ v j)
 
 abbrev μ-loop : tie.MeasureT-loop
-μ-loop t₀ v n j₀ t j = 6 - j
+μ-loop t₀ v n old j₀ t j = 6 - j
 
 loop-holds : tie.Need-loop-holds Inv-loop μ-loop
 loop-holds c = (search needs, renewed-none _ _)
 
 renew-requires : tie.Need-renew-requires Inv-loop μ-loop
 renew-requires c κs =
-    let l = c .before .before in
+    let h = c .before .before .loop-test .taken in
+    let l = c .before .before .before in
     let s = l .before .before in
-    let r = s .pre .1 in
+    let r = s .pre .1 .0 in
     let e = l .loop .inv .1 in (
       subst (λ (u : List ℕ). Table u (s .args .n)) (sym e) (renewed-table (s .args .t .now) (s .args .v) (l .loop .j) (s .args .n) (s .pre .0)),
-      (subst InOrder (sym e) (r .order (l .loop .j) (l .loop .inv .0)), (r .inner, (r .six, search needs))),
+      (
+        subst InOrder (sym e) (r .order (l .loop .j) (l .loop .inv .0)),
+        (r .inner, (r .six, (h, points-at (s .args .v) (l .loop .j) (s .pre .1 .1) h))),
+      ),
     )
 
 add-j : tie.Need-add-j Inv-loop μ-loop
@@ -40,7 +45,7 @@ loop-less c = search needs
 loop-again : tie.Need-loop-again Inv-loop μ-loop
 loop-again c =
     let w = c .before .before in
-    let l = w .before .before .before in
+    let l = w .before .before .before .before in
     let s = l .before .before in (
       search needs,
       w .renew .ensures
@@ -61,6 +66,9 @@ renew-all-spec =
     Inv-loop
     μ-loop
     loop-holds
+    (λ c. search needs)
+    (λ c. search needs)
+    (λ c. search needs)
     renew-requires
     add-j
     loop-less

@@ -8,7 +8,7 @@ use mir.Facts.{toZ-ofZ}
 use mir.Syntax.{w32}
 use mir.Val.{SFits}
 use Rattle.laws.specs.Signs.{same-bits}
-use Rattle.writers.specs.Files.{earlier}
+use Rattle.text.specs.LineOrder.{earlier}
 use Rattle.readers.proofs.lines.is_earlier.Statement.{statement}
 use Rattle.readers.proofs.lines.is_earlier.Tie as tie
 

@@ -49,9 +49,8 @@ returns-4 c =
     let e = c .before .before in
     let z = e .before .before in
     let r = z .before in (
-      e .enter-line .ensures .0
-          ∙ step-high (q (s r)) (s r .args .table .now) (s r .args .line) (metAt (s r .args .file .now) (s r .args .at) (s r .args .line)) _ _ _
-          (good r) (sym (r .rises .ensures) ∙ not-false _ (z .if1 .left)),
+      e .enter-line .ensures .0 ∙ step-high (q (s r)) (s r .args .table .now) (s r .args .line)
+          (metAt (s r .args .file .now) (s r .args .at) (s r .args .line)) _ _ _ (good r) (sym (r .rises .ensures) ∙ not-false _ (z .if1 .left)),
       e .enter-line .ensures .1,
     )
 

@@ -24,7 +24,10 @@ star-keeps-requires c κs =
     let o = s .pre .0 in
     let v = h .v .given .0 .0 in (
       subst (Table t) (sym (s .pre .1 .0)) (o .fits),
-      (six-inner v (o .valid (s .args .i) v (omega (arith, s .pre .1)) (holds h)) (c .if1 .taken), c .if1 .taken),
+      (
+        six-inner v (o .valid (s .args .i) v (omega (arith, s .pre .1)) (holds h)) (c .if1 .taken),
+        c .if1 .taken,
+      ),
     )
 
 returns : tie.Need-returns

@@ -66,8 +66,7 @@ restore-star-requires c κs =
     let g = c .before .before in
     let k = l (p g) in (
       table-same (t₀ (p g)) (k .loop .table) (s (p g) .args .n) (k .loop .inv .long) (s (p g) .pre),
-      line-read (f (p g)) (k .loop .at) (next g) (v g)
-          (good g) .0,
+      line-read (f (p g)) (k .loop .at) (next g) (v g) (good g) .0,
     )
 
 -- past its star

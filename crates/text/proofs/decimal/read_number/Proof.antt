@@ -108,7 +108,9 @@ loop-again c =
     (scan-goes t (s .args .at) (s .args .most) i v (l .loop .inv) (d .before .before .before .loop-test .taken) (met d) small)
 
 returns-4 : tie.Need-returns-4 Inv-loop μ-loop
-returns-4 c = let l = c .before in let s = l .before .before in
+returns-4 c =
+    let l = c .before in
+    let s = l .before .before in
     scan-lacks (s .args .t .now) (s .args .at) (s .args .most) (l .loop .i) (l .loop .v) (l .loop .inv) (s .args .stop) (c .loop-test .left)
 
 pub read-number-spec : {M : Type 1} → statement M

@@ -1,33 +1,38 @@
-use borrow.Author.Needs.{needs}
+-- `text::decimal::write_number` meets its contract: written back from where it ends. Assumes nothing.
+use mathlib.Core.Path.{_≡_, subst}
 use mathlib.Core.List.{[], _∷_}
-use Prim.Native.Nat.{_+_, _≤_}
+use Prim.Native.Nat.{ℕ, _+_}
 use native.Mathlib.Omega.{arith}
 use lib.ListN.{length, length-append}
-use Rattle.laws.specs.Stores.{wrote-then, wrote-byte}
-use Rattle.text.specs.Decimal.{digits}
+use borrow.Author.Needs.{needs}
+use Rattle.laws.specs.Stores.{Wrote}
+use Rattle.text.specs.Decimal.{digits, ended}
 use Rattle.text.proofs.decimal.write_number.Statement.{statement}
 use Rattle.text.proofs.decimal.write_number.Tie as tie
 
--- there is room for the digits and one byte more
-room : (c : tie.Start) → c .args .at + length (digits (c .args .n)) + 1 ≤ length (c .args .out .now)
-room c = omega (arith, length-append (digits (c .args .n)) (c .args .stop ∷ []))
+-- how long the number and its end are
+long : (c : tie.After-width) → length (ended (digits (c .before .before .args .n)) (c .before .before .args .stop)) ≡ c .width .result + 1
+long c = let s = c .before .before in omega (arith, length-append (digits (s .args .n)) (s .args .stop ∷ []), c .width .ensures .0)
 
-write-digits-requires : tie.Need-write-digits-requires
-write-digits-requires c κs = omega (arith, room (c .before .before))
+add-end : tie.Need-add-end
+add-end c = omega (arith, long c, c .before .before .pre)
 
-slice-write-out : tie.Need-slice-write-out
-slice-write-out c = let w = c .before .before in omega (arith, w .write-digits .ensures .past, w .write-digits .kept .0, room (w .before .before .before))
+add-end-2 : tie.Need-add-end-2
+add-end-2 c = omega (arith, long c, c .before .before .pre)
 
-add-result : tie.Need-add-result
-add-result c = let w = c .before .before in omega (arith, w .write-digits .ensures .past, room (w .before .before .before))
-
-same-length : tie.Need-same-length
-same-length c = search needs
+number-back-requires : tie.Need-number-back-requires
+number-back-requires c κs =
+    let w = c .before in
+    (omega (arith, long w), omega (arith, long w, w .before .before .pre))
 
 returns : tie.Need-returns
 returns c =
-    let w = c .before .before in
-    wrote-then (w .write-digits .ensures) (wrote-byte (w .write-digits .last .0) (w .write-digits .result) (w .before .before .before .args .stop))
+    let b = c .before .before in
+    let w = b .before .before in
+    let a = w .before .before .args in
+    let e : b .number-back .result ≡ a .at = omega (arith, long w, b .number-back .ensures .past) in
+    subst (λ (p : ℕ). Wrote (a .out .now) p (ended (digits (a .n)) (a .stop)) (b .number-back .last .0) (a .at + w .width .result + 1)) e
+    (b .number-back .ensures)
 
 pub write-number-spec : {M : Type 1} → statement M
-write-number-spec = tie.close (tie.spec write-digits-requires slice-write-out add-result same-length returns)
+write-number-spec = tie.close (tie.spec (λ c κs. search needs) add-end add-end-2 number-back-requires (λ c. search needs) returns)

@@ -38,8 +38,7 @@ returns c =
       w₂ .width2 .ensures .0,
       w₃ .width3 .ensures .0,
       c .width4 .ensures .0,
-      line-long
-          (a .before .before .before .args .r),
+      line-long (a .before .before .before .args .r),
     )
 
 pub line-length-spec : {M : Type 1} → statement M

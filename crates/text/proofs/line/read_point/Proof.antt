@@ -19,14 +19,12 @@ use Rattle.text.proofs.line.read_point.Statement.{statement}
 use Rattle.text.proofs.line.read_point.Tie as tie
 
 -- what the fields' readers found
-a-read : (c : tie.After-a)
-    → (let r = c .before .before in let s = r .before .before in signedAt (s .args .t .now) (s .args .at) far tab
+a-read : (c : tie.After-a) → (let r = c .before .before in let s = r .before .before in signedAt (s .args .t .now) (s .args .at) far tab
     ≡ Whole (c .a .given .0 .0) (c .a .given .0 .1 .0))
 a-read c = let r = c .before .before in sym (r .read-signed .ensures) ∙ c .a .given .1
 
-b-read : (c : tie.After-b)
-    → (let r = c .before .before in let a = r .before .before in
-    signedAt (a .before .before .before .before .args .t .now) (a .a .given .0 .1 .0) far tab ≡ Whole (c .b .given .0 .0) (c .b .given .0 .1 .0))
+b-read : (c : tie.After-b) → (let r = c .before .before in let a = r .before .before in signedAt (a .before .before .before .before .args .t .now)
+    (a .a .given .0 .1 .0) far tab ≡ Whole (c .b .given .0 .0) (c .b .given .0 .1 .0))
 b-read c = let r = c .before .before in sym (r .read-signed2 .ensures) ∙ c .b .given .1
 
 m-read : (c : tie.After-m) → (let r = c .before .before in let b = r .before .before in let a = b .before .before .before .before in

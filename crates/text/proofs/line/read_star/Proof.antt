@@ -12,13 +12,12 @@ use Rattle.text.proofs.line.read_star.Statement.{statement}
 use Rattle.text.proofs.line.read_star.Tie as tie
 
 -- what the fields' readers found
-d-read : (c : tie.After-d)
-    → (let s = c .before .before .before .before in numberAt (s .args .t .now) (s .args .at) near tab ≡ Natural (c .d .given .0 .0) (c .d .given .0 .1 .0))
+d-read : (c : tie.After-d) → (let s = c .before .before .before .before in numberAt (s .args .t .now) (s .args .at) near tab
+    ≡ Natural (c .d .given .0 .0) (c .d .given .0 .1 .0))
 d-read c = let r = c .before .before in sym (r .read-number .ensures) ∙ c .d .given .1
 
-k-read : (c : tie.After-k)
-    → (let d = c .before .before .before .before in numberAt (d .before .before .before .before .args .t .now) (d .d .given .0 .1 .0) near tab
-    ≡ Natural (c .k .given .0 .0) (c .k .given .0 .1 .0))
+k-read : (c : tie.After-k) → (let d = c .before .before .before .before in numberAt (d .before .before .before .before .args .t .now)
+    (d .d .given .0 .1 .0) near tab ≡ Natural (c .k .given .0 .0) (c .k .given .0 .1 .0))
 k-read c = let r = c .before .before in sym (r .read-number2 .ensures) ∙ c .k .given .1
 
 n-read : (c : tie.After-n) → (let k = c .before .before .before .before in let d = k .before .before .before .before in

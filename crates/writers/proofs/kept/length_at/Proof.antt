@@ -28,10 +28,8 @@ returns-2 c =
     let i = s .args .i in
     let r = h .r .given .0 .0 in
     let e = sym (f .kept .ensures) ∙ h .r .given .1 in (
-      c .line-length .ensures
-          ∙ written-one (keptAt t m i) r e,
-      subst (λ (x : ℕ). x ≤ longest) (sym (c .line-length .ensures))
-          (line-most r (kept-valid t (s .pre .0) m i r (s .pre .1) e)),
+      c .line-length .ensures ∙ written-one (keptAt t m i) r e,
+      subst (λ (x : ℕ). x ≤ longest) (sym (c .line-length .ensures)) (line-most r (kept-valid t (s .pre .0) m i r (s .pre .1) e)),
     )
 
 pub length-at-spec : {M : Type 1} → statement M

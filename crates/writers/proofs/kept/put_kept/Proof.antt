@@ -6,7 +6,7 @@ use lib.ListN.{length}
 use borrow.Author.Needs.{needs}
 use Rattle.table.specs.declared.slots.Slot.{Slot}
 use Rattle.table.specs.declared.slots.Slot.the-variants.{Holds}
-use Rattle.writers.specs.Keys.{Put}
+use Rattle.sorting.specs.Keys.{Put}
 use Rattle.writers.specs.Kept.{keptAt, keyed, Added}
 use Rattle.writers.specs.KeptLaws.{slot-room, kept-close}
 use Rattle.writers.proofs.kept.put_kept.Statement.{statement}

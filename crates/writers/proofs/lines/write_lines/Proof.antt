@@ -10,18 +10,15 @@ use Rattle.laws.specs.Stores.{Wrote}
 use Rattle.lattice.specs.declared.records.Record.{Record}
 use Rattle.text.specs.Line.{lineOf}
 use Rattle.table.specs.Slots.{slotWidth}
-use Rattle.writers.specs.Tally.{nth}
-use Rattle.writers.specs.Heaps.{Heap}
-use Rattle.writers.specs.Keys.{places, keyIn}
-use Rattle.writers.specs.Kept.{recordOf}
-use Rattle.writers.specs.LeftLaws.{ordered, Ready, Left, ordered-rising, ordered-file, ordered-inside, ordered-few, left-start, left-room}
-use Rattle.writers.specs.LeftLaws.{left-top, left-place, left-step, left-end}
+use Rattle.sorting.specs.Tally.{nth}
+use Rattle.writers.specs.Kept.{places, recordOf}
+use Rattle.writers.specs.LeftLaws.{ordered, Ready, Left, ordered-file, ordered-inside, left-start, left-room, left-top, left-place, left-step, left-end}
 use Rattle.writers.proofs.lines.write_lines.Statement.{statement}
 use Rattle.writers.proofs.lines.write_lines.Tie as tie
 
 abbrev Inv-loop : tie.InvT-loop
-Inv-loop table out₀ k total left₀ at₀ out left at = (length out ≡ length out₀)
-    × ((m : List ℕ) → Ready table m out₀ k total → Left table (ordered table m) (drop total out₀) out left at)
+Inv-loop table out₀ k total left₀ at₀ out left at =
+    (length out ≡ length out₀) × ((m : List ℕ) → Ready table m out₀ k total → Left table (ordered table m) (drop total out₀) out left at)
 
 abbrev μ-loop : tie.MeasureT-loop
 μ-loop table out₀ k total left₀ at₀ out left at = left
@@ -31,21 +28,18 @@ loop-holds c =
     let s = c .before .before in
     (refl, λ m r. left-start (s .args .table .now) (s .pre .0) m (s .args .out .now) (s .args .k) (s .args .total) r)
 
-pop-requires : tie.Need-pop-requires Inv-loop μ-loop
-pop-requires c κs =
+key-requires : tie.Need-key-requires Inv-loop μ-loop
+key-requires c κs =
     let l = c .before .before in
     let s = l .before .before .before in
     let t = s .args .table .now in
     let m = s .pre .1 .0 in
     let v = l .loop .inv .1 m (s .pre .1 .1) in
-    let e : l .loop .left ≡ l .loop .left - 1 + 1 = omega arith in
-    let room = left-room t (ordered t m) (drop (s .args .total) (s .args .out .now)) (l .loop .out) (l .loop .left) (l .loop .at) v in (
-      (omega (arith, room, v .room), omega (arith, v .count, ordered-few t (s .pre .0) m)),
-      subst (Heap (keyIn (l .loop .out)) 0) e (v .heap),
-    )
+    let room = left-room t (ordered t m) (drop (s .args .total) (s .args .out .now)) (l .loop .out) (l .loop .left) (l .loop .at) v in
+    omega (arith, room, v .room)
 
--- one key taken: what is left, its record and its line
-module _ (c : tie.After-pop Inv-loop μ-loop) where
+-- one key read: its record and its line
+module _ (c : tie.After-key Inv-loop μ-loop) where
   abbrev l : tie.At-loop Inv-loop μ-loop
   l = c .before .before .before
 
@@ -65,18 +59,17 @@ module _ (c : tie.After-pop Inv-loop μ-loop) where
     one : Left t (ordered t m) rest (l .loop .out) (k + 1) (l .loop .at)
     one = let e : l .loop .left ≡ k + 1 = omega arith in subst (λ (x : ℕ). Left t (ordered t m) rest (l .loop .out) x (l .loop .at)) e (l .loop .inv .1 m r)
 
-    top : c .pop .result ≡ nth (ordered t m) k
-    top = c .pop .ensures .0 ∙ left-top t (ordered t m) rest (l .loop .out) k (l .loop .at) (ordered-rising t m) one
+    top : c .key .result ≡ nth (ordered t m) k
+    top = c .key .ensures ∙ left-top t (ordered t m) rest (l .loop .out) k (l .loop .at) one
 
     abbrev rec : Record
     rec = recordOf t (nth (ordered t m) k)
 
     place : length (lineOf rec) ≤ l .loop .at
-    place = omega (arith, left-place t (ordered t m) rest (l .loop .out) k (l .loop .at) (ordered-rising t m) one)
+    place = omega (arith, left-place t (ordered t m) rest (l .loop .out) k (l .loop .at) one)
 
 record-of-requires : tie.Need-record-of-requires Inv-loop μ-loop
-record-of-requires c κs =
-    let p = c .before .before in
+record-of-requires p κs =
     let m = s p .pre .1 .0 in
     let r = s p .pre .1 .1 in
     subst (λ (v : ℕ). slotWidth * (v % places) + slotWidth ≤ length (t p)) (sym (top p m r))
@@ -84,8 +77,8 @@ record-of-requires c κs =
 
 -- the record of the key, and its line's length
 module _ (c : tie.After-record-of Inv-loop μ-loop) where
-  abbrev p : tie.After-pop Inv-loop μ-loop
-  p = c .before .before .before
+  abbrev p : tie.After-key Inv-loop μ-loop
+  p = c .before
 
   module _ (m : List ℕ) (r : Ready (t p) m (s p .args .out .now) (s p .args .k) (s p .args .total)) where
     is : c .record-of .result ≡ rec p m r
@@ -94,38 +87,27 @@ module _ (c : tie.After-record-of Inv-loop μ-loop) where
     long : length (lineOf (c .record-of .result)) ≡ length (lineOf (rec p m r))
     long = ap (λ (x : Record). length (lineOf x)) is
 
-sub-at : tie.Need-sub-at Inv-loop μ-loop
-sub-at c =
+write-line-back-requires : tie.Need-write-line-back-requires Inv-loop μ-loop
+write-line-back-requires c κs =
     let q = c .before in
     let m = s (p q) .pre .1 .0 in
     let r = s (p q) .pre .1 .1 in
-    omega (arith, c .line-length .ensures, long q m r, place (p q) m r)
-
-write-line-requires : tie.Need-write-line-requires Inv-loop μ-loop
-write-line-requires c κs =
-    let n = c .before in
-    let q = n .before in
-    let m = s (p q) .pre .1 .0 in
-    let r = s (p q) .pre .1 .1 in
-    omega (arith, n .line-length .ensures, long q m r, place (p q) m r, p q .pop .ensures .1 .long, one (p q) m r .room)
+    (omega (arith, long q m r, place (p q) m r), one (p q) m r .room)
 
 loop-again : tie.Need-loop-again Inv-loop μ-loop
 loop-again c =
     let x = c .before .before in
-    let n = x .before .before in
-    let q = n .before in
-    let o₁ = p q .pop .last .0 in
-    let o₂ = x .write-line .last .0 in
+    let q = x .before .before in
+    let o₁ = l (p q) .loop .out in
+    let o₂ = x .write-line-back .last .0 in
     let at = l (p q) .loop .at in
-    let at′ = at - n .line-length .result in (
-      ap length (x .write-line .ensures .bytes) ∙ length-sets o₁ at′ (lineOf (q .record-of .result)) ∙ p q .pop .ensures .1 .long ∙ l (p q) .loop .inv .0,
+    let at′ = x .write-line-back .result in (
+      ap length (x .write-line-back .ensures .bytes) ∙ length-sets o₁ at′ (lineOf (q .record-of .result)) ∙ l (p q) .loop .inv .0,
       λ m r.
-          let w = n .line-length .ensures in
           let e = long q m r in
-          let fit = place (p q) m r in
-          left-step (t (p q)) (ordered (t (p q)) m) (rest (p q)) (l (p q) .loop .out) (k (p q)) at (ordered-rising (t (p q)) m)
-          (one (p q) m r) o₁ o₂ at′ (x .write-line .result) (p q .pop .ensures .1) (omega arith)
-          (subst (λ (y : Record). Wrote o₁ at′ (lineOf y) o₂ (x .write-line .result)) (is q m r) (x .write-line .ensures)),
+          let w = x .write-line-back .ensures .past in
+          left-step (t (p q)) (ordered (t (p q)) m) (rest (p q)) o₁ (k (p q)) at (one (p q) m r) o₂ at′ at (omega arith)
+          (subst (λ (y : Record). Wrote o₁ at′ (lineOf y) o₂ at) (is q m r) (x .write-line-back .ensures)),
     )
 
 same-length : tie.Need-same-length Inv-loop μ-loop
@@ -150,11 +132,9 @@ write-lines-spec =
     μ-loop
     loop-holds
     (λ c. search needs)
-    pop-requires
+    key-requires
     record-of-requires
-    (λ c κs. search needs)
-    sub-at
-    write-line-requires
+    write-line-back-requires
     (λ c. search needs)
     loop-again
     same-length
