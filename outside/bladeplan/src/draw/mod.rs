@@ -1,0 +1,18 @@
+//! `draw`: a plan as a drawing.
+
+use crate::trouble::Outcome;
+use crate::words::{Command, Words};
+
+pub const COMMAND: Command = Command {
+    name: "draw",
+    about: "draw a plan for the report",
+    help: "usage: bladeplan draw PLAN [-o FILE]\n",
+    flags: &["--html"],
+    valued: &["--output", "--findings", "--over"],
+    takes: 1..=1,
+    run,
+};
+
+fn run(_words: &Words) -> Outcome<()> {
+    Ok(())
+}

@@ -1,0 +1,151 @@
+//! A plan loaded: the table that a reader or a base gave, and its records in file order; all neighbours, all faces, the counts.
+
+use crate::counts::Counts;
+use crate::files;
+use crate::place::Place;
+use crate::sizes;
+use crate::trouble::{Outcome, Trouble};
+use flaskbloom::{normalise, Point, Record, Refusal, RefusedAt, Table};
+use std::ffi::OsStr;
+
+/// The bytes that settle what a reader says of a file: no line that passes is longer than 26, and line 65,537 finds no slot. So a reader
+/// given these first bytes of a longer file answers as for the whole.
+const LIMIT: u64 = (sizes::LARGEST as u64 + 1) * 26;
+
+/// Which reader accepts the file. Both do where nothing can be left out of it; then both give the same mesh.
+#[derive(Clone, Copy, PartialEq, Eq, Debug)]
+pub enum Kind {
+    Full,
+    Reduced,
+    Both,
+}
+
+/// A face: its four corners, counter-clockwise.
+pub type Face = [Point; 4];
+
+pub struct Plan {
+    /// The file's name, for messages and titles.
+    pub name: String,
+    pub kind: Kind,
+    /// The lines of the file it came from.
+    pub lines: usize,
+    pub table: Table,
+    records: Vec<Record>,
+}
+
+impl Plan {
+    /// The plan of a file, full or reduced; `-` is standard input.
+    pub fn load(path: &OsStr) -> Outcome<Plan> {
+        Plan::read(&files::shown(path), &files::read(path, LIMIT)?)
+    }
+
+    /// The plan of these bytes; where both readers refuse them, both refusals.
+    pub fn read(name: &str, file: &[u8]) -> Outcome<Plan> {
+        let lines = file.iter().filter(|byte| **byte == b'\n').count();
+        let full = sizes::growing(lines, |slots| Table::read_full(slots, file));
+        let reduced = sizes::growing(lines, |slots| Table::read_reduced(slots, file));
+        let (table, kind) = match (full, reduced) {
+            (Ok(table), Ok(_)) => (table, Kind::Both),
+            (Ok(table), Err(_)) => (table, Kind::Full),
+            (Err(_), Ok(table)) => (table, Kind::Reduced),
+            (Err(full), Err(reduced)) => return Err(no_plan(name, full, reduced)),
+        };
+        Ok(Plan { lines, ..Plan::of(name, kind, table) })
+    }
+
+    /// The plan in a table.
+    pub fn of(name: &str, kind: Kind, table: Table) -> Plan {
+        let mut records: Vec<Record> = table.records().collect();
+        records.sort_unstable_by_key(|r| order(r.point));
+        Plan { name: name.to_string(), kind, lines: records.len(), table, records }
+    }
+
+    /// Every vertex, in file order: by m, then a, then b.
+    pub fn records(&self) -> &[Record] {
+        &self.records
+    }
+
+    /// The place in file order of the vertex at a point, spelled in any way.
+    pub fn place(&self, p: Point) -> Option<usize> {
+        self.records.binary_search_by_key(&order(normalise(p)), |r| order(r.point)).ok()
+    }
+
+    /// The vertex at a point, spelled in any way.
+    pub fn vertex(&self, p: Point) -> Option<Record> {
+        self.place(p).map(|at| self.records[at])
+    }
+
+    /// The neighbours of every vertex, in file order, each in star order; none at the rim.
+    pub fn neighbours_all(&self) -> Outcome<Vec<Vec<Point>>> {
+        self.all(|p| self.table.neighbours(p).map(|list| list.to_vec()))
+    }
+
+    /// The faces round every vertex, in file order, each counter-clockwise from it; none at the rim. A face stands at each of its inner
+    /// corners: `faces` has it once.
+    pub fn faces_all(&self) -> Outcome<Vec<Vec<Face>>> {
+        self.all(|p| self.table.faces(p))
+    }
+
+    /// Every face once, from the first vertex in file order that has it.
+    pub fn faces(&self) -> Outcome<Vec<Face>> {
+        let mut named: Vec<([(u8, i32, i32); 4], Face)> = Vec::new();
+        for face in self.faces_all()?.into_iter().flatten() {
+            named.push((from_least(face), face));
+        }
+        named.sort_by_key(|(name, _)| *name); // stable: of equal names the first stays
+        named.dedup_by_key(|(name, _)| *name);
+        Ok(named.into_iter().map(|(_, face)| face).collect())
+    }
+
+    /// V, E, F and the vertices by degree.
+    pub fn counts(&self) -> Outcome<Counts> {
+        Counts::of(self)
+    }
+
+    /// The full file.
+    pub fn full(&self) -> Outcome<Vec<u8>> {
+        self.table.write_full().map_err(|refusal| self.refused(refusal))
+    }
+
+    /// The reduced file.
+    pub fn reduced(&self) -> Outcome<Vec<u8>> {
+        self.table.write_reduced().map_err(|refusal| self.refused(refusal))
+    }
+
+    fn refused(&self, refusal: Refusal) -> Trouble {
+        Trouble::Refused { place: Place::File(self.name.clone()), refusal }
+    }
+
+    /// A query of every vertex that has a star. One by one: each call tests the whole table.
+    fn all<T>(&self, query: impl Fn(Point) -> Result<Vec<T>, Refusal>) -> Outcome<Vec<Vec<T>>> {
+        let ask = |r: &Record| match query(r.point) {
+            Err(Refusal::DegreeZero) => Ok(Vec::new()),
+            answer => answer.map_err(|refusal| Trouble::Refused { place: Place::Point(self.name.clone(), r.point), refusal }),
+        };
+        self.records.iter().map(ask).collect()
+    }
+}
+
+/// Where a point stands in a file.
+pub fn order(p: Point) -> (u8, i32, i32) {
+    (p.m, p.a, p.b)
+}
+
+/// A face's name: its corners in file order's terms, from the least one round.
+fn from_least(face: Face) -> [(u8, i32, i32); 4] {
+    let mut name = face.map(order);
+    let least = (0..4).min_by_key(|at| name[*at]).unwrap_or(0);
+    name.rotate_left(least);
+    name
+}
+
+fn no_plan(name: &str, full: RefusedAt, reduced: RefusedAt) -> Trouble {
+    if full != reduced {
+        return Trouble::NoPlan { name: name.to_string(), full, reduced };
+    }
+    let place = match full.at {
+        0 => Place::File(name.to_string()),
+        line => Place::Line(name.to_string(), line),
+    };
+    Trouble::Refused { place, refusal: full.refusal }
+}
