@@ -41,7 +41,7 @@ fn run(mut words: impl Iterator<Item = OsString>) -> Outcome<()> {
     };
     let words = Words::parse(command, words)?;
     if words.has("--help") {
-        return files::write(None, command.help.as_bytes());
+        return files::write(None, command.help_text().as_bytes());
     }
     (command.run)(&words)
 }

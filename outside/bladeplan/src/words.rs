@@ -1,65 +1,80 @@
-//! The words of a command line: options and the rest. Any bytes may come; `--` ends the options; `-1,0` is a point, not an option.
+//! The words of a command line: options and the rest. Any bytes may come; `--` ends the options; `-1,0` is a point and `-` a file.
 
 use crate::trouble::{Outcome, Trouble};
 use std::ffi::{OsStr, OsString};
 use std::ops::RangeInclusive;
+use std::os::unix::ffi::OsStrExt;
 
 /// A subcommand: what it takes, what `--help` says, what it does.
 pub struct Command {
     pub name: &'static str,
+    /// The words it takes, as `--help` shows them.
+    pub usage: &'static str,
     /// One line for the list of all commands.
     pub about: &'static str,
+    /// What `--help` says below the usage; an example in it.
     pub help: &'static str,
-    /// Options without a value, and with one, as they are typed; `--help` and `--quiet` are every command's.
+    /// Options without a value, and with one, by their long names; `--help` and `--quiet` are every command's.
     pub flags: &'static [&'static str],
     pub valued: &'static [&'static str],
-    /// How many words it takes besides.
+    /// How many words it takes besides options.
     pub takes: RangeInclusive<usize>,
     pub run: fn(&Words) -> Outcome<()>,
 }
 
+impl Command {
+    pub fn help_text(&self) -> String {
+        format!("usage: bladeplan {} {}\n\n{}", self.name, self.usage, self.help)
+    }
+
+    /// The command line is wrong, and how.
+    pub fn wrong(&self, how: &str) -> Trouble {
+        Trouble::Usage(format!("{}: {how}; usage: bladeplan {} {} (--help tells more)", self.name, self.name, self.usage))
+    }
+}
+
 /// What was given: the words, and the options with their values.
-#[derive(Default, Debug)]
+#[derive(Default)]
 pub struct Words {
     pub plain: Vec<OsString>,
     options: Vec<(&'static str, OsString)>,
 }
 
 impl Words {
-    pub fn parse(command: &Command, words: impl Iterator<Item = OsString>) -> Outcome<Words> {
+    pub fn parse(command: &Command, mut rest: impl Iterator<Item = OsString>) -> Outcome<Words> {
         let mut given = Words::default();
-        let mut rest = words;
         while let Some(word) = rest.next() {
-            match option(&word) {
-                Some("--") => given.plain.extend(rest.by_ref()),
-                Some(name) => given.option(command, name, &mut rest)?,
-                None => given.plain.push(word),
+            match word.as_bytes() {
+                b"--" => given.plain.extend(rest.by_ref()),
+                [b'-', second, ..] if !second.is_ascii_digit() => given.option(command, &word, &mut rest)?,
+                _ => given.plain.push(word),
             }
         }
-        if !command.takes.contains(&given.plain.len()) && !given.has("--help") {
-            return Err(wrong(command, &format!("{} words given", given.plain.len())));
+        if given.has("--help") {
+            return Ok(given);
+        }
+        if !command.takes.contains(&given.plain.len()) {
+            return Err(command.wrong(if given.plain.is_empty() { "something is missing" } else { "too few words, or too many" }));
+        }
+        let inputs = given.options.iter().filter(|(name, _)| *name != "--output").map(|(_, value)| value);
+        if given.plain.iter().chain(inputs).filter(|word| *word == "-").count() > 1 {
+            return Err(command.wrong("standard input can be read only once"));
         }
         Ok(given)
     }
 
-    fn option(&mut self, command: &Command, typed: &str, rest: &mut impl Iterator<Item = OsString>) -> Outcome<()> {
-        let (name, joined) = match typed.split_once('=') {
-            Some((name, value)) if name.starts_with("--") => (name, Some(OsString::from(value))),
-            _ => (typed, None),
-        };
-        let name = long(name);
-        let common = ["--help", "--quiet"];
-        if let Some(flag) = common.iter().chain(command.flags).find(|flag| **flag == name) {
-            if joined.is_some() {
-                return Err(wrong(command, &format!("{flag} takes no value")));
-            }
+    fn option(&mut self, command: &Command, word: &OsStr, rest: &mut impl Iterator<Item = OsString>) -> Outcome<()> {
+        let (typed, joined) = parted(word);
+        let name = long(&typed);
+        let is_it = |known: &&&'static str| **known == name;
+        if let Some(flag) = ["--help", "--quiet"].iter().chain(command.flags).find(is_it) {
             self.options.push((flag, OsString::new()));
-            return Ok(());
+            return if joined.is_some() { Err(command.wrong(&format!("{typed} takes no value"))) } else { Ok(()) };
         }
-        let Some(valued) = command.valued.iter().find(|valued| **valued == name) else {
-            return Err(wrong(command, &format!("no option {typed}")));
+        let Some(valued) = command.valued.iter().find(is_it) else {
+            return Err(command.wrong(&format!("no option {typed}")));
         };
-        let value = joined.or_else(|| rest.next()).ok_or_else(|| wrong(command, &format!("{typed} needs a value")))?;
+        let value = joined.or_else(|| rest.next()).ok_or_else(|| command.wrong(&format!("{typed} needs a value")))?;
         self.options.push((valued, value));
         Ok(())
     }
@@ -83,19 +98,17 @@ impl Words {
     }
 }
 
-/// A word that is an option, as text; one that is no text is shown as well as may be, and is then none of ours.
-fn option(word: &OsStr) -> Option<&str> {
-    let text = match word.to_str() {
-        Some(text) => text,
-        None if word.as_encoded_bytes().starts_with(b"--") => "--?",
-        None => return None,
+/// An option's name, and the value joined to it: `--name=value`, `-xvalue`.
+fn parted(word: &OsStr) -> (String, Option<OsString>) {
+    let bytes = word.as_bytes();
+    let (name, value) = match bytes.starts_with(b"--") {
+        true => match bytes.iter().position(|byte| *byte == b'=') {
+            Some(at) => (&bytes[..at], Some(&bytes[at + 1..])),
+            None => (bytes, None),
+        },
+        false => (&bytes[..2], Some(&bytes[2..]).filter(|value| !value.is_empty())),
     };
-    let after = text.strip_prefix('-')?;
-    match after.chars().next() {
-        None => None,
-        Some(first) if first.is_ascii_digit() => None,
-        Some(_) => Some(text),
-    }
+    (String::from_utf8_lossy(name).into_owned(), value.map(|value| OsStr::from_bytes(value).to_os_string()))
 }
 
 fn long(name: &str) -> &str {
@@ -105,8 +118,4 @@ fn long(name: &str) -> &str {
         "-o" => "--output",
         other => other,
     }
-}
-
-pub fn wrong(command: &Command, how: &str) -> Trouble {
-    Trouble::Usage(format!("{}: {how}; 'bladeplan {} --help' shows what it takes", command.name, command.name))
 }

@@ -6,8 +6,9 @@ use crate::words::{Command, Words};
 
 pub const COMMAND: Command = Command {
     name: "check",
+    usage: "PLAN [-o FILE]",
     about: "say what kind of file a plan is, and count it",
-    help: "usage: bladeplan check PLAN\n",
+    help: "",
     flags: &[],
     valued: &["--output"],
     takes: 1..=1,

@@ -5,8 +5,9 @@ use crate::words::{Command, Words};
 
 pub const COMMAND: Command = Command {
     name: "draw",
+    usage: "PLAN [--html] [--findings FILE] [--over OLD] [-o FILE]",
     about: "draw a plan for the report",
-    help: "usage: bladeplan draw PLAN [-o FILE]\n",
+    help: "",
     flags: &["--html"],
     valued: &["--output", "--findings", "--over"],
     takes: 1..=1,
