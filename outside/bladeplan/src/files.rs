@@ -1,16 +1,21 @@
 //! Bytes in and out: a file or standard input read up to a limit; standard output, or a file written beside and renamed.
 
 use crate::trouble::{Outcome, Trouble};
-use std::ffi::{OsStr, OsString};
+use std::ffi::OsStr;
 use std::fs::{self, File, OpenOptions};
 use std::io::{self, Read, Write};
+use std::os::unix::fs::{fchown, MetadataExt};
 use std::path::{Path, PathBuf};
+
+/// How many files of runs that were killed may lie about under the name of this one.
+const LEFT_BEHIND: u32 = 100;
 
 /// A file's name as messages show it.
 pub fn shown(path: &OsStr) -> String {
-    match path == "-" {
-        true => "standard input".to_string(),
-        false => path.to_string_lossy().into_owned(),
+    match path.to_string_lossy().as_ref() {
+        "-" => "standard input".to_string(),
+        "" => "a file without a name".to_string(),
+        name => name.to_string(),
     }
 }
 
@@ -40,7 +45,8 @@ fn standard_output(bytes: &[u8]) -> io::Result<()> {
 
 /// One line on standard error; where even that fails there is no one left to tell.
 pub fn say(line: &str) {
-    let _ = writeln!(io::stderr(), "bladeplan: {line}");
+    let plain: String = line.chars().map(|c| if c.is_control() { '?' } else { c }).collect();
+    let _ = io::stderr().write_all(format!("bladeplan: {plain}\n").as_bytes());
 }
 
 /// A file takes these bytes by a rename, so that it is the old one or the new one at any moment. A link stays, its target changes; what
@@ -51,27 +57,34 @@ fn replace(path: &Path, bytes: &[u8]) -> io::Result<()> {
     if old.as_ref().is_some_and(|old| !old.is_file()) {
         return OpenOptions::new().write(true).open(&target)?.write_all(bytes);
     }
-    let beside = beside(&target)?;
-    let made = fill(&beside, bytes, old.map(|old| old.permissions())).and_then(|()| fs::rename(&beside, &target));
+    let (beside, file) = beside(&target)?;
+    let made = fill(file, bytes, old).and_then(|()| fs::rename(&beside, &target));
     if made.is_err() {
         let _ = fs::remove_file(&beside);
     }
     made
 }
 
-/// A name in the same directory, hidden, that no other run of ours has.
-fn beside(target: &Path) -> io::Result<PathBuf> {
-    let name = target.file_name().ok_or(io::Error::from(io::ErrorKind::InvalidInput))?;
-    let mut hidden = OsString::from(".");
-    hidden.push(name);
-    hidden.push(format!(".{}", std::process::id()));
-    Ok(target.with_file_name(hidden))
+/// A new file in the same directory, under a hidden name of this run.
+fn beside(target: &Path) -> io::Result<(PathBuf, File)> {
+    if target.file_name().is_none() {
+        return Err(io::ErrorKind::InvalidInput.into());
+    }
+    let mut tried = 0;
+    loop {
+        let path = target.with_file_name(format!(".bladeplan-{}-{tried}", std::process::id()));
+        match OpenOptions::new().write(true).create_new(true).open(&path) {
+            Err(error) if error.kind() == io::ErrorKind::AlreadyExists && tried < LEFT_BEHIND => tried += 1,
+            made => return made.map(|file| (path, file)),
+        }
+    }
 }
 
-fn fill(beside: &Path, bytes: &[u8], permissions: Option<fs::Permissions>) -> io::Result<()> {
-    let mut file = OpenOptions::new().write(true).create_new(true).open(beside)?;
-    if let Some(permissions) = permissions {
-        file.set_permissions(permissions)?;
+/// Writes the whole file, for the owner and with the rights of the one that it replaces.
+fn fill(mut file: File, bytes: &[u8], old: Option<fs::Metadata>) -> io::Result<()> {
+    if let Some(old) = old {
+        let _ = fchown(&file, Some(old.uid()), Some(old.gid())); // only root may
+        file.set_permissions(old.permissions())?;
     }
     file.write_all(bytes)?;
     file.sync_all()

@@ -1,4 +1,4 @@
-//! Lists that people write: a text of lines, in which empty lines and those that begin with `#` say nothing. A line is known by its number.
+//! Lists that people write: a text of lines, of which empty ones and those that begin with `#` say nothing. A line is known by its number.
 
 use crate::files;
 use crate::place::Place;
@@ -13,7 +13,7 @@ const LIMIT: u64 = 16 << 20;
 pub struct List {
     pub name: String,
     /// The lines that say something, each with its number; the first line is 1.
-    pub lines: Vec<(u64, String)>,
+    lines: Vec<(u64, String)>,
 }
 
 impl List {
@@ -22,19 +22,22 @@ impl List {
         let name = files::shown(path);
         let bytes = files::read(path, LIMIT + 1)?;
         if bytes.len() as u64 > LIMIT {
-            return Err(Trouble::file(&name, io::Error::other("a list of over 16 MiB")));
+            return Err(Trouble::file(&name, io::Error::other("longer than 16 MiB, so no list")));
         }
-        Ok(List::of(&name, &bytes))
+        let text = String::from_utf8_lossy(&bytes);
+        let numbered = text.lines().enumerate().map(|(at, line)| (at as u64 + 1, line.to_string()));
+        let lines = numbered.filter(|(_, line)| !line.trim().is_empty() && !line.starts_with('#')).collect();
+        Ok(List { name, lines })
     }
 
-    pub fn of(name: &str, bytes: &[u8]) -> List {
-        let text = String::from_utf8_lossy(bytes);
-        let numbered = text.lines().enumerate().map(|(at, line)| (at as u64 + 1, line.trim_end().to_string()));
-        List { name: name.to_string(), lines: numbered.filter(|(_, line)| !line.is_empty() && !line.starts_with('#')).collect() }
+    /// Each line as what it should be; 9 at the first that is not.
+    pub fn parsed<T>(&self, parse: fn(&str) -> Option<T>) -> Outcome<Vec<T>> {
+        let malformed = |line: u64| Trouble::refused(Place::in_file(&self.name, line), Refusal::BadLine);
+        self.lines.iter().map(|(number, line)| parse(line).ok_or_else(|| malformed(*number))).collect()
     }
 
-    /// A line that is not what it should be: 9, as in a plan's file.
-    pub fn malformed(&self, line: u64) -> Trouble {
-        Trouble::Refused { place: Place::Line(self.name.clone(), line), refusal: Refusal::BadLine }
+    /// The number of the line of the item at a place, counted from 0; 0 where there is none.
+    pub fn line(&self, place: u64) -> u64 {
+        usize::try_from(place).ok().and_then(|place| self.lines.get(place)).map_or(0, |(number, _)| *number)
     }
 }

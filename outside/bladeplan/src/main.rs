@@ -1,6 +1,7 @@
 //! bladeplan: blade plans at the command line. Thin over the proved library: every answer about a plan comes from one of its calls.
 
 mod commands;
+mod counted;
 mod counts;
 mod draw;
 mod files;
@@ -29,28 +30,27 @@ fn main() -> ExitCode {
     }
 }
 
+/// Runs one command line: the command's name, and its words.
 fn run(mut words: impl Iterator<Item = OsString>) -> Outcome<()> {
     let Some(name) = words.next() else {
-        return Err(Trouble::Usage(overview()));
+        return Err(Trouble::Usage("no command is given; 'bladeplan --help' lists them".to_string()));
     };
-    if ["help", "--help", "-h"].iter().any(|help| name == *help) {
-        return files::write(None, overview().as_bytes());
+    match name.to_str() {
+        Some("--help" | "-h" | "help") => return files::write(None, overview().as_bytes()),
+        Some("--version") => return files::write(None, concat!("bladeplan ", env!("CARGO_PKG_VERSION"), "\n").as_bytes()),
+        _ => {}
     }
     let Some(command) = commands::ALL.iter().find(|command| name == command.name) else {
         return Err(Trouble::Usage(format!("no command {}; 'bladeplan --help' lists them", name.to_string_lossy())));
     };
     let words = Words::parse(command, words)?;
-    if words.has("--help") {
-        return files::write(None, command.help_text().as_bytes());
+    match words.has("--help") {
+        true => files::write(None, command.help_text().as_bytes()),
+        false => (command.run)(&words),
     }
-    (command.run)(&words)
 }
 
 fn overview() -> String {
-    let mut text = String::from("usage: bladeplan COMMAND ..\n\n");
-    for command in commands::ALL {
-        text.push_str(&format!("  {:12}{}\n", command.name, command.about));
-    }
-    text.push_str("\n'bladeplan COMMAND --help' shows what a command takes, with an example.\n");
-    text
+    let commands: String = commands::ALL.iter().map(|command| format!("  {:12}{}\n", command.name, command.about)).collect();
+    format!("usage: bladeplan COMMAND WORDS..\n\n{commands}\n{}", include_str!("overview.txt"))
 }

@@ -1,4 +1,4 @@
-//! Where a refusal happened: a file, a line of it, a point asked for.
+//! Where a refusal happened: a file, a line of it, a point of a plan, a word of the command line.
 
 use crate::points::spelled;
 use flaskbloom::Point;
@@ -8,11 +8,21 @@ use std::fmt;
 pub enum Place {
     File(String),
     Line(String, u64),
+    /// A point as it was spelled, and the plan it was asked of.
     Point(String, Point),
-    /// A point of a list that is a file of its own: the plan, the point, the list's line.
-    Listed(String, Point, String, u64),
-    /// Something of the command line, as it was given.
+    /// The same, from a line of a list.
+    Listed(String, Point, Box<Place>),
     Word(String),
+}
+
+impl Place {
+    /// A line of a file; 0 where no line is at fault.
+    pub fn in_file(name: &str, line: u64) -> Place {
+        match line {
+            0 => Place::File(name.to_string()),
+            line => Place::Line(name.to_string(), line),
+        }
+    }
 }
 
 impl fmt::Display for Place {
@@ -21,7 +31,7 @@ impl fmt::Display for Place {
             Place::File(name) => f.write_str(name),
             Place::Line(name, line) => write!(f, "{name}, line {line}"),
             Place::Point(name, p) => write!(f, "{name}, point {}", spelled(*p)),
-            Place::Listed(name, p, list, line) => write!(f, "{name}, point {} ({list}, line {line})", spelled(*p)),
+            Place::Listed(name, p, line) => write!(f, "{name}, point {} ({line})", spelled(*p)),
             Place::Word(word) => f.write_str(word),
         }
     }

@@ -8,15 +8,23 @@ use crate::trouble::{Outcome, Trouble};
 use flaskbloom::{normalise, Point, Record, Refusal, RefusedAt, Table};
 use std::ffi::OsStr;
 
-/// The bytes that settle what a reader says of a file: no line that passes is longer than 26, and line 65,537 finds no slot. So a reader
-/// given these first bytes of a longer file answers as for the whole.
-const LIMIT: u64 = (sizes::LARGEST as u64 + 1) * 26;
+/// The longest line that a reader passes.
+const LONGEST_LINE: u64 = 26;
+/// The bytes that settle what a reader says of a file: line 65,537 finds no slot, whatever follows. So a reader given these first bytes of
+/// a longer file answers as for the whole.
+const LIMIT: u64 = (sizes::LARGEST as u64 + 1) * LONGEST_LINE;
 
-/// Which reader accepts the file. Both do where nothing can be left out of it; then both give the same mesh.
+/// How many vertices a subdivision enters.
+const NEW_VERTICES: usize = 6;
+
+/// Which reader accepts the file, and what the other one says of it. Both accept it where nothing can be left out; then both give the
+/// same mesh (docs/DECISIONS.md says why).
 #[derive(Clone, Copy, PartialEq, Eq, Debug)]
 pub enum Kind {
-    Full,
-    Reduced,
+    /// A full file; the reduced reader's refusal.
+    Full(Refusal),
+    /// A reduced file; the full reader's refusal.
+    Reduced(Refusal),
     Both,
 }
 
@@ -46,18 +54,13 @@ impl Plan {
         let reduced = sizes::growing(lines, |slots| Table::read_reduced(slots, file));
         let (table, kind) = match (full, reduced) {
             (Ok(table), Ok(_)) => (table, Kind::Both),
-            (Ok(table), Err(_)) => (table, Kind::Full),
-            (Err(_), Ok(table)) => (table, Kind::Reduced),
-            (Err(full), Err(reduced)) => return Err(no_plan(name, full, reduced)),
+            (Ok(table), Err(refused)) => (table, Kind::Full(refused.refusal)),
+            (Err(refused), Ok(table)) => (table, Kind::Reduced(refused.refusal)),
+            (Err(full), Err(reduced)) => return Err(Trouble::NoPlan { name: name.to_string(), full, reduced }),
         };
-        Ok(Plan { lines, ..Plan::of(name, kind, table) })
-    }
-
-    /// The plan in a table.
-    pub fn of(name: &str, kind: Kind, table: Table) -> Plan {
         let mut records: Vec<Record> = table.records().collect();
         records.sort_unstable_by_key(|r| order(r.point));
-        Plan { name: name.to_string(), kind, lines: records.len(), table, records }
+        Ok(Plan { name: name.to_string(), kind, lines, table, records })
     }
 
     /// Every vertex, in file order: by m, then a, then b.
@@ -97,6 +100,20 @@ impl Plan {
         Ok(named.into_iter().map(|(_, face)| face).collect())
     }
 
+    /// The full file of this plan subdivided at these points in turn, in a table with room for it; refused, how many were made.
+    pub fn subdivided(&self, points: &[Point]) -> Outcome<Result<Vec<u8>, RefusedAt>> {
+        let file = self.full()?;
+        let most = self.records.len().saturating_add(points.len().saturating_mul(NEW_VERTICES));
+        let table = sizes::growing(most, |slots| {
+            let mut table = Table::read_full(slots, &file)?;
+            table.subdivide_all(points).map(|()| table)
+        });
+        Ok(match table {
+            Ok(table) => Ok(table.write_full().map_err(|refusal| self.refused(refusal))?),
+            Err(refused) => Err(refused),
+        })
+    }
+
     /// V, E, F and the vertices by degree.
     pub fn counts(&self) -> Outcome<Counts> {
         Counts::of(self)
@@ -113,14 +130,14 @@ impl Plan {
     }
 
     fn refused(&self, refusal: Refusal) -> Trouble {
-        Trouble::Refused { place: Place::File(self.name.clone()), refusal }
+        Trouble::refused(Place::File(self.name.clone()), refusal)
     }
 
     /// A query of every vertex that has a star. One by one: each call tests the whole table.
     fn all<T>(&self, query: impl Fn(Point) -> Result<Vec<T>, Refusal>) -> Outcome<Vec<Vec<T>>> {
         let ask = |r: &Record| match query(r.point) {
             Err(Refusal::DegreeZero) => Ok(Vec::new()),
-            answer => answer.map_err(|refusal| Trouble::Refused { place: Place::Point(self.name.clone(), r.point), refusal }),
+            answer => answer.map_err(|refusal| Trouble::refused(Place::Point(self.name.clone(), r.point), refusal)),
         };
         self.records.iter().map(ask).collect()
     }
@@ -137,15 +154,4 @@ fn from_least(face: Face) -> [(u8, i32, i32); 4] {
     let least = (0..4).min_by_key(|at| name[*at]).unwrap_or(0);
     name.rotate_left(least);
     name
-}
-
-fn no_plan(name: &str, full: RefusedAt, reduced: RefusedAt) -> Trouble {
-    if full != reduced {
-        return Trouble::NoPlan { name: name.to_string(), full, reduced };
-    }
-    let place = match full.at {
-        0 => Place::File(name.to_string()),
-        line => Place::Line(name.to_string(), line),
-    };
-    Trouble::Refused { place, refusal: full.refusal }
 }

@@ -19,13 +19,14 @@ pub enum Trouble {
     File { name: String, error: io::Error },
     /// The library refused.
     Refused { place: Place, refusal: Refusal },
-    /// No plan: what each of the two readers says of the file, where they differ.
+    /// No plan: what each of the two readers says of the file.
     NoPlan { name: String, full: RefusedAt, reduced: RefusedAt },
     /// Whoever read our standard output has gone: nothing is left to say.
     ClosedPipe,
 }
 
 impl Trouble {
+    /// Where the two readers differ, the reduced one saw further: the full one says 11 of whatever is not complete.
     pub fn status(&self) -> u8 {
         match self {
             Trouble::Usage(_) => USAGE,
@@ -41,28 +42,43 @@ impl Trouble {
             _ => Trouble::File { name: name.to_string(), error },
         }
     }
+
+    pub fn refused(place: Place, refusal: Refusal) -> Trouble {
+        Trouble::Refused { place, refusal }
+    }
 }
 
 impl fmt::Display for Trouble {
     fn fmt(&self, f: &mut fmt::Formatter) -> fmt::Result {
         match self {
             Trouble::Usage(text) => f.write_str(text),
-            Trouble::File { name, error } => write!(f, "{name}: {error}"),
+            Trouble::File { name, error } => write!(f, "{name}: {}", reason(error)),
             Trouble::Refused { place, refusal } => write!(f, "{place}: {}", told(*refusal)),
-            Trouble::NoPlan { name, full, reduced } => {
-                write!(f, "{name}: no full file: {}; no reduced file: {}", told(full.refusal), told(reduced.refusal))
+            Trouble::NoPlan { name, full, reduced } if full == reduced => {
+                let place = Place::in_file(name, full.at);
+                write!(f, "{place}: neither a full file nor a reduced one, {}", told(full.refusal))
             }
-            Trouble::ClosedPipe => f.write_str("standard output is closed"),
+            Trouble::NoPlan { name, full, reduced } => {
+                write!(f, "{name}: not a full file, {}; not a reduced file, {}", told(full.refusal), told(reduced.refusal))
+            }
+            Trouble::ClosedPipe => f.write_str("the reader of the output has gone"),
         }
     }
 }
 
-fn told(refusal: Refusal) -> String {
+/// The system's words, without its number.
+fn reason(error: &io::Error) -> String {
+    let text = error.to_string();
+    text.split(" (os error").next().unwrap_or(&text).to_string()
+}
+
+/// A refusal's number and words.
+pub fn told(refusal: Refusal) -> String {
     format!("refused with {}: {}", refusal.number(), words(refusal))
 }
 
 /// The words of the README's table.
-pub fn words(refusal: Refusal) -> &'static str {
+fn words(refusal: Refusal) -> &'static str {
     match refusal {
         Refusal::NotInOrder => {
             "these bytes are no table in order: a length that doesn't fit, or damage. \
@@ -90,35 +106,17 @@ pub fn words(refusal: Refusal) -> &'static str {
 #[cfg(test)]
 mod tests {
     use super::*;
+    use Refusal::*;
+
+    const SOME: [Refusal; 7] = [NotInOrder, BadCentre, NoRecord, NotDegreeSix, LevelTwelve, TooDeep, Torn];
+    const OTHERS: [Refusal; 7] = [TooFewSlots, BadLine, NotAbove, NotGrown, RedundantKept, OutputShort, DegreeZero];
 
     #[test]
-    fn words_are_the_readme_s() {
+    fn the_words_are_the_readme_s() {
         let readme = include_str!("../../../README.md");
-        for number in 1..=14 {
-            let refusal = refusal_of(number);
-            let row = format!("| {number} | {} |\n", words(refusal));
+        for refusal in SOME.into_iter().chain(OTHERS) {
+            let row = format!("| {} | {} |\n", refusal.number(), words(refusal));
             assert!(readme.contains(&row), "the README's table has no row {row}");
         }
-    }
-
-    fn refusal_of(number: u8) -> Refusal {
-        use Refusal::*;
-        let all = [
-            NotInOrder,
-            BadCentre,
-            NoRecord,
-            NotDegreeSix,
-            LevelTwelve,
-            TooDeep,
-            Torn,
-            TooFewSlots,
-            BadLine,
-            NotAbove,
-            NotGrown,
-            RedundantKept,
-            OutputShort,
-            DegreeZero,
-        ];
-        all[number as usize - 1]
     }
 }

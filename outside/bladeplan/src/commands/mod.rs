@@ -1,8 +1,27 @@
-//! The subcommands, each in its own file.
+//! The subcommands, in the order of the work.
 
-mod check;
+mod compare;
+mod convert;
+mod count;
+mod lattice;
+mod lay;
+mod queries;
+mod subdivide;
 
 use crate::draw;
 use crate::words::Command;
 
-pub const ALL: &[&Command] = &[&check::COMMAND, &draw::COMMAND];
+pub const ALL: &[&Command] = &[
+    &lay::COMMAND,
+    &subdivide::COMMAND,
+    &queries::NEIGHBOURS,
+    &queries::FACES,
+    &lattice::NORMALISE,
+    &lattice::STAR,
+    &convert::REDUCE,
+    &convert::RESTORE,
+    &count::CENSUS,
+    &count::CHECK,
+    &compare::COMMAND,
+    &draw::COMMAND,
+];
