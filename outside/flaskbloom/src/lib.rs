@@ -13,7 +13,7 @@
 //!
 //! `Table` owns its slots; `Refusal` is document 01's numbers; `normalise` and `star` need no mesh; `census` is the program's text.
 //! Every call but `normalise`, `star` and the reading of fields first tests the whole table, in time linear in its slots: to subdivide
-//! many points use `subdivide_all`, which tests it once.
+//! many points use `subdivide_all`, which tests it once; to ask of many, `neighbours_all`, `opposites_all` and `faces_all`.
 
 pub mod raw;
 pub mod slices;
@@ -151,13 +151,23 @@ impl std::ops::Deref for Points {
     }
 }
 
-fn points((number, flat): (u8, slices::Points)) -> Result<Points, Refusal> {
+/// What a query answers: the points, or why not.
+pub type Answer = Result<Points, Refusal>;
+
+fn points((number, flat): (u8, slices::Points)) -> Answer {
     Refusal::of(number)?;
     let mut list = [Point::new(0, 0, 0); 6];
     for (p, at) in list.iter_mut().zip(flat[1..].chunks_exact(3)) {
         *p = Point::new(at[0], at[1], at[2] as u8);
     }
     Ok(Points { count: flat[0] as usize, list })
+}
+
+/// The faces round a vertex: itself, adjacent j, opposite j, the next adjacent.
+fn around(p: Point, adjacent: &[Point], opposite: &[Point]) -> Vec<[Point; 4]> {
+    let here = normalise(p);
+    let next = |j: usize| adjacent[(j + 1) % adjacent.len()];
+    (0..adjacent.len()).map(|j| [here, adjacent[j], opposite[j], next(j)]).collect()
 }
 
 /// The normalised spelling of a point.
@@ -167,7 +177,7 @@ pub fn normalise(p: Point) -> Point {
 }
 
 /// The adjacent points of a record, without any mesh.
-pub fn star(r: Record) -> Result<Points, Refusal> {
+pub fn star(r: Record) -> Answer {
     points(slices::star(r.point.a, r.point.b, r.point.m, r.degree, r.orientation, r.level))
 }
 
@@ -249,22 +259,42 @@ impl Table {
     }
 
     /// The adjacent vertices, counter-clockwise.
-    pub fn neighbours(&self, p: Point) -> Result<Points, Refusal> {
+    pub fn neighbours(&self, p: Point) -> Answer {
         points(slices::neighbours(&self.bytes, p.a, p.b, p.m))
     }
 
     /// The far vertex of the face at each corner: corner j lies between neighbour j and the next.
-    pub fn opposites(&self, p: Point) -> Result<Points, Refusal> {
+    pub fn opposites(&self, p: Point) -> Answer {
         points(slices::faces(&self.bytes, p.a, p.b, p.m))
     }
 
     /// The faces round a vertex, each counter-clockwise from it.
     pub fn faces(&self, p: Point) -> Result<Vec<[Point; 4]>, Refusal> {
         let opposite = self.opposites(p)?;
-        let adjacent = self.neighbours(p)?;
-        let here = normalise(p);
-        let next = |j: usize| adjacent[(j + 1) % adjacent.len()];
-        Ok((0..adjacent.len()).map(|j| [here, adjacent[j], opposite[j], next(j)]).collect())
+        Ok(around(p, &self.neighbours(p)?, &opposite))
+    }
+
+    /// What `neighbours` answers for each point, with one test of the table; refused is only a table that is not in order.
+    pub fn neighbours_all(&self, list: &[Point]) -> Result<Vec<Answer>, Refusal> {
+        self.answers(list, Table::neighbours)
+    }
+
+    /// What `opposites` answers for each point, with one test of the table; refused is only a table that is not in order.
+    pub fn opposites_all(&self, list: &[Point]) -> Result<Vec<Answer>, Refusal> {
+        self.answers(list, Table::opposites)
+    }
+
+    /// What `faces` answers for each point, with two tests of the table; refused is only a table that is not in order.
+    pub fn faces_all(&self, list: &[Point]) -> Result<Vec<Result<Vec<[Point; 4]>, Refusal>>, Refusal> {
+        let (adjacent, opposite) = (self.neighbours_all(list)?, self.opposites_all(list)?);
+        Ok(list.iter().zip(adjacent.into_iter().zip(opposite)).map(|(p, (u, o))| Ok(around(*p, &u?, &o?))).collect())
+    }
+
+    fn answers(&self, list: &[Point], ask: fn(&Table, Point) -> Answer) -> Result<Vec<Answer>, Refusal> {
+        match ask(self, Point::new(0, 0, 0)) {
+            Err(Refusal::NotInOrder) => Err(Refusal::NotInOrder),
+            _ => Ok(list.iter().map(|p| ask(self, *p)).collect()),
+        }
     }
 
     /// The full file.
