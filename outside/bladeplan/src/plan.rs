@@ -80,13 +80,15 @@ impl Plan {
 
     /// The neighbours of every vertex, in file order, each in star order; none at the rim.
     pub fn neighbours_all(&self) -> Outcome<Vec<Vec<Point>>> {
-        self.all(|p| self.table.neighbours(p).map(|list| list.to_vec()))
+        let answers = self.table.neighbours_all(&self.points()).map_err(|refusal| self.refused(refusal))?;
+        self.answered(answers.into_iter().map(|answer| answer.map(|list| list.to_vec())))
     }
 
     /// The faces round every vertex, in file order, each counter-clockwise from it; none at the rim. A face stands at each of its inner
     /// corners: `faces` has it once.
     pub fn faces_all(&self) -> Outcome<Vec<Vec<Face>>> {
-        self.all(|p| self.table.faces(p))
+        let answers = self.table.faces_all(&self.points()).map_err(|refusal| self.refused(refusal))?;
+        self.answered(answers.into_iter())
     }
 
     /// Every face once, from the first vertex in file order that has it.
@@ -133,13 +135,17 @@ impl Plan {
         Trouble::refused(Place::File(self.name.clone()), refusal)
     }
 
-    /// A query of every vertex that has a star. One by one: each call tests the whole table.
-    fn all<T>(&self, query: impl Fn(Point) -> Result<Vec<T>, Refusal>) -> Outcome<Vec<Vec<T>>> {
-        let ask = |r: &Record| match query(r.point) {
+    fn points(&self) -> Vec<Point> {
+        self.records.iter().map(|r| r.point).collect()
+    }
+
+    /// The answers for all vertices; one at the rim, which has no star, has nothing round it.
+    fn answered<T>(&self, answers: impl Iterator<Item = Result<Vec<T>, Refusal>>) -> Outcome<Vec<Vec<T>>> {
+        let one = |(r, answer): (&Record, Result<Vec<T>, Refusal>)| match answer {
             Err(Refusal::DegreeZero) => Ok(Vec::new()),
             answer => answer.map_err(|refusal| Trouble::refused(Place::Point(self.name.clone(), r.point), refusal)),
         };
-        self.records.iter().map(ask).collect()
+        self.records.iter().zip(answers).map(one).collect()
     }
 }
 

@@ -3,6 +3,7 @@
 mod compare;
 mod convert;
 mod count;
+mod example;
 mod lattice;
 mod lay;
 mod queries;
@@ -24,4 +25,5 @@ pub const ALL: &[&Command] = &[
     &count::CHECK,
     &compare::COMMAND,
     &draw::COMMAND,
+    &example::COMMAND,
 ];
