@@ -8,6 +8,8 @@ use std::io;
 
 pub const USAGE: u8 = 64;
 pub const FILES: u8 = 74;
+/// The number that the user's paper has for a malformed line of findings.
+pub const FINDINGS: u8 = 15;
 
 pub type Outcome<T> = Result<T, Trouble>;
 
@@ -21,6 +23,8 @@ pub enum Trouble {
     Refused { place: Place, refusal: Refusal },
     /// No plan: what each of the two readers says of the file.
     NoPlan { name: String, full: RefusedAt, reduced: RefusedAt },
+    /// A line of a list of findings is none, counted from 1.
+    BadFinding { name: String, line: usize },
     /// Whoever read our standard output has gone: nothing is left to say.
     ClosedPipe,
 }
@@ -33,6 +37,7 @@ impl Trouble {
             Trouble::File { .. } | Trouble::ClosedPipe => FILES,
             Trouble::Refused { refusal, .. } => refusal.number(),
             Trouble::NoPlan { reduced, .. } => reduced.refusal.number(),
+            Trouble::BadFinding { .. } => FINDINGS,
         }
     }
 
@@ -61,6 +66,7 @@ impl fmt::Display for Trouble {
             Trouble::NoPlan { name, full, reduced } => {
                 write!(f, "{name}: not a full file, {}; not a reduced file, {}", told(full.refusal), told(reduced.refusal))
             }
+            Trouble::BadFinding { name, line } => write!(f, "{name}, line {line}: refused with {FINDINGS}: no line of a list of findings"),
             Trouble::ClosedPipe => f.write_str("the reader of the output has gone"),
         }
     }

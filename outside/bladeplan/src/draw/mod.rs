@@ -1,19 +1,136 @@
-//! `draw`: a plan as a drawing.
+//! `draw`: a plan as a sheet for the report, or as a page to look about in. Everything about the plan comes from the library's calls; here
+//! it is only put on paper.
 
-use crate::trouble::Outcome;
+mod callouts;
+mod caption;
+mod findings;
+mod geometry;
+mod html;
+mod ink;
+mod layers;
+mod legend;
+mod marks;
+mod numbers;
+mod older;
+mod page;
+mod paths;
+mod svg;
+mod text;
+
+use crate::counts::Counts;
+use crate::files;
+use crate::plan::Plan;
+use crate::trouble::{Outcome, Trouble};
 use crate::words::{Command, Words};
+use findings::Joined;
+use geometry::Bounds;
+use layers::Layer;
+use older::Older;
+use std::ffi::OsStr;
+use std::io;
 
 pub const COMMAND: Command = Command {
     name: "draw",
-    usage: "PLAN [--html] [--findings FILE] [--over OLD] [-o FILE]",
-    about: "draw a plan for the report",
-    help: "",
+    usage: "PLAN [--html] [--findings FILE] [--over OLD] [--title TEXT] [-o FILE] [--quiet]",
+    about: "draw a plan for the report: a sheet (SVG), or a page to look about in (HTML)",
+    help: HELP,
     flags: &["--html"],
-    valued: &["--output", "--findings", "--over"],
+    valued: &["--output", "--findings", "--over", "--title"],
     takes: 1..=1,
     run,
 };
 
-fn run(_words: &Words) -> Outcome<()> {
+const HELP: &str = "\
+Draws a plan, a full or a reduced file or '-', on an A4 sheet: an SVG file, which browsers, word processors and drawing programs open.
+
+  --html           one page for a browser instead: zoom with the wheel, move by dragging, the findings in a list beside the plan
+  --findings FILE  marks findings; a line is number TAB a TAB b TAB m TAB note. Those with no vertex are listed in the caption
+  --over OLD       draws an older plan under this one, and shows what is new
+  --title TEXT     the title; without it the file's name
+
+example: this autumn's plan over last spring's, with the inspectors' findings
+  bladeplan draw autumn.full --over spring.full --findings pits.txt --html -o autumn.html
+";
+
+/// The longest list of findings that is read.
+const LONGEST: u64 = 64 << 20;
+
+/// A list of findings, joined to the plan.
+pub struct Findings {
+    pub name: String,
+    pub joined: Joined,
+}
+
+/// All that is drawn.
+pub struct Drawing<'a> {
+    pub title: String,
+    pub plan: &'a Plan,
+    pub counts: Counts,
+    pub layers: Vec<Layer>,
+    pub older: Option<Older>,
+    pub findings: Option<Findings>,
+}
+
+impl Drawing<'_> {
+    pub fn of<'a>(plan: &'a Plan, older: Option<&OsStr>, findings: Option<Findings>, title: String) -> Outcome<Drawing<'a>> {
+        let faces = plan.faces()?;
+        let older = older.map(|path| Older::under(plan, &faces, Plan::load(path)?, named(path))).transpose()?;
+        let layers = layers::layers(plan, &faces, |at| older.as_ref().is_some_and(|older| older.is_new(at)));
+        Ok(Drawing { title, plan, counts: plan.counts()?, layers, older, findings })
+    }
+
+    /// The faces of a level, new ones and others.
+    pub fn at_level(&self, level: u8) -> usize {
+        self.layers.iter().filter(|layer| layer.level == level).map(|layer| layer.count).sum()
+    }
+
+    /// The box round both plans.
+    pub fn bounds(&self) -> Bounds {
+        let older = self.older.iter().flat_map(|older| older.plan.records());
+        Bounds::of(self.plan.records().iter().chain(older).map(|record| record.point))
+    }
+}
+
+fn run(words: &Words) -> Outcome<()> {
+    let plan = Plan::load(&words.plain[0])?;
+    let findings = words.value("--findings").map(|path| load(&plan, path)).transpose()?;
+    let title = match words.value("--title") {
+        Some(title) => text::shown(title.as_encoded_bytes()),
+        None => named(&words.plain[0]),
+    };
+    let drawing = Drawing::of(&plan, words.value("--over"), findings, title)?;
+    let page = if words.has("--html") { html::html(&drawing) } else { svg::svg(&drawing) };
+    files::write(words.output(), page.as_bytes())?;
+    if !words.quiet() {
+        told(&drawing).iter().for_each(|line| files::say(line));
+    }
     Ok(())
+}
+
+/// The last part of a file's name, as the sheet shows it.
+fn named(path: &OsStr) -> String {
+    let name = std::path::Path::new(path).file_name().filter(|_| path != "-");
+    name.map_or("standard input".to_string(), |name| text::shown(name.as_encoded_bytes()))
+}
+
+fn load(plan: &Plan, path: &OsStr) -> Outcome<Findings> {
+    let name = files::shown(path);
+    let bytes = files::read(path, LONGEST + 1)?;
+    if bytes.len() as u64 > LONGEST {
+        return Err(Trouble::file(&name, io::Error::other("a list of over 64 MiB")));
+    }
+    let list = findings::read(&bytes).map_err(|line| Trouble::BadFinding { name: name.clone(), line })?;
+    Ok(Findings { name: named(path), joined: Joined::to(plan, list) })
+}
+
+/// What came in and what went out.
+fn told(drawing: &Drawing) -> Vec<String> {
+    let vertices = |n| text::many(n, "vertex", "vertices");
+    let mut lines =
+        vec![format!("{}: {} in, {} drawn", drawing.plan.name, vertices(drawing.plan.records().len()), drawing.counts.vertices)];
+    lines.extend(drawing.findings.as_ref().map(|f| {
+        let (count, at, lost) = (text::many(f.joined.count(), "finding", "findings"), f.joined.at.len(), f.joined.lost.len());
+        format!("{}: {count} in; {at} at a vertex, {lost} with no vertex", f.name)
+    }));
+    lines
 }

@@ -1,0 +1,110 @@
+//! The sheet as SVG: title, plan, scale bar, caption. One path for each level of faces, one for the marks of each degree and level.
+
+use super::caption::TEXT;
+use super::geometry::edge;
+use super::ink::{ink, shade, EDGES, INK, NEW_FILL, OLDER};
+use super::layers::Layer;
+use super::marks::{marks, Marks, CIRCLE, OUTLINE};
+use super::older::State;
+use super::page::{Page, MARGIN};
+use super::text::{breadth, escaped, short, wrapped};
+use super::{legend, numbers, Drawing};
+
+/// The title's size in millimetres, 16 points, and the smallest that any line may have, 7 points.
+const TITLE: f64 = 5.64;
+const SMALLEST: f64 = 2.47;
+/// Line widths in millimetres: the widest, the part of an edge that a line takes at most, how much wider the older plan's are.
+const LINE_WIDTH: f64 = 0.22;
+const LINE_PART: f64 = 0.05;
+const OLDER_WIDER: f64 = 3.2;
+
+/// The whole sheet, ended by a line feed.
+pub fn svg(drawing: &Drawing) -> String {
+    let page = Page::of(drawing);
+    let (w, h) = (short(page.width), short(page.height));
+    let mut out = format!(
+        "<svg xmlns=\"http://www.w3.org/2000/svg\" width=\"{w}mm\" height=\"{h}mm\" viewBox=\"0 0 {w} {h}\" role=\"img\" \
+         font-family=\"Helvetica,Arial,'Liberation Sans',sans-serif\" font-size=\"{TEXT}\" fill=\"{INK}\">\n"
+    );
+    out += &format!("<title>{}</title>\n", escaped(&drawing.title));
+    out += &format!("<rect width=\"{w}\" height=\"{h}\" fill=\"#fff\"/>\n");
+    out += &head(drawing, &page);
+    out += &plan(drawing, &page);
+    out += &legend::bar(&page);
+    out += "<g id=\"caption\">\n";
+    page.blocks.iter().for_each(|(area, block)| out += &legend::block(drawing, *area, block));
+    out + "</g>\n</svg>\n"
+}
+
+fn head(drawing: &Drawing, page: &Page) -> String {
+    let mut under = vec!["Blade plan".to_string()];
+    under.extend(drawing.older.as_ref().map(|older| format!("over {}", older.name)));
+    under.extend(drawing.findings.as_ref().map(|findings| format!("with the findings of {}", findings.name)));
+    let line = |y: f64, size: f64, more: &str, text: &str| {
+        let (size, text) = fitted(text, size, page.width - 2.0 * MARGIN);
+        format!("<text x=\"{MARGIN}\" y=\"{y}\" font-size=\"{size}\" {more}>{}</text>\n", escaped(&text))
+    };
+    let color = format!("fill=\"{EDGES}\"");
+    line(MARGIN + 4.5, TITLE, "font-weight=\"bold\"", &drawing.title) + &line(MARGIN + 9.5, TEXT, &color, &under.join(", "))
+}
+
+/// A line's size and text: smaller where it would be wider than this, and cut where it would be too small to read.
+fn fitted(text: &str, size: f64, width: f64) -> (String, String) {
+    let size = size.min(width / breadth(text)).max(SMALLEST);
+    match wrapped(text, width / size - 1.0).split_first() {
+        Some((first, [_, ..])) => (short(size), format!("{first}…")),
+        _ => (short(size), text.to_string()),
+    }
+}
+
+fn plan(drawing: &Drawing, page: &Page) -> String {
+    let mut out = format!("<g id=\"plan\" transform=\"translate({} {})\">\n", short(page.origin.0), short(page.origin.1));
+    if let Some(older) = &drawing.older {
+        out += &format!("<g id=\"older\" fill=\"none\" stroke=\"{OLDER}\" stroke-linejoin=\"round\">\n");
+        let layers = super::layers::layers(&older.plan, &older.faces, |_| false);
+        layers.iter().for_each(|layer| out += &path(layer, page.scale, OLDER_WIDER, "none"));
+        out += "</g>\n";
+    }
+    out += &format!("<g id=\"faces\" stroke=\"{EDGES}\" stroke-linejoin=\"round\">\n");
+    drawing.layers.iter().for_each(|layer| out += &path(layer, page.scale, 1.0, &fill(drawing, layer)));
+    out += "</g>\n<g id=\"marks\">\n";
+    let state = |at| drawing.older.as_ref().map_or(State::Alone, |older| older.state(at));
+    marks(drawing.plan, page.scale, state).iter().for_each(|group| out += &mark_path(group, page.scale));
+    out + "</g>\n" + &numbers::findings(drawing, page) + "</g>\n"
+}
+
+/// Over an older plan only what is new is filled, so that the older lines are seen.
+fn fill(drawing: &Drawing, layer: &Layer) -> String {
+    match (&drawing.older, layer.new) {
+        (None, _) => shade(drawing, layer.level),
+        (Some(_), true) => format!("{NEW_FILL}\" fill-opacity=\".6"),
+        (Some(_), false) => "none".to_string(),
+    }
+}
+
+fn path(layer: &Layer, scale: f64, wider: f64, fill: &str) -> String {
+    let width = wider * LINE_WIDTH.min(LINE_PART * edge(layer.level) * scale) * layer.units.side() / scale;
+    let new = if layer.new { " new" } else { "" };
+    let (level, transform) = (layer.level, layer.units.transform(scale));
+    format!(
+        "<path class=\"l{level}{new}\" transform=\"{transform}\" stroke-width=\"{}\" fill=\"{fill}\" d=\"{}\"/>\n",
+        short(width),
+        layer.path
+    )
+}
+
+fn mark_path(group: &Marks, scale: f64) -> String {
+    let (fill, line) = ink(group.degree, group.state);
+    let unit = group.units.side() / scale;
+    let head = format!("<path class=\"m\" data-r=\"{:.3}\" transform=\"{}\"", group.size, group.units.transform(scale));
+    let outline = OUTLINE * group.size * unit;
+    if group.degree != 0 {
+        let stroke = if group.degree == 5 { format!(" stroke=\"{line}\" stroke-width=\"{}\"", short(outline)) } else { String::new() };
+        return format!("{head} fill=\"{fill}\"{stroke} d=\"{}\"/>\n", group.path);
+    }
+    let width = CIRCLE * group.size * unit;
+    let dots = |color: &str, width: f64| {
+        format!("{head} stroke-linecap=\"round\" stroke=\"{color}\" stroke-width=\"{}\" d=\"{}\"/>\n", short(width), group.path)
+    };
+    dots(line, width) + &dots("#fff", width - 2.0 * outline) // the white within each circle: the same points, smaller
+}
