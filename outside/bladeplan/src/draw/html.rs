@@ -44,9 +44,9 @@ pub fn html(drawing: &Drawing) -> String {
 fn style(page: &Page) -> String {
     let (width, height, sheet) = (short(page.width), short(page.height), short(page.sheet));
     let mut out =
-        format!(":root {{ --width: {width}mm; --height: {height}mm; }}\n@page sheet {{ size: {width}mm {sheet}mm; margin: 0; }}\n");
+        format!(":root {{ --width: {width}mm; --height: {height}mm; --sheet: {sheet}mm; }}\n@page sheet {{ size: {width}mm {sheet}mm; margin: 0; }}\n");
     for (level, colour) in COLOURS.iter().enumerate() {
-        out += &format!(".coloured .l{level} {{ fill: {colour}; }}\n");
+        out += &format!(".coloured #faces .l{level}, .coloured #caption .l{level} {{ fill: {colour}; }}\n");
     }
     out
 }

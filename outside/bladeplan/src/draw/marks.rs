@@ -4,8 +4,9 @@
 use super::geometry::{edge, Units};
 use super::older::State;
 use super::paths::Path;
+use super::pieces::pieces;
 use crate::plan::Plan;
-use flaskbloom::{Point, Record};
+use flaskbloom::Point;
 use std::collections::BTreeMap;
 
 pub const DEGREES: [u8; 5] = [0, 3, 4, 5, 6];
@@ -22,16 +23,19 @@ pub struct Marks {
     /// In millimetres.
     pub size: f64,
     pub units: Units,
-    pub path: String,
+    pub paths: Vec<String>,
 }
 
-/// All marks of a plan, at so many millimetres a side; those that matter more come later, and so above the others.
-pub fn marks(plan: &Plan, scale: f64, state: impl Fn(usize) -> State) -> Vec<Marks> {
-    let mut sorted: BTreeMap<(State, u8, u8), Vec<Record>> = BTreeMap::new();
+/// All marks of a plan, at so many millimetres a side, in paths of at most so many; those that matter more come later, and so above others.
+pub fn marks(plan: &Plan, scale: f64, most: usize, state: impl Fn(usize) -> State) -> Vec<Marks> {
+    let mut sorted: BTreeMap<(State, u8, u8), Vec<Point>> = BTreeMap::new();
     for (at, record) in plan.records().iter().enumerate() {
-        sorted.entry((state(at), record.degree, record.level)).or_default().push(*record);
+        sorted.entry((state(at), record.degree, record.level)).or_default().push(record.point);
     }
-    sorted.into_iter().map(|((state, degree, level), records)| group(state, degree, size(degree, level, scale), scale, &records)).collect()
+    let groups = sorted.into_iter();
+    groups
+        .map(|((state, degree, level), points)| group(state, degree, size(degree, level, scale), scale, pieces(points, most, &|p| *p)))
+        .collect()
 }
 
 /// Degrees 4 and 5 have neighbours of the next level too.
@@ -40,16 +44,17 @@ fn size(degree: u8, level: u8, scale: f64) -> f64 {
     SIZE.min(PART * edge(near) * scale)
 }
 
-fn group(state: State, degree: u8, size: f64, scale: f64, records: &[Record]) -> Marks {
-    let depth = records.iter().map(|record| record.point.m).max().unwrap_or(0);
+fn group(state: State, degree: u8, size: f64, scale: f64, pieces: Vec<Vec<Point>>) -> Marks {
+    let depth = pieces.iter().flatten().map(|p| p.m).max().unwrap_or(0);
     let coarse = Units { depth, finer: 1 };
     let finer = if degree == 0 { 1 } else { (FINE * scale / (size * coarse.side())).ceil() as i64 };
     let units = Units { depth, finer: finer.max(1) };
-    let mut path = Path::default();
-    for record in records {
-        mark(&mut path, degree, size * units.side() / scale, units.at(record.point));
-    }
-    Marks { degree, state, size, units, path: path.text().to_string() }
+    let drawn = |points: Vec<Point>| {
+        let mut path = Path::default();
+        points.iter().for_each(|p| mark(&mut path, degree, size * units.side() / scale, units.at(*p)));
+        path.text().to_string()
+    };
+    Marks { degree, state, size, units, paths: pieces.into_iter().map(drawn).collect() }
 }
 
 fn mark(path: &mut Path, degree: u8, size: f64, (x, y): (i64, i64)) {

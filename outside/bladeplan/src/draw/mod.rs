@@ -14,6 +14,7 @@ mod numbers;
 mod older;
 mod page;
 mod paths;
+mod pieces;
 mod svg;
 mod text;
 
@@ -55,6 +56,9 @@ example: this autumn's plan over last spring's, with the inspectors' findings
 /// The longest list of findings that is read.
 const LONGEST: u64 = 64 << 20;
 
+/// The figures of a path on a page that is zoomed; on a sheet a level is one path.
+const PIECE: usize = 400;
+
 /// A list of findings, joined to the plan.
 pub struct Findings {
     pub name: String,
@@ -69,14 +73,22 @@ pub struct Drawing<'a> {
     pub layers: Vec<Layer>,
     pub older: Option<Older>,
     pub findings: Option<Findings>,
+    /// How many figures a path has at most.
+    pub piece: usize,
 }
 
 impl Drawing<'_> {
-    pub fn of<'a>(plan: &'a Plan, older: Option<&OsStr>, findings: Option<Findings>, title: String) -> Outcome<Drawing<'a>> {
+    pub fn of<'a>(plan: &'a Plan, words: &Words) -> Outcome<Drawing<'a>> {
+        let findings = words.value("--findings").map(|path| load(plan, path)).transpose()?;
+        let title = match words.value("--title") {
+            Some(title) => text::shown(title.as_encoded_bytes()),
+            None => named(&words.plain[0]),
+        };
+        let piece = if words.has("--html") { PIECE } else { usize::MAX };
         let faces = plan.faces()?;
-        let older = older.map(|path| Older::under(plan, &faces, Plan::load(path)?, named(path))).transpose()?;
-        let layers = layers::layers(plan, &faces, |at| older.as_ref().is_some_and(|older| older.is_new(at)));
-        Ok(Drawing { title, plan, counts: plan.counts()?, layers, older, findings })
+        let older = words.value("--over").map(|path| Older::under(plan, &faces, Plan::load(path)?, named(path))).transpose()?;
+        let layers = layers::layers(plan, &faces, piece, |at| older.as_ref().is_some_and(|older| older.is_new(at)));
+        Ok(Drawing { title, plan, counts: plan.counts()?, layers, older, findings, piece })
     }
 
     /// The faces of a level, new ones and others.
@@ -93,12 +105,7 @@ impl Drawing<'_> {
 
 fn run(words: &Words) -> Outcome<()> {
     let plan = Plan::load(&words.plain[0])?;
-    let findings = words.value("--findings").map(|path| load(&plan, path)).transpose()?;
-    let title = match words.value("--title") {
-        Some(title) => text::shown(title.as_encoded_bytes()),
-        None => named(&words.plain[0]),
-    };
-    let drawing = Drawing::of(&plan, words.value("--over"), findings, title)?;
+    let drawing = Drawing::of(&plan, words)?;
     let page = if words.has("--html") { html::html(&drawing) } else { svg::svg(&drawing) };
     files::write(words.output(), page.as_bytes())?;
     if !words.quiet() {

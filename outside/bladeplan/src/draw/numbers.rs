@@ -21,8 +21,8 @@ pub fn findings(drawing: &Drawing, page: &Page) -> String {
     let group = |kind: &str, i: usize, one: &Callout, what: &str| {
         format!("<g id=\"{kind}{i}\" transform=\"translate({} {})\"><g>{what}</g></g>\n", short(one.at.0), short(one.at.1))
     };
-    let (x, y) = page.origin;
-    let mut out = format!("<g id=\"findings\" transform=\"translate({} {})\">\n", short(-x), short(-y));
+    let ((x, y), type_size) = (page.origin, all.first().map_or(1.0, |one| one.type_size));
+    let mut out = format!("<g id=\"findings\" data-type=\"{type_size}\" transform=\"translate({} {})\">\n", short(-x), short(-y));
     all.iter().enumerate().for_each(|(i, one)| out += &group("ring", i, one, &ring(one)));
     all.iter().enumerate().for_each(|(i, one)| out += &group("box", i, one, &numbers(one)));
     out + "</g>\n"

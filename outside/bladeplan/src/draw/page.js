@@ -4,7 +4,8 @@
   const at = id => document.getElementById(id);
   const desk = at('desk'), sheet = desk.querySelector('svg'), labels = at('labels');
   const PIXELS = 96 / 25.4; // of a millimetre, unscaled
-  const DEEPEST = 4e4, LABELS = 800, ROOM = 52;
+  const DEEPEST = 4e4, LABELS = 800, ROOM = 62; // pixels a millimetre at most; labels at most; pixels that a label takes
+  const NUMBERS = 12 / (at('findings')?.dataset.type ?? 1); // of findings: 12 pixels at most
   const [scale, left, top] = desk.dataset.plan.split(' ').map(Number);
   const [boxX, boxY, boxWidth, boxHeight] = desk.dataset.box.split(' ').map(Number);
   const { width, height } = sheet.viewBox.baseVal;
@@ -33,8 +34,8 @@
   // when the hand rests: drawn sharp, marks that can be seen, numbers and labels in the size of the screen
   function settle() {
     sheet.style.willChange = 'auto';
-    sheet.style.setProperty('--k', Math.min(1, whole / view.k));
-    for (const marks of sheet.querySelectorAll('#marks path')) marks.classList.toggle('small', marks.dataset.r * view.k < 0.5);
+    sheet.style.setProperty('--k', Math.min(1, NUMBERS / view.k));
+    for (const marks of at('marks').children) marks.classList.toggle('small', marks.dataset.r * view.k < 0.5);
     label();
   }
 

@@ -96,6 +96,8 @@ impl Page {
     fn continued(mut self, drawing: &Drawing) -> Page {
         let width = (self.width - 2.0 * MARGIN - GUTTER) / 2.0;
         let Some(lost) = caption::lost(drawing, width) else { return self };
+        let counted = |row: &&mut caption::Row| row.alarm && !row.count.is_empty();
+        self.blocks.iter_mut().flat_map(|(_, block)| &mut block.rows).filter(counted).for_each(|row| row.text += ": next page");
         let (page, lines) = (self.height, ((self.height - 2.0 * MARGIN - caption::GAP) / caption::ROW) as usize - 1);
         for (at, rows) in lost.rows.chunks(lines).enumerate() {
             let heading = if at == 0 { lost.heading.clone() } else { "with no vertex, continued".to_string() };

@@ -3,7 +3,7 @@
 use super::caption::TEXT;
 use super::geometry::edge;
 use super::ink::{ink, shade, EDGES, INK, NEW_FILL, OLDER};
-use super::layers::Layer;
+use super::layers::{layers, Layer};
 use super::marks::{marks, Marks, CIRCLE, OUTLINE};
 use super::older::State;
 use super::page::{Page, MARGIN};
@@ -15,7 +15,7 @@ const TITLE: f64 = 5.64;
 const SMALLEST: f64 = 2.47;
 /// Line widths in millimetres: the widest, the part of an edge that a line takes at most, how much wider the older plan's are.
 const LINE_WIDTH: f64 = 0.22;
-const LINE_PART: f64 = 0.05;
+const LINE_PART: f64 = 0.04;
 const OLDER_WIDER: f64 = 3.2;
 
 /// The whole sheet, ended by a line feed.
@@ -61,15 +61,15 @@ fn plan(drawing: &Drawing, page: &Page) -> String {
     let mut out = format!("<g id=\"plan\" transform=\"translate({} {})\">\n", short(page.origin.0), short(page.origin.1));
     if let Some(older) = &drawing.older {
         out += &format!("<g id=\"older\" fill=\"none\" stroke=\"{OLDER}\" stroke-linejoin=\"round\">\n");
-        let layers = super::layers::layers(&older.plan, &older.faces, |_| false);
-        layers.iter().for_each(|layer| out += &path(layer, page.scale, OLDER_WIDER, "none"));
+        let layers = layers(&older.plan, &older.faces, drawing.piece, |_| false);
+        layers.iter().for_each(|layer| out += &faces(layer, page.scale, OLDER_WIDER, "none"));
         out += "</g>\n";
     }
     out += &format!("<g id=\"faces\" stroke=\"{EDGES}\" stroke-linejoin=\"round\">\n");
-    drawing.layers.iter().for_each(|layer| out += &path(layer, page.scale, 1.0, &fill(drawing, layer)));
+    drawing.layers.iter().for_each(|layer| out += &faces(layer, page.scale, 1.0, &fill(drawing, layer)));
     out += "</g>\n<g id=\"marks\">\n";
     let state = |at| drawing.older.as_ref().map_or(State::Alone, |older| older.state(at));
-    marks(drawing.plan, page.scale, state).iter().for_each(|group| out += &mark_path(group, page.scale));
+    marks(drawing.plan, page.scale, drawing.piece, state).iter().for_each(|group| out += &vertices(group, page.scale));
     out + "</g>\n" + &numbers::findings(drawing, page) + "</g>\n"
 }
 
@@ -82,29 +82,35 @@ fn fill(drawing: &Drawing, layer: &Layer) -> String {
     }
 }
 
-fn path(layer: &Layer, scale: f64, wider: f64, fill: &str) -> String {
-    let width = wider * LINE_WIDTH.min(LINE_PART * edge(layer.level) * scale) * layer.units.side() / scale;
-    let new = if layer.new { " new" } else { "" };
-    let (level, transform) = (layer.level, layer.units.transform(scale));
-    format!(
-        "<path class=\"l{level}{new}\" transform=\"{transform}\" stroke-width=\"{}\" fill=\"{fill}\" d=\"{}\"/>\n",
-        short(width),
-        layer.path
-    )
+/// The figures of a group: one path, or a few within a group of their own.
+fn drawn(attributes: &str, paths: &[String]) -> String {
+    match paths {
+        [one] => format!("<path {attributes} d=\"{one}\"/>\n"),
+        more => {
+            let each: String = more.iter().map(|path| format!("<path d=\"{path}\"/>\n")).collect();
+            format!("<g {attributes}>\n{each}</g>\n")
+        }
+    }
 }
 
-fn mark_path(group: &Marks, scale: f64) -> String {
+fn faces(layer: &Layer, scale: f64, wider: f64, fill: &str) -> String {
+    let width = short(wider * LINE_WIDTH.min(LINE_PART * edge(layer.level) * scale) * layer.units.side() / scale);
+    let (level, new, transform) = (layer.level, if layer.new { " new" } else { "" }, layer.units.transform(scale));
+    drawn(&format!("class=\"l{level}{new}\" transform=\"{transform}\" stroke-width=\"{width}\" fill=\"{fill}\""), &layer.paths)
+}
+
+fn vertices(group: &Marks, scale: f64) -> String {
     let (fill, line) = ink(group.degree, group.state);
     let unit = group.units.side() / scale;
-    let head = format!("<path class=\"m\" data-r=\"{:.3}\" transform=\"{}\"", group.size, group.units.transform(scale));
+    let head = format!("data-r=\"{:.3}\" transform=\"{}\"", group.size, group.units.transform(scale));
     let outline = OUTLINE * group.size * unit;
-    if group.degree != 0 {
-        let stroke = if group.degree == 5 { format!(" stroke=\"{line}\" stroke-width=\"{}\"", short(outline)) } else { String::new() };
-        return format!("{head} fill=\"{fill}\"{stroke} d=\"{}\"/>\n", group.path);
-    }
-    let width = CIRCLE * group.size * unit;
     let dots = |color: &str, width: f64| {
-        format!("{head} stroke-linecap=\"round\" stroke=\"{color}\" stroke-width=\"{}\" d=\"{}\"/>\n", short(width), group.path)
+        drawn(&format!("{head} stroke-linecap=\"round\" stroke=\"{color}\" stroke-width=\"{}\"", short(width)), &group.paths)
     };
-    dots(line, width) + &dots("#fff", width - 2.0 * outline) // the white within each circle: the same points, smaller
+    match group.degree {
+        // a circle, and the white within it: the same points, smaller
+        0 => dots(line, CIRCLE * group.size * unit) + &dots("#fff", CIRCLE * group.size * unit - 2.0 * outline),
+        5 => drawn(&format!("{head} fill=\"{fill}\" stroke=\"{line}\" stroke-width=\"{}\"", short(outline)), &group.paths),
+        _ => drawn(&format!("{head} fill=\"{fill}\""), &group.paths),
+    }
 }
