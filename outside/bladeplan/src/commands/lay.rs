@@ -35,7 +35,11 @@ fn run(words: &Words) -> Outcome<()> {
     let table = sizes::growing(centres.len().saturating_mul(HEXAGON), |slots| Table::base(slots, &centres));
     let table = table.map_err(|refused| Trouble::refused(place(&list, refused), refused.refusal))?;
     let file = table.write_full().map_err(|refusal| Trouble::refused(Place::File(list.name.clone()), refusal))?;
-    counted::write(&COMMAND, words, &format!("{} hexagons in", centres.len()), &file)
+    counted::write(&COMMAND, words, &hexagons(centres.len()), &file)
+}
+
+fn hexagons(count: usize) -> String {
+    format!("{count} hexagon{} in", if count == 1 { "" } else { "s" })
 }
 
 /// The line of the bad centre; the file where it is the whole list.
