@@ -21,9 +21,10 @@ pub struct Counts {
 impl Counts {
     pub fn of(plan: &Plan) -> Outcome<Counts> {
         let file = plan.full()?;
-        match file.len() <= CENSUS_INPUT {
-            true => Ok(parse(&census(&file)).unwrap_or(Counts::counted(plan)?)),
-            false => Counts::counted(plan),
+        let reached = file.len() <= CENSUS_INPUT;
+        match reached.then(|| census(&file)).as_deref().and_then(parse) {
+            Some(counts) => Ok(counts),
+            None => Counts::counted(plan),
         }
     }
 
@@ -56,4 +57,28 @@ fn parse(text: &str) -> Option<Counts> {
     let numbers: Option<Vec<usize>> = text.lines().nth(1)?.split('\t').map(|field| field.parse().ok()).collect();
     let [vertices, edges, faces, d0, d3, d4, d5, d6] = numbers?[..] else { return None };
     Some(Counts { vertices, edges, faces, degrees: [d0, d3, d4, d5, d6] })
+}
+
+#[cfg(test)]
+mod tests {
+    use super::*;
+    use flaskbloom::{Point, Table};
+
+    /// Plans of every degree, a finer one each time: what is counted here is what the census says.
+    #[test]
+    fn counted_as_the_census_does() {
+        let centres: Vec<[i32; 2]> = (-6..=6).flat_map(|a| (-6..=6).map(move |b| [a, b])).filter(|[a, b]| (a - b) % 3 == 0).collect();
+        let mut met = [false; 5];
+        let mut table = Table::base(4096, &centres).expect("a base");
+        for round in 0..40 {
+            let plan = Plan::read("a plan", &table.write_full().expect("a file")).expect("a plan");
+            let said = parse(&census(&plan.full().expect("a file"))).expect("a census");
+            assert_eq!(Counts::counted(&plan).expect("counted"), said);
+            assert_eq!(parse(&said.text()), Some(said));
+            let six: Vec<Point> = plan.records().iter().filter(|r| r.degree == 6 && r.level < 12).map(|r| r.point).collect();
+            table.subdivide(six[round * 7 % six.len()]).expect("subdivided");
+            met = [0, 1, 2, 3, 4].map(|at| met[at] || said.degrees[at] > 0);
+        }
+        assert_eq!(met, [true; 5]);
+    }
 }
