@@ -31,15 +31,17 @@ const INPUTS: [(&str, &str); 3] = [
     ("findings.txt", include_str!("../../../../examples/findings.txt")),
 ];
 
-const STEPS: [&str; 7] = [
-    "lay hexagons.txt -o base.full",
-    "subdivide base.full --list points.txt -o plan.full",
-    "reduce plan.full -o plan.reduced",
-    "census plan.reduced",
-    "compare base.full plan.full",
-    "draw plan.full --findings findings.txt --over base.full -o plan.svg",
-    "draw plan.full --findings findings.txt --over base.full --html -o plan.html",
+const STEPS: [&[&str]; 7] = [
+    &["lay", "hexagons.txt", "-o", "base.full"],
+    &["subdivide", "base.full", "--list", "points.txt", "-o", "plan.full"],
+    &["reduce", "plan.full", "-o", "plan.reduced"],
+    &["census", "plan.reduced"],
+    &["compare", "base.full", "plan.full"],
+    &["draw", "plan.full", "--findings", "findings.txt", "--over", "base.full", "--title", TITLE, "-o", "plan.svg"],
+    &["draw", "plan.full", "--findings", "findings.txt", "--over", "base.full", "--title", TITLE, "--html", "-o", "plan.html"],
 ];
+
+const TITLE: &str = "A small blade";
 
 const RESULTS: &str = "
   hexagons.txt   the hexagons that were laid
@@ -60,10 +62,16 @@ fn run(words: &Words) -> Outcome<()> {
         files::write(Some(OsStr::new(name)), text.as_bytes())?;
     }
     for step in STEPS {
-        files::write(None, format!("$ bladeplan {step}\n").as_bytes())?;
-        let quiet = words.quiet().then_some("--quiet");
-        crate::run(step.split(' ').chain(quiet).map(OsString::from))?;
+        files::write(None, format!("$ bladeplan {}\n", typed(step)).as_bytes())?;
+        let quiet = words.quiet().then_some(&"--quiet");
+        crate::run(step.iter().chain(quiet).map(OsString::from))?;
     }
     let place = std::env::current_dir().map_err(failed)?;
     files::write(None, format!("\nThe results are in {}:\n{RESULTS}", place.display()).as_bytes())
+}
+
+/// A command line as a person types it.
+fn typed(step: &[&str]) -> String {
+    let quoted = |word: &&str| if word.contains(' ') { format!("'{word}'") } else { word.to_string() };
+    step.iter().map(quoted).collect::<Vec<_>>().join(" ")
 }
