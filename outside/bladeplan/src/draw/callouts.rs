@@ -16,6 +16,8 @@ const LARGE_RING: f64 = 2.3;
 const RING_PART: f64 = 0.7;
 /// The ways a box may stand from its ring, the readiest first.
 const WAYS: [(f64, f64); 8] = [(0.8, -0.6), (0.8, 0.6), (-0.8, -0.6), (-0.8, 0.6), (0.0, -1.0), (1.0, 0.0), (-1.0, 0.0), (0.0, 1.0)];
+/// How far a box keeps from the rings of others.
+const CLEAR: f64 = 1.0;
 /// Boxes are looked for in cells of this size.
 const CELL: f64 = 20.0;
 
@@ -43,10 +45,7 @@ type Rect = (f64, f64, f64, f64);
 /// The boxes for these places and their numbers, within a page of this size.
 pub fn callouts(places: &[Place], page: (f64, f64)) -> Vec<Callout> {
     let mut taken = Taken::default();
-    for Place { at: (x, y), edge, .. } in places {
-        let r = ring(*edge);
-        taken.add((x - r, y - r, x + r, y + r));
-    }
+    places.iter().for_each(|place| taken.add(Shape::Ring(place.at, ring(place.edge))));
     let type_size = SIZES.iter().find(|(most, _)| places.len() <= *most).map_or(SIZES[0].1, |(_, size)| *size);
     places.iter().map(|place| callout(place, page, type_size, &mut taken)).collect()
 }
@@ -65,7 +64,7 @@ fn callout(place: &Place, page: (f64, f64), type_size: f64, taken: &mut Taken) -
         let (x, y) = (at.0 + corner.0, at.1 + corner.1);
         let rect = (x, y, x + size.0, y + size.1);
         let outside = rect.0 < 1.0 || rect.1 < 1.0 || rect.2 > page.0 - 1.0 || rect.3 > page.1 - 1.0;
-        let hits = taken.hits(rect) + if outside { 1000 } else { 0 };
+        let hits = taken.hits(rect, at) + if outside { 1000 } else { 0 };
         if hits < best.0 {
             best = (hits, corner);
         }
@@ -74,7 +73,7 @@ fn callout(place: &Place, page: (f64, f64), type_size: f64, taken: &mut Taken) -
         }
     }
     let (x, y) = (at.0 + best.1 .0, at.1 + best.1 .1);
-    taken.add((x, y, x + size.0, y + size.1));
+    taken.add(Shape::Box((x, y, x + size.0, y + size.1)));
     Callout { at, ring, lines, corner: best.1, size, type_size }
 }
 
@@ -99,18 +98,40 @@ fn lines(numbers: &[u32]) -> Vec<String> {
 /// What is taken on the page, by cells.
 #[derive(Default)]
 struct Taken {
-    cells: HashMap<(i64, i64), Vec<Rect>>,
+    cells: HashMap<(i64, i64), Vec<Shape>>,
+}
+
+#[derive(Clone, Copy)]
+enum Shape {
+    Box(Rect),
+    /// Its middle and its radius.
+    Ring((f64, f64), f64),
 }
 
 impl Taken {
-    fn add(&mut self, rect: Rect) {
-        cells(rect).for_each(|cell| self.cells.entry(cell).or_default().push(rect));
+    fn add(&mut self, shape: Shape) {
+        let rect = match shape {
+            Shape::Box(rect) => rect,
+            Shape::Ring((x, y), r) => (x - r - CLEAR, y - r - CLEAR, x + r + CLEAR, y + r + CLEAR),
+        };
+        cells(rect).for_each(|cell| self.cells.entry(cell).or_default().push(shape));
     }
 
-    /// How many lie on this one; one that lies in two cells may count twice.
-    fn hits(&self, rect: Rect) -> usize {
-        let over = |other: &&Rect| other.0 < rect.2 && rect.0 < other.2 && other.1 < rect.3 && rect.1 < other.3;
-        cells(rect).filter_map(|cell| self.cells.get(&cell)).map(|list| list.iter().filter(over).count()).sum()
+    /// How many lie on a box whose ring has this middle; one that lies in two cells may count twice.
+    fn hits(&self, rect: Rect, own: (f64, f64)) -> usize {
+        cells(rect).filter_map(|cell| self.cells.get(&cell)).map(|list| list.iter().filter(|shape| meets(rect, own, shape)).count()).sum()
+    }
+}
+
+/// A box must not lie on another, nor on its own ring, and stays clear of other rings, so that it is seen whose it is.
+fn meets(rect: Rect, own: (f64, f64), shape: &Shape) -> bool {
+    match shape {
+        Shape::Box(other) => other.0 < rect.2 && rect.0 < other.2 && other.1 < rect.3 && rect.1 < other.3,
+        Shape::Ring((x, y), r) => {
+            let (near_x, near_y) = (x.clamp(rect.0, rect.2) - x, y.clamp(rect.1, rect.3) - y);
+            let room = if (*x, *y) == own { *r } else { r + CLEAR };
+            near_x * near_x + near_y * near_y < room * room
+        }
     }
 }
 

@@ -88,15 +88,14 @@ fn faces(drawing: &Drawing) -> Block {
 
 fn before(older: &Older, width: f64) -> Block {
     let mut rows = plain(&older.name, width, false);
-    rows.push(row(Symbol::OlderEdges, "its edges", older.plan.records().len()));
-    rows.last_mut().into_iter().for_each(|last| last.count.clear());
+    rows.push(Row { count: String::new(), ..row(Symbol::OlderEdges, "its edges", 0) });
     rows.push(row(Symbol::NewFaces, "new faces", older.new_faces()));
     rows.push(row(Symbol::None, "faces gone", older.faces_gone()));
     rows.push(row(Symbol::Mark(3, State::New), "new vertices", older.count(State::New)));
     rows.push(row(Symbol::Mark(3, State::Changed), "with another star", older.count(State::Changed)));
     rows.push(row(Symbol::Mark(3, State::Same), "as they were", older.count(State::Same)));
     rows.push(row(Symbol::None, "vertices gone", older.gone));
-    Block { heading: format!("over {} before", many(older.plan.records().len(), "vertex", "vertices")), rows }
+    Block { heading: format!("Older plan, {}", many(older.plan.records().len(), "vertex", "vertices")), rows }
 }
 
 fn found(findings: &Findings, width: f64) -> Block {

@@ -4,6 +4,7 @@ use super::older::State;
 use super::Drawing;
 
 pub const INK: &str = "#22313a";
+pub const PAPER: &str = "#fff";
 pub const EDGES: &str = "#4a616e";
 pub const SIX: &str = "#b3261e";
 pub const ALARM: &str = "#b00020";
@@ -19,7 +20,8 @@ pub fn shade(drawing: &Drawing, level: u8) -> String {
     format!("#{:02x}{:02x}{:02x}", between(246.0, 168.0), between(249.0, 194.0), between(251.0, 210.0))
 }
 
-/// The ink of a degree's marks in a state: what a mark is filled and outlined with.
+/// What a mark of a degree is filled and outlined with. Open is degree 5, which would else pass for 6, and the rim; over an older plan a
+/// mark is open where its star changed, filled where it is new, and grey where it is as it was.
 pub fn ink(degree: u8, state: State) -> (&'static str, &'static str) {
     let line = match (state, degree) {
         (State::Same, _) => FAINT,
@@ -27,5 +29,11 @@ pub fn ink(degree: u8, state: State) -> (&'static str, &'static str) {
         (_, 6) => SIX,
         _ => INK,
     };
-    (if degree == 5 || degree == 0 { "#fff" } else { line }, line)
+    let open = match state {
+        State::Alone => degree == 5 || degree == 0,
+        State::Changed => true,
+        State::Same => degree == 0,
+        State::New => false,
+    };
+    (if open { PAPER } else { line }, line)
 }

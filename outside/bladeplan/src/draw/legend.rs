@@ -1,7 +1,7 @@
 //! The scale bar, and the caption's blocks: rules, headings, signs, texts, counts.
 
 use super::caption::{Block, Row, Symbol, INDENT, ROW};
-use super::ink::{ink, shade, ALARM, EDGES, INK, NEW_FILL, OLDER};
+use super::ink::{ink, shade, ALARM, EDGES, INK, NEW_FILL, OLDER, PAPER};
 use super::marks::{shape, CIRCLE, OUTLINE};
 use super::older::State;
 use super::page::{Area, Page};
@@ -16,7 +16,7 @@ pub fn bar(page: &Page) -> String {
     let half = length / 2.0;
     let text = if sides == 1 { "1 side of a hexagon".to_string() } else { format!("{} sides of a hexagon", grouped(sides)) };
     format!(
-        "<g id=\"bar\"><rect x=\"{x}\" y=\"{0}\" width=\"{1}\" height=\"1.4\" fill=\"#fff\" stroke=\"{INK}\" stroke-width=\".25\"/>\
+        "<g id=\"bar\"><rect x=\"{x}\" y=\"{0}\" width=\"{1}\" height=\"1.4\" fill=\"{PAPER}\" stroke=\"{INK}\" stroke-width=\".25\"/>\
          <rect x=\"{x}\" y=\"{0}\" width=\"{2}\" height=\"1.4\"/><text x=\"{3}\" y=\"{4}\">{text}</text></g>\n",
         short(y),
         short(length),
@@ -79,6 +79,6 @@ fn mark_symbol(degree: u8, state: State, x: f64, y: f64) -> String {
         return format!("<circle cx=\"{x}\" cy=\"{y}\" r=\"{r}\" fill=\"{fill}\" stroke=\"{line}\" stroke-width=\"{OUTLINE}\"/>");
     }
     let corners: Vec<String> = shape(degree).iter().map(|(u, v)| format!("{} {}", short(x + u), short(y + v))).collect();
-    let stroke = if degree == 5 { format!(" stroke=\"{line}\" stroke-width=\"{OUTLINE}\"") } else { String::new() };
+    let stroke = if fill != line { format!(" stroke=\"{line}\" stroke-width=\"{OUTLINE}\"") } else { String::new() };
     format!("<path d=\"M{}z\" fill=\"{fill}\"{stroke}/>", corners.join(" "))
 }

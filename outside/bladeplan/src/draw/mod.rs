@@ -61,6 +61,8 @@ const PIECE: usize = 400;
 
 /// A list of findings, joined to the plan.
 pub struct Findings {
+    /// As it was given, and as the sheet shows it.
+    pub path: String,
     pub name: String,
     pub joined: Joined,
 }
@@ -121,23 +123,22 @@ fn named(path: &OsStr) -> String {
 }
 
 fn load(plan: &Plan, path: &OsStr) -> Outcome<Findings> {
-    let name = files::shown(path);
+    let shown = files::shown(path);
     let bytes = files::read(path, LONGEST + 1)?;
     if bytes.len() as u64 > LONGEST {
-        return Err(Trouble::file(&name, io::Error::other("a list of over 64 MiB")));
+        return Err(Trouble::file(&shown, io::Error::other("a list of over 64 MiB")));
     }
-    let list = findings::read(&bytes).map_err(|line| Trouble::BadFinding { name: name.clone(), line })?;
-    Ok(Findings { name: named(path), joined: Joined::to(plan, list) })
+    let list = findings::read(&bytes).map_err(|line| Trouble::BadFinding { name: shown.clone(), line })?;
+    Ok(Findings { path: shown, name: named(path), joined: Joined::to(plan, list) })
 }
 
 /// What came in and what went out.
 fn told(drawing: &Drawing) -> Vec<String> {
-    let vertices = |n| text::many(n, "vertex", "vertices");
-    let mut lines =
-        vec![format!("{}: {} in, {} drawn", drawing.plan.name, vertices(drawing.plan.records().len()), drawing.counts.vertices)];
+    let (vertices, drawn) = (drawing.plan.records().len(), drawing.counts.vertices);
+    let mut lines = vec![format!("{}: {vertices} vertices in, {drawn} drawn", drawing.plan.name)];
     lines.extend(drawing.findings.as_ref().map(|f| {
-        let (count, at, lost) = (text::many(f.joined.count(), "finding", "findings"), f.joined.at.len(), f.joined.lost.len());
-        format!("{}: {count} in; {at} at a vertex, {lost} with no vertex", f.name)
+        let (count, at, lost) = (f.joined.count(), f.joined.at.len(), f.joined.lost.len());
+        format!("{}: {count} findings in; {at} at a vertex, {lost} with no vertex", f.path)
     }));
     lines
 }

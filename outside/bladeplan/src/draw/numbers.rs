@@ -2,7 +2,7 @@
 
 use super::callouts::{callouts, Callout, Place, LINE};
 use super::geometry::{edge, place};
-use super::ink::ALARM;
+use super::ink::{ALARM, PAPER};
 use super::page::Page;
 use super::text::short;
 use super::Drawing;
@@ -32,7 +32,7 @@ pub fn findings(drawing: &Drawing, page: &Page) -> String {
 fn numbers(one: &Callout) -> String {
     let ((left, top), (width, height), size) = (one.corner, one.size, one.type_size);
     let mut out = format!(
-        "<rect x=\"{}\" y=\"{}\" width=\"{}\" height=\"{}\" rx=\".6\" fill=\"#fff\" stroke=\"{ALARM}\" stroke-width=\".2\"/>",
+        "<rect x=\"{}\" y=\"{}\" width=\"{}\" height=\"{}\" rx=\".6\" fill=\"{PAPER}\" stroke=\"{ALARM}\" stroke-width=\".2\"/>",
         short(left),
         short(top),
         short(width),
@@ -54,5 +54,5 @@ fn ring(one: &Callout) -> String {
         |width: &str, color: &str| format!("<circle r=\"{}\" fill=\"none\" stroke=\"{color}\" stroke-width=\"{width}\"/>", short(r));
     let (from_x, from_y) = (short(x * r / far), short(y * r / far));
     let line = format!("<path d=\"M{from_x} {from_y}L{} {}\" stroke=\"{ALARM}\" stroke-width=\".3\"/>", short(x), short(y));
-    circle("1", "#fff") + &circle(".4", ALARM) + &line
+    circle("1", PAPER) + &circle(".4", ALARM) + &line
 }

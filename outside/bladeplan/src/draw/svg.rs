@@ -2,7 +2,7 @@
 
 use super::caption::TEXT;
 use super::geometry::edge;
-use super::ink::{ink, shade, EDGES, INK, NEW_FILL, OLDER};
+use super::ink::{ink, shade, EDGES, INK, NEW_FILL, OLDER, PAPER};
 use super::layers::{layers, Layer};
 use super::marks::{marks, Marks, CIRCLE, OUTLINE};
 use super::older::State;
@@ -26,8 +26,10 @@ pub fn svg(drawing: &Drawing) -> String {
         "<svg xmlns=\"http://www.w3.org/2000/svg\" width=\"{w}mm\" height=\"{h}mm\" viewBox=\"0 0 {w} {h}\" role=\"img\" \
          font-family=\"Helvetica,Arial,'Liberation Sans',sans-serif\" font-size=\"{TEXT}\" fill=\"{INK}\">\n"
     );
-    out += &format!("<title>{}</title>\n", escaped(&drawing.title));
-    out += &format!("<rect width=\"{w}\" height=\"{h}\" fill=\"#fff\"/>\n");
+    let counts = &drawing.counts;
+    let counted = format!("{} vertices, {} edges, {} faces", counts.vertices, counts.edges, counts.faces);
+    out += &format!("<title>{}</title>\n<desc>Blade plan: {counted}</desc>\n", escaped(&drawing.title));
+    out += &format!("<rect width=\"{w}\" height=\"{h}\" fill=\"{PAPER}\"/>\n");
     out += &head(drawing, &page);
     out += &plan(drawing, &page);
     out += &legend::bar(&page);
@@ -103,14 +105,14 @@ fn vertices(group: &Marks, scale: f64) -> String {
     let (fill, line) = ink(group.degree, group.state);
     let unit = group.units.side() / scale;
     let head = format!("data-r=\"{:.3}\" transform=\"{}\"", group.size, group.units.transform(scale));
-    let outline = OUTLINE * group.size * unit;
+    let (circle, outline) = (CIRCLE * group.size * unit, OUTLINE * group.size * unit);
     let dots = |color: &str, width: f64| {
         drawn(&format!("{head} stroke-linecap=\"round\" stroke=\"{color}\" stroke-width=\"{}\"", short(width)), &group.paths)
     };
     match group.degree {
-        // a circle, and the white within it: the same points, smaller
-        0 => dots(line, CIRCLE * group.size * unit) + &dots("#fff", CIRCLE * group.size * unit - 2.0 * outline),
-        5 => drawn(&format!("{head} fill=\"{fill}\" stroke=\"{line}\" stroke-width=\"{}\"", short(outline)), &group.paths),
+        // a circle, and what is within it: the same points, smaller
+        0 => dots(line, circle) + &dots(fill, circle - 2.0 * outline),
+        _ if fill != line => drawn(&format!("{head} fill=\"{fill}\" stroke=\"{line}\" stroke-width=\"{}\"", short(outline)), &group.paths),
         _ => drawn(&format!("{head} fill=\"{fill}\""), &group.paths),
     }
 }
