@@ -15,7 +15,10 @@ fn the_example_is_the_stored_one() {
     assert_eq!(names(&stored), names(&made));
     for name in names(&stored) {
         let (old, new) = (fs::read(stored.join(&name)).expect("stored"), fs::read(made.join(&name)).expect("made"));
-        assert!(old == new, "examples/{name} is not what 'bladeplan example' makes");
+        assert!(
+            old == new,
+            "examples/{name} is not what 'bladeplan example' makes; where the change is meant, './bladeplan example examples' stores it"
+        );
     }
     let counted = "bladeplan: lay: 32 hexagons in, 120 vertices out\nbladeplan: subdivide: 120 vertices in, 186 vertices out\n";
     assert!(ran.err.starts_with(counted), "{}", ran.err);
