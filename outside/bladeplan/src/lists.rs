@@ -10,6 +10,9 @@ use std::io;
 /// The longest list that is read.
 const LIMIT: u64 = 16 << 20;
 
+/// What some editors put before a text.
+const BYTE_ORDER_MARK: char = '\u{feff}';
+
 pub struct List {
     pub name: String,
     /// The lines that say something, each with its number; the first line is 1.
@@ -25,6 +28,7 @@ impl List {
             return Err(Trouble::file(&name, io::Error::other("longer than 16 MiB, so no list")));
         }
         let text = String::from_utf8_lossy(&bytes);
+        let text = text.trim_start_matches(BYTE_ORDER_MARK);
         let numbered = text.lines().enumerate().map(|(at, line)| (at as u64 + 1, line.to_string()));
         let lines = numbered.filter(|(_, line)| !line.trim().is_empty() && !line.starts_with('#')).collect();
         Ok(List { name, lines })

@@ -13,10 +13,10 @@ mod sizes;
 mod trouble;
 mod words;
 
-use std::ffi::OsString;
+use std::ffi::{OsStr, OsString};
 use std::process::ExitCode;
 use trouble::{Outcome, Trouble};
-use words::Words;
+use words::{Command, Words};
 
 fn main() -> ExitCode {
     match run(std::env::args_os().skip(1)) {
@@ -32,22 +32,27 @@ fn main() -> ExitCode {
 
 /// Runs one command line: the command's name, and its words.
 fn run(mut words: impl Iterator<Item = OsString>) -> Outcome<()> {
-    let Some(name) = words.next() else {
-        return Err(Trouble::Usage("no command is given; 'bladeplan --help' lists them".to_string()));
-    };
+    let name = words.next().ok_or_else(|| Trouble::Usage("no command is given; 'bladeplan --help' lists them".to_string()))?;
     match name.to_str() {
-        Some("--help" | "-h" | "help") => return files::write(None, overview().as_bytes()),
+        Some("--help" | "-h" | "help") => return files::write(None, help(words.next())?.as_bytes()),
         Some("--version") => return files::write(None, concat!("bladeplan ", env!("CARGO_PKG_VERSION"), "\n").as_bytes()),
         _ => {}
     }
-    let Some(command) = commands::ALL.iter().find(|command| name == command.name) else {
-        return Err(Trouble::Usage(format!("no command {}; 'bladeplan --help' lists them", name.to_string_lossy())));
-    };
+    let command = named(&name)?;
     let words = Words::parse(command, words)?;
     match words.has("--help") {
         true => files::write(None, command.help_text().as_bytes()),
         false => (command.run)(&words),
     }
+}
+
+fn named(name: &OsStr) -> Outcome<&'static Command> {
+    let unknown = || Trouble::Usage(format!("no command {}; 'bladeplan --help' lists them", name.to_string_lossy()));
+    commands::ALL.iter().copied().find(|command| name == command.name).ok_or_else(unknown)
+}
+
+fn help(name: Option<OsString>) -> Outcome<String> {
+    name.map_or(Ok(overview()), |name| Ok(named(&name)?.help_text()))
 }
 
 fn overview() -> String {

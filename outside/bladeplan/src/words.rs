@@ -33,6 +33,9 @@ impl Command {
     }
 }
 
+/// The options whose value names no file that is read.
+const NO_INPUTS: [&str; 2] = ["--output", "--title"];
+
 /// What was given: the words, and the options with their values.
 #[derive(Default)]
 pub struct Words {
@@ -56,7 +59,7 @@ impl Words {
         if !command.takes.contains(&given.plain.len()) {
             return Err(command.wrong(if given.plain.is_empty() { "something is missing" } else { "too few words, or too many" }));
         }
-        let inputs = given.options.iter().filter(|(name, _)| *name != "--output").map(|(_, value)| value);
+        let inputs = given.options.iter().filter(|(name, _)| !NO_INPUTS.contains(name)).map(|(_, value)| value);
         if given.plain.iter().chain(inputs).filter(|word| *word == "-").count() > 1 {
             return Err(command.wrong("standard input can be read only once"));
         }

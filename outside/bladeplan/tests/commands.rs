@@ -35,6 +35,8 @@ fn lay() {
     desk.put("commented", format!("# three hexagons\n\n{THREE}"));
     assert_eq!(desk.run("lay commented").err, "bladeplan: lay: 3 hexagons in, 16 vertices out\n");
     assert_eq!(desk.run("lay commented --quiet").err, "");
+    desk.put("from an editor", format!("\u{feff}{}", THREE.replace('\n', "\r\n").trim_end()));
+    assert_eq!(desk.run_words(["lay", "from an editor"], b"").out, desk.good("lay commented"));
     let bad = "refused with 2: the list of hexagons is empty, odd, or has a bad centre; the place says which";
     for (list, place) in
         [("", "list"), ("# one\n0\t0\n\n1\t0\n", "list, line 4"), ("0\t0\n0\t0\n", "list, line 2"), ("251\t251\n", "list, line 1")]

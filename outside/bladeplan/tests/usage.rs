@@ -18,6 +18,7 @@ fn each_command_has_a_help_with_an_example() {
         assert!(help.starts_with(&format!("usage: bladeplan {name} ")), "{help}");
         assert!(help.contains("\nexample") && help.contains(&format!("bladeplan {name} ")), "{help}");
         assert!(overview.contains(&format!("\n  {name} ")), "{name}");
+        assert_eq!(desk.good(&format!("help {name}")), help);
         let longest = help.lines().map(str::len).max();
         assert!(longest <= Some(140), "{name}: {longest:?}");
     }
