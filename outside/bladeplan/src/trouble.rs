@@ -66,7 +66,9 @@ impl fmt::Display for Trouble {
             Trouble::NoPlan { name, full, reduced } => {
                 write!(f, "{name}: not a full file, {}; not a reduced file, {}", told(full.refusal), told(reduced.refusal))
             }
-            Trouble::BadFinding { name, line } => write!(f, "{name}, line {line}: refused with {FINDINGS}: no line of a list of findings"),
+            Trouble::BadFinding { name, line } => {
+                write!(f, "{name}, line {line}: refused with {FINDINGS}: no finding, which is number, a, b, m and a note of at most 80 bytes, tabs between")
+            }
             Trouble::ClosedPipe => f.write_str("the reader of the output has gone"),
         }
     }

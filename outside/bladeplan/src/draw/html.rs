@@ -3,7 +3,6 @@
 use super::findings::Finding;
 use super::geometry::place;
 use super::page::Page;
-use super::svg::svg;
 use super::text::{escaped, many, short, shown};
 use super::{Drawing, Findings};
 use crate::points::spelled;
@@ -21,18 +20,17 @@ const COLOURS: [&str; 13] = [
 ];
 
 /// The whole page, ended by a line feed.
-pub fn html(drawing: &Drawing) -> String {
-    let page = Page::of(drawing);
+pub fn html(drawing: &Drawing, page: &Page, sheet: &str) -> String {
     let title = escaped(&drawing.title);
     let (x, y) = page.origin;
     let plan = page.plan(drawing);
     let mut out = format!("<!DOCTYPE html>\n<html lang=\"en\">\n<head>\n<meta charset=\"utf-8\">\n<title>{title}</title>\n");
     out +=
-        &format!("<meta http-equiv=\"Content-Security-Policy\" content=\"{ALONE}\">\n<style>\n{STYLE}{}</style>\n</head>\n", style(&page));
+        &format!("<meta http-equiv=\"Content-Security-Policy\" content=\"{ALONE}\">\n<style>\n{STYLE}{}</style>\n</head>\n", style(page));
     out += &format!("<body>\n<main id=\"desk\" tabindex=\"0\" data-plan=\"{} {x} {y}\" data-box=\"{plan}\">\n", page.scale);
-    out += &svg(drawing).replace("</svg>\n", "<g id=\"labels\"></g>\n</svg>\n");
+    out += &sheet.replace("</svg>\n", "<g id=\"labels\"></g>\n</svg>\n");
     out += &format!("</main>\n<aside>\n<h1>{title}</h1>\n{}", switches(drawing));
-    out += &drawing.findings.as_ref().map_or(String::new(), |findings| lists(drawing, findings, &page));
+    out += &drawing.findings.as_ref().map_or(String::new(), |findings| lists(drawing, findings, page));
     out += "</aside>\n<script type=\"text/plain\" id=\"points\">\n";
     for record in drawing.plan.records() {
         out += &format!("{} {} {} {}\n", record.point.a, record.point.b, record.point.m, record.level);

@@ -26,6 +26,13 @@ pub struct Marks {
     pub paths: Vec<String>,
 }
 
+impl Marks {
+    /// The marks that the paths draw.
+    pub fn count(&self) -> usize {
+        self.paths.iter().map(|path| path.matches('m').count()).sum()
+    }
+}
+
 /// All marks of a plan, at so many millimetres a side, in paths of at most so many; those that matter more come later, and so above others.
 pub fn marks(plan: &Plan, scale: f64, most: usize, state: impl Fn(usize) -> State) -> Vec<Marks> {
     let mut sorted: BTreeMap<(State, u8, u8), Vec<Point>> = BTreeMap::new();

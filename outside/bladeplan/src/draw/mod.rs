@@ -26,7 +26,9 @@ use crate::words::{Command, Words};
 use findings::Joined;
 use geometry::Bounds;
 use layers::Layer;
-use older::Older;
+use marks::Marks;
+use older::{Older, State};
+use page::Page;
 use std::ffi::OsStr;
 use std::io;
 
@@ -98,6 +100,12 @@ impl Drawing<'_> {
         self.layers.iter().filter(|layer| layer.level == level).map(|layer| layer.count).sum()
     }
 
+    /// The marks of all vertices, at so many millimetres a side.
+    pub fn marks(&self, scale: f64) -> Vec<Marks> {
+        let state = |at| self.older.as_ref().map_or(State::Alone, |older| older.state(at));
+        marks::marks(self.plan, scale, self.piece, state)
+    }
+
     /// The box round both plans.
     pub fn bounds(&self) -> Bounds {
         let older = self.older.iter().flat_map(|older| older.plan.records());
@@ -108,10 +116,13 @@ impl Drawing<'_> {
 fn run(words: &Words) -> Outcome<()> {
     let plan = Plan::load(&words.plain[0])?;
     let drawing = Drawing::of(&plan, words)?;
-    let page = if words.has("--html") { html::html(&drawing) } else { svg::svg(&drawing) };
-    files::write(words.output(), page.as_bytes())?;
+    let page = Page::of(&drawing);
+    let marks = drawing.marks(page.scale);
+    let sheet = svg::svg(&drawing, &page, &marks);
+    let text = if words.has("--html") { html::html(&drawing, &page, &sheet) } else { sheet };
+    files::write(words.output(), text.as_bytes())?;
     if !words.quiet() {
-        told(&drawing).iter().for_each(|line| files::say(line));
+        told(&drawing, &marks).iter().for_each(|line| files::say(line));
     }
     Ok(())
 }
@@ -133,8 +144,8 @@ fn load(plan: &Plan, path: &OsStr) -> Outcome<Findings> {
 }
 
 /// What came in and what went out.
-fn told(drawing: &Drawing) -> Vec<String> {
-    let (vertices, drawn) = (drawing.plan.records().len(), drawing.counts.vertices);
+fn told(drawing: &Drawing, marks: &[Marks]) -> Vec<String> {
+    let (vertices, drawn) = (drawing.plan.records().len(), marks.iter().map(Marks::count).sum::<usize>());
     let mut lines = vec![format!("{}: {vertices} vertices in, {drawn} drawn", drawing.plan.name)];
     lines.extend(drawing.findings.as_ref().map(|f| {
         let (count, at, lost) = (f.joined.count(), f.joined.at.len(), f.joined.lost.len());

@@ -4,8 +4,7 @@ use super::caption::TEXT;
 use super::geometry::edge;
 use super::ink::{ink, shade, EDGES, INK, NEW_FILL, OLDER, PAPER};
 use super::layers::{layers, Layer};
-use super::marks::{marks, Marks, CIRCLE, OUTLINE};
-use super::older::State;
+use super::marks::{Marks, CIRCLE, OUTLINE};
 use super::page::{Page, MARGIN};
 use super::text::{breadth, escaped, short, wrapped};
 use super::{legend, numbers, Drawing};
@@ -19,8 +18,7 @@ const LINE_PART: f64 = 0.04;
 const OLDER_WIDER: f64 = 3.2;
 
 /// The whole sheet, ended by a line feed.
-pub fn svg(drawing: &Drawing) -> String {
-    let page = Page::of(drawing);
+pub fn svg(drawing: &Drawing, page: &Page, marks: &[Marks]) -> String {
     let (w, h) = (short(page.width), short(page.height));
     let mut out = format!(
         "<svg xmlns=\"http://www.w3.org/2000/svg\" width=\"{w}mm\" height=\"{h}mm\" viewBox=\"0 0 {w} {h}\" role=\"img\" \
@@ -30,9 +28,9 @@ pub fn svg(drawing: &Drawing) -> String {
     let counted = format!("{} vertices, {} edges, {} faces", counts.vertices, counts.edges, counts.faces);
     out += &format!("<title>{}</title>\n<desc>Blade plan: {counted}</desc>\n", escaped(&drawing.title));
     out += &format!("<rect width=\"{w}\" height=\"{h}\" fill=\"{PAPER}\"/>\n");
-    out += &head(drawing, &page);
-    out += &plan(drawing, &page);
-    out += &legend::bar(&page);
+    out += &head(drawing, page);
+    out += &plan(drawing, page, marks);
+    out += &legend::bar(page);
     out += "<g id=\"caption\">\n";
     page.blocks.iter().for_each(|(area, block)| out += &legend::block(drawing, *area, block));
     out + "</g>\n</svg>\n"
@@ -59,7 +57,7 @@ fn fitted(text: &str, size: f64, width: f64) -> (String, String) {
     }
 }
 
-fn plan(drawing: &Drawing, page: &Page) -> String {
+fn plan(drawing: &Drawing, page: &Page, marks: &[Marks]) -> String {
     let mut out = format!("<g id=\"plan\" transform=\"translate({} {})\">\n", short(page.origin.0), short(page.origin.1));
     if let Some(older) = &drawing.older {
         out += &format!("<g id=\"older\" fill=\"none\" stroke=\"{OLDER}\" stroke-linejoin=\"round\">\n");
@@ -70,8 +68,7 @@ fn plan(drawing: &Drawing, page: &Page) -> String {
     out += &format!("<g id=\"faces\" stroke=\"{EDGES}\" stroke-linejoin=\"round\">\n");
     drawing.layers.iter().for_each(|layer| out += &faces(layer, page.scale, 1.0, &fill(drawing, layer)));
     out += "</g>\n<g id=\"marks\">\n";
-    let state = |at| drawing.older.as_ref().map_or(State::Alone, |older| older.state(at));
-    marks(drawing.plan, page.scale, drawing.piece, state).iter().for_each(|group| out += &vertices(group, page.scale));
+    marks.iter().for_each(|group| out += &vertices(group, page.scale));
     out + "</g>\n" + &numbers::findings(drawing, page) + "</g>\n"
 }
 

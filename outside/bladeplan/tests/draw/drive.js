@@ -29,7 +29,8 @@ addEventListener('load', async () => {
     say('the whole sheet is seen', sheet.getBoundingClientRect().height <= desk.clientHeight + 1);
     const lists = document.querySelectorAll('aside ol');
     say('the lost come first', lists.length === 2 && lists[0].className === 'lost' && lists[0].textContent.includes('gone'));
-    say('in red, and counted', getComputedStyle(lists[0].querySelector('.note')).color === 'rgb(176, 0, 32)' && at('desk').nextElementSibling.textContent.includes('1 finding with no vertex'));
+    const red = getComputedStyle(lists[0].querySelector('.note')).color === 'rgb(176, 0, 32)';
+    say('in red, and counted', red && document.querySelector('aside h2').textContent === '1 finding with no vertex');
     const item = document.querySelectorAll('[data-ring]')[1], ring = at('ring' + item.dataset.ring);
     item.click();
     await rest();
