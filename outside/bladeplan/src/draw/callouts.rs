@@ -18,8 +18,9 @@ const RING_PART: f64 = 0.7;
 const WAYS: [(f64, f64); 8] = [(0.8, -0.6), (0.8, 0.6), (-0.8, -0.6), (-0.8, 0.6), (0.0, -1.0), (1.0, 0.0), (-1.0, 0.0), (0.0, 1.0)];
 /// How far a box keeps from the rings of others.
 const CLEAR: f64 = 1.0;
-/// Boxes are looked for in cells of this size.
-const CELL: f64 = 20.0;
+/// Boxes are looked for in cells of this size; one that holds so many is full, and more do not count.
+const CELL: f64 = 10.0;
+const FULL: usize = 40;
 
 /// A vertex with findings: where, the length of its edges on the page, and the numbers.
 pub struct Place {
@@ -114,7 +115,12 @@ impl Taken {
             Shape::Box(rect) => rect,
             Shape::Ring((x, y), r) => (x - r - CLEAR, y - r - CLEAR, x + r + CLEAR, y + r + CLEAR),
         };
-        cells(rect).for_each(|cell| self.cells.entry(cell).or_default().push(shape));
+        for cell in cells(rect) {
+            let list = self.cells.entry(cell).or_default();
+            if list.len() < FULL {
+                list.push(shape);
+            }
+        }
     }
 
     /// How many lie on a box whose ring has this middle; one that lies in two cells may count twice.

@@ -28,7 +28,7 @@ pub fn html(drawing: &Drawing, page: &Page, sheet: &str) -> String {
     out +=
         &format!("<meta http-equiv=\"Content-Security-Policy\" content=\"{ALONE}\">\n<style>\n{STYLE}{}</style>\n</head>\n", style(page));
     out += &format!("<body>\n<main id=\"desk\" tabindex=\"0\" data-plan=\"{} {x} {y}\" data-box=\"{plan}\">\n", page.scale);
-    out += &sheet.replace("</svg>\n", "<g id=\"labels\"></g>\n</svg>\n");
+    out += &sheet.replacen(">\n", ">\n<g id=\"moved\">\n", 1).replace("</svg>\n", "<g id=\"labels\"></g>\n</g>\n</svg>\n");
     out += &format!("</main>\n<aside>\n<h1>{title}</h1>\n{}", switches(drawing));
     out += &drawing.findings.as_ref().map_or(String::new(), |findings| lists(drawing, findings, page));
     out += "</aside>\n<script type=\"text/plain\" id=\"points\">\n";

@@ -4,7 +4,7 @@ use super::callouts::{callouts, Callout, Place, LINE};
 use super::geometry::{edge, place};
 use super::ink::{ALARM, PAPER};
 use super::page::Page;
-use super::text::short;
+use super::text::{exact, short};
 use super::Drawing;
 
 /// The findings of a drawing; nothing where it has no list. Ring i and box i are of one vertex, and keep their middle when scaled.
@@ -19,7 +19,7 @@ pub fn findings(drawing: &Drawing, page: &Page) -> String {
     let places: Vec<Place> = findings.joined.places().into_iter().map(at).collect();
     let all = callouts(&places, (page.width, page.sheet));
     let group = |kind: &str, i: usize, one: &Callout, what: &str| {
-        format!("<g id=\"{kind}{i}\" transform=\"translate({} {})\"><g>{what}</g></g>\n", short(one.at.0), short(one.at.1))
+        format!("<g id=\"{kind}{i}\" transform=\"translate({} {})\"><g>{what}</g></g>\n", exact(one.at.0), exact(one.at.1))
     };
     let ((x, y), type_size) = (page.origin, all.first().map_or(1.0, |one| one.type_size));
     let mut out = format!("<g id=\"findings\" data-type=\"{type_size}\" transform=\"translate({} {})\">\n", short(-x), short(-y));

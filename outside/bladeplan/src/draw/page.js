@@ -1,8 +1,8 @@
 'use strict';
-// The sheet is moved and scaled by one CSS transform, so that the browser draws only the part that is seen; print takes it off again.
+// While the hand moves, the sheet is moved as a picture; when it rests, what is seen is drawn anew. Print takes all moves off again.
 (() => {
   const at = id => document.getElementById(id);
-  const desk = at('desk'), sheet = desk.querySelector('svg'), labels = at('labels');
+  const desk = at('desk'), sheet = desk.querySelector('svg'), moved = at('moved'), labels = at('labels');
   const PIXELS = 96 / 25.4; // of a millimetre, unscaled
   const DEEPEST = 4e4, LABELS = 800, ROOM = 62; // pixels a millimetre at most; labels at most; pixels that a label takes
   const NUMBERS = 12 / (at('findings')?.dataset.type ?? 1); // of findings: 12 pixels at most
@@ -10,6 +10,7 @@
   const [boxX, boxY, boxWidth, boxHeight] = desk.dataset.box.split(' ').map(Number);
   const { width, height } = sheet.viewBox.baseVal;
   const view = { x: 0, y: 0, k: 1 }; // the millimetre in the desk's corner, and pixels a millimetre
+  let drawn = { x: 0, y: 0, k: PIXELS }; // the same, of what is drawn
   let whole = 1, waiting = 0, points = null, chosen = null;
 
   function fit(x, y, w, h) {
@@ -26,14 +27,16 @@
 
   function show() {
     sheet.style.willChange = 'transform';
-    sheet.style.transform = `translate(${-view.x * view.k}px,${-view.y * view.k}px) scale(${view.k / PIXELS})`;
+    sheet.style.transform = `translate(${(drawn.x - view.x) * view.k}px,${(drawn.y - view.y) * view.k}px) scale(${view.k / drawn.k})`;
     clearTimeout(waiting);
     waiting = setTimeout(settle, 120);
   }
 
   // when the hand rests: drawn sharp, marks that can be seen, numbers and labels in the size of the screen
   function settle() {
-    sheet.style.willChange = 'auto';
+    drawn = { ...view };
+    sheet.style.willChange = sheet.style.transform = '';
+    moved.setAttribute('transform', `scale(${view.k / PIXELS}) translate(${-view.x} ${-view.y})`);
     sheet.style.setProperty('--k', Math.min(1, NUMBERS / view.k));
     for (const marks of at('marks').children) marks.classList.toggle('small', marks.dataset.r * view.k < 0.5);
     label();
@@ -103,7 +106,11 @@
   for (const item of document.querySelectorAll('[data-ring]')) item.addEventListener('click', () => choose(item));
 
   // ---- the hand
-  let hand = null;
+  const hands = new Map(); // where each pointer is held: one drags, two stretch
+  const release = id => {
+    hands.delete(id);
+    desk.classList.toggle('held', hands.size > 0);
+  };
   desk.addEventListener('wheel', event => {
     event.preventDefault();
     const box = desk.getBoundingClientRect(), step = event.deltaMode === 1 ? 30 : 1;
@@ -111,20 +118,25 @@
   }, { passive: false });
   desk.addEventListener('pointerdown', event => {
     if (event.button) return;
-    hand = { x: event.clientX, y: event.clientY };
+    hands.set(event.pointerId, { x: event.clientX, y: event.clientY });
     desk.classList.add('held');
   });
   addEventListener('pointermove', event => {
-    if (!hand) return;
-    view.x -= (event.clientX - hand.x) / view.k;
-    view.y -= (event.clientY - hand.y) / view.k;
-    hand = { x: event.clientX, y: event.clientY };
+    const old = hands.get(event.pointerId);
+    if (!old) return;
+    if (!event.buttons) return release(event.pointerId); // let go outside the window
+    const now = { x: event.clientX, y: event.clientY };
+    hands.set(event.pointerId, now);
+    const other = [...hands.values()].find(hand => hand !== now);
+    if (other) {
+      const box = desk.getBoundingClientRect(), far = hand => Math.max(1, Math.hypot(hand.x - other.x, hand.y - other.y));
+      return zoom(far(now) / far(old), other.x - box.left, other.y - box.top);
+    }
+    view.x -= (now.x - old.x) / view.k;
+    view.y -= (now.y - old.y) / view.k;
     show();
   });
-  for (const end of ['pointerup', 'pointercancel']) addEventListener(end, () => {
-    hand = null;
-    desk.classList.remove('held');
-  });
+  for (const end of ['pointerup', 'pointercancel']) addEventListener(end, event => release(event.pointerId));
   desk.addEventListener('keydown', event => {
     const w = desk.clientWidth / 2, h = desk.clientHeight / 2, step = 60 / view.k;
     const does = {
@@ -143,7 +155,7 @@
   at('older-shown').addEventListener('change', event => sheet.classList.toggle('alone', !event.target.checked));
   at('coloured').addEventListener('change', event => sheet.classList.toggle('coloured', event.target.checked));
   at('labelled').addEventListener('change', label);
-  addEventListener('resize', fitPlan);
+  addEventListener('resize', show);
   fitPlan();
   settle();
 })();

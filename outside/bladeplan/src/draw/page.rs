@@ -117,8 +117,9 @@ impl Page {
         let scale = (inner.width / bounds.width()).min(inner.height / bounds.height());
         let x = inner.x + (inner.width - scale * bounds.width()) / 2.0 - scale * bounds.left;
         let y = inner.y + (inner.height - scale * bounds.height()) / 2.0 - scale * bounds.top;
+        let hundredth = |x: f64| (x * 100.0).round() / 100.0; // as it is written
         let bar = Area { x: area.x, y: area.y + area.height - BAR, width: area.width, height: BAR };
-        Page { width, height, sheet: height, bar, blocks, scale, origin: (x, y) }
+        Page { width, height, sheet: height, bar, blocks, scale, origin: (hundredth(x), hundredth(y)) }
     }
 
     /// The plan's box on the sheet, with the room round it: x, y, width, height.

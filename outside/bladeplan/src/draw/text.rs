@@ -59,7 +59,15 @@ pub fn many(n: usize, one: &str, more: &str) -> String {
 
 /// A length as short as it can be: two decimals at most, no minus before a zero.
 pub fn short(x: f64) -> String {
-    let text = format!("{x:.2}");
+    trimmed(format!("{x:.2}"))
+}
+
+/// A place that may be looked at from very near: seven decimals at most.
+pub fn exact(x: f64) -> String {
+    trimmed(format!("{x:.7}"))
+}
+
+fn trimmed(text: String) -> String {
     let text = text.trim_end_matches('0').trim_end_matches('.');
     if text == "-0" {
         "0".to_string()

@@ -9,7 +9,7 @@ use std::time::Instant;
 const BROWSERS: [&str; 4] = ["chromium", "chromium-browser", "google-chrome", "chrome"];
 const DRIVE: &str = include_str!("drive.js");
 /// What drive.js tries, a line each.
-const TRIED: usize = 14;
+const TRIED: usize = 15;
 
 /// The first browser that starts.
 fn browser() -> Option<&'static str> {

@@ -5,28 +5,34 @@ addEventListener('load', async () => {
   const desk = at('desk'), sheet = desk.querySelector('svg');
   const rest = () => new Promise(done => setTimeout(done, 400));
   const say = (what, well) => lines.push(`${well ? 'ok' : 'failed'} ${what}`);
-  const matrix = () => new DOMMatrix(getComputedStyle(sheet).transform);
+  const matrix = () => at('moved').getScreenCTM(); // from millimetres to the screen, once the hand rests
   const middle = element => { const r = element.getBoundingClientRect(); return { x: r.x + r.width / 2, y: r.y + r.height / 2 }; };
-  const pointer = (type, x, y, on) => on.dispatchEvent(new PointerEvent(type, { clientX: x, clientY: y, button: 0, bubbles: true }));
+  const pointer = (type, x, y, on, pointerId = 1) =>
+    on.dispatchEvent(new PointerEvent(type, { pointerId, clientX: x, clientY: y, button: 0, buttons: type === 'pointerup' ? 0 : 1, bubbles: true }));
   const press = id => at(id).click();
   const near = (p, q) => Math.hypot(p.x - q.x, p.y - q.y) < 3;
   try {
     await rest();
     const first = matrix();
-    const place = { x: 300, y: 200 }, before = first.inverse().transformPoint(place);
+    const place = { x: 300, y: 200 }, before = new DOMPoint(place.x, place.y).matrixTransform(first.inverse());
     desk.dispatchEvent(new WheelEvent('wheel', { deltaY: -300, clientX: 300, clientY: 200, bubbles: true, cancelable: true }));
     await rest();
     say('the wheel zooms in', matrix().a > first.a * 1.5);
-    say('the point under the wheel stays', near(matrix().transformPoint(before), place));
+    say('the point under the wheel stays', near(before.matrixTransform(matrix()), place));
     const held = matrix();
     pointer('pointerdown', 300, 300, desk); pointer('pointermove', 360, 340, window); pointer('pointerup', 360, 340, window);
     await rest();
     say('dragging moves', Math.abs(matrix().e - held.e - 60) < 1 && Math.abs(matrix().f - held.f - 40) < 1 && matrix().a === held.a);
     pointer('pointermove', 500, 500, window);
+    await rest();
     say('and ends', Math.abs(matrix().e - held.e - 60) < 1);
+    pointer('pointerdown', 300, 300, desk); pointer('pointerdown', 400, 300, desk, 2);
+    pointer('pointermove', 500, 300, window, 2); pointer('pointerup', 300, 300, window); pointer('pointerup', 500, 300, window, 2);
+    await rest();
+    say('two fingers stretch', Math.abs(matrix().a / held.a - 2) < 0.01);
     press('sheet-seen');
     await rest();
-    say('the whole sheet is seen', sheet.getBoundingClientRect().height <= desk.clientHeight + 1);
+    say('the whole sheet is seen', sheet.querySelector('rect').getBoundingClientRect().height <= desk.clientHeight + 1);
     const lists = document.querySelectorAll('aside ol');
     say('the lost come first', lists.length === 2 && lists[0].className === 'lost' && lists[0].textContent.includes('gone'));
     const red = getComputedStyle(lists[0].querySelector('.note')).color === 'rgb(176, 0, 32)';
