@@ -3,16 +3,22 @@
 mod common;
 
 use common::Desk;
-use std::collections::HashSet;
+use std::collections::{BTreeSet, HashSet};
 
 const EIGHT: &str = "refused with 8: too few free slots in the table; of the census, an input of over 65,536 bytes";
 /// Half a side of the rhombus that is laid, and how often it is subdivided; with three hexagons apart that makes 65,536 vertices.
 const HALF: i32 = 126;
 const SUBDIVIDED: usize = 138;
 
+const AROUND: [(i32, i32); 6] = [(1, 0), (0, 1), (-1, 1), (-1, 0), (0, -1), (1, -1)];
+
+fn centres(half: i32) -> impl Iterator<Item = (i32, i32)> {
+    let all = (-half..=half).flat_map(move |a| (-half..=half).map(move |b| (a, b)));
+    all.filter(|(a, b)| (a - b) % 3 == 0)
+}
+
 fn rhombus(half: i32) -> String {
-    let all = (-half..=half).flat_map(|a| (-half..=half).map(move |b| (a, b)));
-    all.filter(|(a, b)| (a - b) % 3 == 0).map(|(a, b)| format!("{a}\t{b}\n")).collect()
+    centres(half).map(|(a, b)| format!("{a}\t{b}\n")).collect()
 }
 
 #[test]
@@ -43,7 +49,7 @@ fn with_another_star(base: &str, points: &[String]) -> usize {
     let inner: HashSet<(i32, i32)> = records.iter().filter(|r| r[3] != 0).map(|r| (r[0], r[1])).collect();
     let around = |p: &String| {
         let p = fields(p);
-        [(0, 0), (1, 0), (0, 1), (-1, 1), (-1, 0), (0, -1), (1, -1)].map(|(a, b)| (p[0] + a, p[1] + b))
+        AROUND.into_iter().chain([(0, 0)]).map(move |(a, b)| (p[0] + a, p[1] + b))
     };
     points.iter().flat_map(around).filter(|point| inner.contains(point)).collect::<HashSet<_>>().len()
 }
@@ -53,4 +59,35 @@ fn one_vertex_more() {
     let desk = Desk::new("larger");
     desk.put("centres.txt", rhombus(HALF + 2));
     desk.refused("lay centres.txt", 8, &format!("centres.txt: {EIGHT}"));
+}
+
+/// The reduced file of a rhombus laid, as text: no library is asked, so it may be larger than any table.
+fn reduced(half: i32) -> String {
+    let listed: HashSet<(i32, i32)> = centres(half).collect();
+    let beside = |(a, b): (i32, i32)| AROUND.map(|(x, y)| (a + x, b + y));
+    let within = |p: (i32, i32)| beside(p).into_iter().filter(|q| listed.contains(q)).count() == 3;
+    let is_six = |p: (i32, i32)| (p.0 - p.1).rem_euclid(3) == 1 && within(p);
+    let corners = listed.iter().flat_map(|centre| beside(*centre));
+    let points: BTreeSet<(i32, i32)> = listed.iter().copied().chain(corners).collect();
+    let line = |p: (i32, i32)| match (listed.contains(&p), within(p)) {
+        _ if is_six(p) => Some((p, 6, 0)),
+        (true, _) | (_, true) if beside(p).into_iter().any(is_six) => None,
+        (true, _) => Some((p, 3, 0)),
+        (_, true) => Some((p, 3, 2)),
+        _ => Some((p, 0, 0)),
+    };
+    points.into_iter().filter_map(line).map(|((a, b), d, k)| format!("{a}\t{b}\t0\t{d}\t{k}\t0\n")).collect()
+}
+
+/// It is no full file, and no table holds what it is the reduced file of: both are told, and 8 is the status.
+#[test]
+fn too_large_once_restored() {
+    let desk = Desk::new("restored");
+    desk.put("small", rhombus(6));
+    desk.good("lay small -o small.full");
+    assert_eq!(desk.good("reduce small.full"), reduced(6));
+    desk.put("plan", reduced(HALF + 2));
+    let eleven =
+        "refused with 11: these records are no grown mesh: a vertex is missing, or something was changed by hand; also an empty file";
+    desk.refused("check plan", 8, &format!("plan: not a full file, {eleven}; not a reduced file, {EIGHT}"));
 }
