@@ -40,8 +40,8 @@ impl List {
         self.lines.iter().map(|(number, line)| parse(line).ok_or_else(|| malformed(*number))).collect()
     }
 
-    /// The number of the line of the item at a place, counted from 0; 0 where there is none.
-    pub fn line(&self, place: u64) -> u64 {
-        usize::try_from(place).ok().and_then(|place| self.lines.get(place)).map_or(0, |(number, _)| *number)
+    /// The line of an item, counted from 0; the file where there is none.
+    pub fn place(&self, item: usize) -> Place {
+        Place::in_file(&self.name, self.lines.get(item).map_or(0, |(number, _)| *number))
     }
 }

@@ -1,4 +1,5 @@
-//! bladeplan: blade plans at the command line. Thin over the proved library: every answer about a plan comes from one of its calls.
+//! bladeplan: blade plans at the command line. Thin over the proved library, whose calls answer what is asked of a plan; what little is worked
+//! out here instead is listed in docs/DECISIONS.md.
 
 mod commands;
 mod counted;

@@ -4,6 +4,7 @@ mod common;
 
 use common::{Desk, Ran, BLADEPLAN};
 use std::fs;
+use std::io::Write;
 use std::os::unix::fs::{symlink, PermissionsExt};
 use std::process::{Command, Stdio};
 
@@ -99,10 +100,13 @@ fn what_is_no_plain_file_is_written_as_it_is() {
 #[test]
 fn a_closed_pipe() {
     let desk = Desk::with_plan("pipe");
-    let (reader, writer) = std::io::pipe().expect("a pipe");
-    drop(reader);
     let mut command = Command::new(BLADEPLAN);
-    let output = command.args(["restore", "plan.full"]).current_dir(&desk.place).stdout(writer).stderr(Stdio::piped()).output();
-    let output = output.expect("the command runs");
+    let piped = command.args(["restore", "-"]).stdin(Stdio::piped()).stdout(Stdio::piped()).stderr(Stdio::piped());
+    let mut child = piped.spawn().expect("the command starts");
+    drop(child.stdout.take());
+    let mut stdin = child.stdin.take().expect("a pipe");
+    stdin.write_all(desk.get("plan.full").as_bytes()).expect("it reads");
+    drop(stdin);
+    let output = child.wait_with_output().expect("the command ends");
     assert_eq!((output.status.code(), String::from_utf8_lossy(&output.stderr).as_ref()), (Some(74), ""));
 }

@@ -44,9 +44,8 @@ fn hexagons(count: usize) -> String {
 
 /// The line of the bad centre; the file where it is the whole list.
 fn place(list: &List, refused: RefusedAt) -> Place {
-    let line = match refused.refusal {
-        Refusal::BadCentre => list.line(refused.at),
-        _ => 0,
-    };
-    Place::in_file(&list.name, line)
+    match (refused.refusal, usize::try_from(refused.at)) {
+        (Refusal::BadCentre, Ok(item)) => list.place(item),
+        _ => Place::File(list.name.clone()),
+    }
 }

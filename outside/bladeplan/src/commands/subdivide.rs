@@ -30,28 +30,29 @@ example: twice round the pit at 1,0
 fn run(words: &Words) -> Outcome<()> {
     let (plan_word, point_words) = words.plain.split_first().ok_or_else(|| COMMAND.wrong("no plan is given"))?;
     let mut wanted = point_words.iter().map(|word| point_word(&COMMAND, word)).collect::<Outcome<Vec<Point>>>()?;
-    if wanted.is_empty() && !words.has("--list") {
+    let typed = wanted.len();
+    if typed == 0 && !words.has("--list") {
         return Err(COMMAND.wrong("no point is given"));
     }
     let plan = Plan::load(plan_word)?;
-    let listed = wanted.len();
     let list = words.value("--list").map(List::load).transpose()?;
     if let Some(list) = &list {
         wanted.extend(list.parsed(point)?);
     }
     let file = plan.subdivided(&wanted)?.map_err(|refused| {
         let at = usize::try_from(refused.at).unwrap_or(usize::MAX);
-        Trouble::refused(place(&plan, &wanted, at, list.as_ref().filter(|_| at >= listed), listed), refused.refusal)
+        let line = list.as_ref().zip(at.checked_sub(typed)).map(|(list, item)| list.place(item));
+        Trouble::refused(place(&plan, wanted.get(at), line), refused.refusal)
     })?;
     counted::write(&COMMAND, words, &counted::vertices(&plan, "in"), &file)
 }
 
-/// The point at fault, as it was spelled, and the list's line that has it.
-fn place(plan: &Plan, wanted: &[Point], at: usize, list: Option<&List>, listed: usize) -> Place {
+/// The point at fault, as it was spelled, and the list's line where it has one.
+fn place(plan: &Plan, p: Option<&Point>, line: Option<Place>) -> Place {
     let name = plan.name.clone();
-    match (wanted.get(at), list) {
+    match (p, line) {
         (Some(p), None) => Place::Point(name, *p),
-        (Some(p), Some(list)) => Place::Listed(name, *p, Box::new(Place::in_file(&list.name, list.line((at - listed) as u64)))),
+        (Some(p), Some(line)) => Place::Listed(name, *p, Box::new(line)),
         (None, _) => Place::File(name),
     }
 }
