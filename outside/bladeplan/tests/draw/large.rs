@@ -52,5 +52,7 @@ fn at_most_sixty_bytes_a_vertex() {
         assert_eq!(sheet.moves("marks"), vertices + rim);
         let levels = sheet.all("faces", "path").count();
         assert!(levels <= 13, "{levels} paths for the faces: one for each level");
+        let page = Sheet::of_page(&desk.good(&format!("draw {name} --html -q")));
+        assert_eq!((page.moves("faces"), page.moves("marks")), (sheet.moves("faces"), sheet.moves("marks")), "in pieces");
     }
 }

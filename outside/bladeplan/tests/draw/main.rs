@@ -20,13 +20,15 @@ fn place(point: &str) -> (f64, f64) {
     ((numbers[0] + numbers[1] / 2.0) / part, -numbers[1] * 3f64.sqrt() / 2.0 / part)
 }
 
+/// Within a hundredth of a side: corners of marks are rounded, and the scale bar's length is.
 fn near(one: (f64, f64), other: (f64, f64)) -> bool {
-    (one.0 - other.0).abs() < 1e-3 && (one.1 - other.1).abs() < 1e-3
+    (one.0 - other.0).abs() < 0.01 && (one.1 - other.1).abs() < 0.01
 }
 
 #[test]
 fn the_faces_are_the_library_s() {
-    let desk = Desk::with_plan("faces-drawn");
+    let desk = Desk::new("faces-drawn");
+    desk.put("plan.full", include_str!("../../../../examples/plan.full"));
     let sheet = Sheet::of(&desk.good("draw plan.full -q"));
     let side = sheet.side();
     let drawn: Vec<sheet::Figure> =
@@ -41,7 +43,24 @@ fn the_faces_are_the_library_s() {
             told += 1;
         }
     }
-    assert_eq!((drawn.len(), told), (21, 6 * 3 + 9 * 4 + 6));
+    assert_eq!((drawn.len(), told), (162, 67 * 3 + 42 * 4 + 9 * 5 + 22 * 6));
+}
+
+#[test]
+fn a_mark_has_a_corner_for_each_neighbour() {
+    let desk = Desk::with_plan("corners");
+    let sheet = Sheet::of(&desk.good("draw plan.full -q"));
+    let (side, marks, file) = (sheet.side(), sheet.figures("marks"), desk.get("plan.full"));
+    let middle = |figure: &sheet::Figure| {
+        let sum = figure.iter().fold((0.0, 0.0), |sum, corner| (sum.0 + corner.0, sum.1 + corner.1));
+        (sum.0 / side / figure.len() as f64, sum.1 / side / figure.len() as f64)
+    };
+    for line in file.lines().filter(|line| line.split('\t').nth(3) != Some("0")) {
+        let degree: usize = line.split('\t').nth(3).and_then(|field| field.parse().ok()).expect("a degree");
+        let here = |figure: &&sheet::Figure| near(middle(figure), place(line));
+        let corners: Vec<usize> = marks.iter().filter(here).map(Vec::len).collect();
+        assert_eq!(corners, [degree], "{line}");
+    }
 }
 
 #[test]
@@ -126,6 +145,5 @@ fn a_page_stands_alone_and_its_script_is_small() {
     assert!(page.contains("default-src 'none'"));
     let script = page.rsplit("<script>").next().and_then(|after| after.split("</script>").next()).expect("a script");
     assert!(script.lines().count() < 200, "{} lines of script", script.lines().count());
-    let (from, to) = (page.find("<svg").expect("a sheet"), page.find("</svg>").expect("its end"));
-    xml::parse(&page[from..to + 6]).expect("the page's sheet is XML too");
+    assert_eq!(Sheet::of_page(&page).moves("faces"), 21);
 }

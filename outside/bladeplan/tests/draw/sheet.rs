@@ -14,6 +14,12 @@ impl Sheet {
         Sheet { elements: parse(svg).unwrap_or_else(|wrong| panic!("no XML: {wrong}")) }
     }
 
+    /// The sheet within a page.
+    pub fn of_page(html: &str) -> Sheet {
+        let (from, to) = (html.find("<svg").expect("a sheet"), html.find("</svg>").expect("its end"));
+        Sheet::of(&html[from..to + "</svg>".len()])
+    }
+
     pub fn root(&self, name: &str) -> &str {
         self.elements[0].get(name)
     }
