@@ -1,10 +1,11 @@
 //! What stands beside or under the plan: the counts and the legend in one, since each row of the legend has its count; the older plan, the
 //! findings, and each finding that was lost.
 
-use super::marks::{spelled, DEGREES};
+use super::marks::DEGREES;
 use super::older::{Older, State};
-use super::text::{grouped, many, shown, wrapped};
+use super::text::{cut, grouped, many, shown, wrapped};
 use super::{Drawing, Findings};
+use crate::points::spelled;
 
 /// What is drawn before a row's text.
 #[derive(Clone, Copy, PartialEq, Debug)]
@@ -23,7 +24,7 @@ pub struct Row {
     pub symbol: Symbol,
     pub text: String,
     pub count: String,
-    /// Set apart in red and bold: what must not be overlooked.
+    /// Set apart in red: what must not be overlooked.
     pub alarm: bool,
 }
 
@@ -34,6 +35,8 @@ pub struct Block {
     pub rows: Vec<Row>,
 }
 
+/// The degree whose mark stands for any.
+const ANY: u8 = 3;
 /// In millimetres: the height of a row, the gap under a block, where a row's text begins, its size.
 pub const ROW: f64 = 4.4;
 pub const GAP: f64 = 4.0;
@@ -58,10 +61,9 @@ fn row(symbol: Symbol, text: &str, count: usize) -> Row {
     Row { symbol, text: text.to_string(), count: grouped(count), alarm: false }
 }
 
-/// A text of as many rows as it needs.
-fn plain(text: &str, width: f64, alarm: bool) -> Vec<Row> {
-    let line = |text| Row { symbol: Symbol::None, text, count: String::new(), alarm };
-    wrapped(text, width / TEXT).into_iter().map(line).collect()
+/// A row of text alone.
+fn plain(text: String, alarm: bool) -> Row {
+    Row { symbol: Symbol::None, text, count: String::new(), alarm }
 }
 
 fn vertices(drawing: &Drawing) -> Block {
@@ -87,19 +89,19 @@ fn faces(drawing: &Drawing) -> Block {
 }
 
 fn before(older: &Older, width: f64) -> Block {
-    let mut rows = plain(&older.name, width, false);
+    let mut rows = vec![plain(cut(&older.name, width / TEXT), false)];
     rows.push(Row { count: String::new(), ..row(Symbol::OlderEdges, "its edges", 0) });
     rows.push(row(Symbol::NewFaces, "new faces", older.new_faces()));
     rows.push(row(Symbol::None, "faces gone", older.faces_gone()));
-    rows.push(row(Symbol::Mark(3, State::New), "new vertices", older.count(State::New)));
-    rows.push(row(Symbol::Mark(3, State::Changed), "with another star", older.count(State::Changed)));
-    rows.push(row(Symbol::Mark(3, State::Same), "as they were", older.count(State::Same)));
+    rows.push(row(Symbol::Mark(ANY, State::New), "new vertices", older.count(State::New)));
+    rows.push(row(Symbol::Mark(ANY, State::Changed), "with another star", older.count(State::Changed)));
+    rows.push(row(Symbol::Mark(ANY, State::Same), "as they were", older.count(State::Same)));
     rows.push(row(Symbol::None, "vertices gone", older.gone));
     Block { heading: format!("Older plan, {}", many(older.plan.records().len(), "vertex", "vertices")), rows }
 }
 
 fn found(findings: &Findings, width: f64) -> Block {
-    let mut rows = plain(&findings.name, width, false);
+    let mut rows = vec![plain(cut(&findings.name, width / TEXT), false)];
     rows.push(row(Symbol::Finding, "at a vertex", findings.joined.at.len()));
     let lost = findings.joined.lost.len();
     rows.push(Row { alarm: lost > 0, ..row(Symbol::None, "with no vertex", lost) });
@@ -110,7 +112,8 @@ fn found(findings: &Findings, width: f64) -> Block {
 pub fn lost(drawing: &Drawing, width: f64) -> Option<Block> {
     let lost = &drawing.findings.as_ref()?.joined.lost;
     let line = |f: &super::findings::Finding| format!("{}  {}  {}", f.number, spelled(f.point), shown(&f.note));
-    let rows: Vec<Row> = lost.iter().flat_map(|finding| plain(&line(finding), width, true)).collect();
+    let lines = lost.iter().flat_map(|finding| wrapped(&line(finding), width / TEXT));
+    let rows: Vec<Row> = lines.map(|text| plain(text, true)).collect();
     let heading = format!("{} with no vertex in this plan:", many(lost.len(), "finding", "findings"));
     (!rows.is_empty()).then_some(Block { heading, rows })
 }

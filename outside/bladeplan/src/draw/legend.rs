@@ -5,7 +5,7 @@ use super::ink::{ink, shade, ALARM, EDGES, INK, NEW_FILL, OLDER, PAPER};
 use super::marks::{shape, CIRCLE, OUTLINE};
 use super::older::State;
 use super::page::{Area, Page};
-use super::text::{escaped, grouped, short};
+use super::text::{escaped, many, short};
 use super::Drawing;
 
 /// A bar as long as a round number of sides.
@@ -14,7 +14,7 @@ pub fn bar(page: &Page) -> String {
     let sides = [1, 2, 5, 10, 20, 50, 100, 200, 500].into_iter().take_while(fits).last().unwrap_or(1);
     let (length, x, y) = (sides as f64 * page.scale, page.bar.x, page.bar.y + page.bar.height - 5.0);
     let half = length / 2.0;
-    let text = if sides == 1 { "1 side of a hexagon".to_string() } else { format!("{} sides of a hexagon", grouped(sides)) };
+    let text = many(sides, "side of a hexagon", "sides of a hexagon");
     format!(
         "<g id=\"bar\"><rect x=\"{x}\" y=\"{0}\" width=\"{1}\" height=\"1.4\" fill=\"{PAPER}\" stroke=\"{INK}\" stroke-width=\".25\"/>\
          <rect x=\"{x}\" y=\"{0}\" width=\"{2}\" height=\"1.4\"/><text x=\"{3}\" y=\"{4}\">{text}</text></g>\n",

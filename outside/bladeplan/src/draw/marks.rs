@@ -87,8 +87,3 @@ pub fn shape(degree: u8) -> &'static [(f64, f64)] {
 /// How thick the outline of an open mark is, in parts of its size; how wide the circle at the rim.
 pub const OUTLINE: f64 = 0.3;
 pub const CIRCLE: f64 = 1.7;
-
-/// A point as labels show it.
-pub fn spelled(p: Point) -> String {
-    format!("[{}, {}, {}]", p.a, p.b, p.m)
-}

@@ -6,7 +6,7 @@ use super::ink::{ink, shade, EDGES, INK, NEW_FILL, OLDER, PAPER};
 use super::layers::{layers, Layer};
 use super::marks::{Marks, CIRCLE, OUTLINE};
 use super::page::{Page, MARGIN};
-use super::text::{breadth, escaped, short, wrapped};
+use super::text::{breadth, cut, escaped, short};
 use super::{legend, numbers, Drawing};
 
 /// The title's size in millimetres, 16 points, and the smallest that any line may have, 7 points.
@@ -50,10 +50,10 @@ fn head(drawing: &Drawing, page: &Page) -> String {
 
 /// A line's size and text: smaller where it would be wider than this, and cut where it would be too small to read.
 fn fitted(text: &str, size: f64, width: f64) -> (String, String) {
-    let size = size.min(width / breadth(text)).max(SMALLEST);
-    match wrapped(text, width / size - 1.0).split_first() {
-        Some((first, [_, ..])) => (short(size), format!("{first}…")),
-        _ => (short(size), text.to_string()),
+    let size = size.min(width / breadth(text));
+    match size < SMALLEST {
+        true => (short(SMALLEST), cut(text, width / SMALLEST)),
+        false => (short(size), text.to_string()),
     }
 }
 
@@ -62,7 +62,7 @@ fn plan(drawing: &Drawing, page: &Page, marks: &[Marks]) -> String {
     if let Some(older) = &drawing.older {
         out += &format!("<g id=\"older\" fill=\"none\" stroke=\"{OLDER}\" stroke-linejoin=\"round\">\n");
         let layers = layers(&older.plan, &older.faces, drawing.piece, |_| false);
-        layers.iter().for_each(|layer| out += &faces(layer, page.scale, OLDER_WIDER, "none"));
+        layers.iter().for_each(|layer| out += &faces(layer, page.scale, OLDER_WIDER, ""));
         out += "</g>\n";
     }
     out += &format!("<g id=\"faces\" stroke=\"{EDGES}\" stroke-linejoin=\"round\">\n");
@@ -72,12 +72,12 @@ fn plan(drawing: &Drawing, page: &Page, marks: &[Marks]) -> String {
     out + "</g>\n" + &numbers::findings(drawing, page) + "</g>\n"
 }
 
-/// Over an older plan only what is new is filled, so that the older lines are seen.
+/// Over an older plan only what is new is filled, and lightly, so that the older lines are seen.
 fn fill(drawing: &Drawing, layer: &Layer) -> String {
     match (&drawing.older, layer.new) {
-        (None, _) => shade(drawing, layer.level),
-        (Some(_), true) => format!("{NEW_FILL}\" fill-opacity=\".6"),
-        (Some(_), false) => "none".to_string(),
+        (None, _) => format!("fill=\"{}\"", shade(drawing, layer.level)),
+        (Some(_), true) => format!("fill=\"{NEW_FILL}\" fill-opacity=\".6\""),
+        (Some(_), false) => "fill=\"none\"".to_string(),
     }
 }
 
@@ -95,7 +95,7 @@ fn drawn(attributes: &str, paths: &[String]) -> String {
 fn faces(layer: &Layer, scale: f64, wider: f64, fill: &str) -> String {
     let width = short(wider * LINE_WIDTH.min(LINE_PART * edge(layer.level) * scale) * layer.units.side() / scale);
     let (level, new, transform) = (layer.level, if layer.new { " new" } else { "" }, layer.units.transform(scale));
-    drawn(&format!("class=\"l{level}{new}\" transform=\"{transform}\" stroke-width=\"{width}\" fill=\"{fill}\""), &layer.paths)
+    drawn(&format!("class=\"l{level}{new}\" transform=\"{transform}\" stroke-width=\"{width}\" {fill}"), &layer.paths)
 }
 
 fn vertices(group: &Marks, scale: f64) -> String {

@@ -90,6 +90,14 @@ pub fn breadth(text: &str) -> f64 {
         .sum()
 }
 
+/// A text in one line no wider than this many parts of its size: its beginning, and a mark that there is more, where it is longer.
+pub fn cut(text: &str, width: f64) -> String {
+    match breadth(text) <= width {
+        true => text.to_string(),
+        false => wrapped(text, width - breadth("…")).swap_remove(0) + "…",
+    }
+}
+
 /// A text in lines no wider than this many parts of its size: broken at blanks, and within a word that is wider itself.
 pub fn wrapped(text: &str, width: f64) -> Vec<String> {
     let mut lines = vec![String::new()];

@@ -27,7 +27,7 @@ fn each_comes_in_and_goes_out() {
     let from = caption.iter().position(|text| text == "4 findings with no vertex in this plan:").expect("the lost are listed");
     let lost: Vec<&str> = caption[from + 1..].iter().filter_map(|text| text.split("  ").next()).collect();
     assert_eq!(lost, LOST);
-    assert_eq!(caption[from + 1], "3  [9, 9, 0]  gone");
+    assert_eq!(caption[from + 1], "3  9,9,0  gone");
     assert_eq!(sheet.all("findings", "rect").count(), 3); // three vertices have findings
 }
 
@@ -52,7 +52,7 @@ fn many_lost_go_on_further_pages() {
     let one = if width == 210.0 { 297.0 } else { 210.0 };
     assert!(height > one && height % one == 0.0, "{height}");
     let caption = sheet.texts("caption");
-    assert!((1..=500).all(|i| caption.contains(&format!("{i}  [900, {i}, 0]  lost {i}"))));
+    assert!((1..=500).all(|i| caption.contains(&format!("{i}  900,{i},0  lost {i}"))));
     assert!(caption.contains(&"with no vertex: next page".to_string()));
     let lowest = sheet.all("caption", "text").map(|text| text.get("y").parse::<f64>().expect("a place")).fold(0.0, f64::max);
     assert!(lowest < height - 10.0);

@@ -12,6 +12,9 @@ mod xml;
 
 use common::Desk;
 use sheet::Sheet;
+use std::ffi::OsString;
+use std::fs;
+use std::os::unix::ffi::OsStringExt;
 
 /// A point of the file's columns, in sides of a hexagon.
 fn place(point: &str) -> (f64, f64) {
@@ -131,9 +134,34 @@ fn titles_are_text() {
     assert!(sheet.elements.iter().any(|e| e.name == "title" && e.text == "<b>&\"'</title>‹U+202E›é"));
     let page = desk.run_words(["draw", "plan.full", "-q", "--html", "--title", title], b"").out;
     assert!(page.contains("<h1>&lt;b&gt;&amp;&quot;&#39;&lt;/title&gt;‹U+202E›é</h1>") && !page.contains("<b>"));
+    let longer = "A title that is set smaller, but is all there, to its very last word".to_string() + &" and on".repeat(8);
+    let sheet = Sheet::of(&desk.run_words(["draw", "plan.full", "-q", "--title", &longer], b"").out);
+    assert!(sheet.elements.iter().any(|e| e.name == "text" && e.text == longer));
     let long = "A very long title ".repeat(40);
     let sheet = Sheet::of(&desk.run_words(["draw", "plan.full", "-q", "--title", &long], b"").out);
     assert!(sheet.elements.iter().any(|e| e.name == "text" && e.text.ends_with('…')));
+}
+
+#[test]
+fn names_of_files_are_text_and_take_one_line() {
+    let desk = Desk::with_plan("names");
+    let name = |first: u8| OsString::from_vec([vec![first], vec![0xFF, b'<', 1], vec![b'&'; 200]].concat());
+    let [plan, older, list] = [b'p', b'o', b'l'].map(name);
+    for (name, bytes) in [(&plan, desk.get("plan.full")), (&older, desk.get("base.full")), (&list, "1\t1\t0\t0\tpit\n".to_string())] {
+        fs::write(desk.place.join(name), bytes).expect("a file for the test");
+    }
+    let words = |html: &str| {
+        ["draw", "-q", html, "--over"].map(OsString::from).into_iter().chain([
+            older.clone(),
+            "--findings".into(),
+            list.clone(),
+            plan.clone(),
+        ])
+    };
+    let sheet = Sheet::of(&desk.run_words(words("--quiet"), b"").out);
+    assert!(sheet.texts("caption").iter().any(|text| text.starts_with("o‹FF›<‹01›&&") && text.ends_with('…')));
+    assert!(sheet.side() > 20.0, "the plan is squeezed: {} mm a side", sheet.side());
+    assert_eq!(Sheet::of_page(&desk.run_words(words("--html"), b"").out).moves("faces"), 21);
 }
 
 #[test]
