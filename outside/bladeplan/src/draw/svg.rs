@@ -27,6 +27,7 @@ pub fn svg(drawing: &Drawing, page: &Page, marks: &[Marks]) -> String {
     let counts = &drawing.counts;
     let counted = format!("{} vertices, {} edges, {} faces", counts.vertices, counts.edges, counts.faces);
     out += &format!("<title>{}</title>\n<desc>Blade plan: {counted}</desc>\n", escaped(&drawing.title));
+    out += &format!("<style>@page{{size:{w}mm {}mm;margin:0}}</style>\n", short(page.sheet)); // a browser prints it on A4 by itself
     out += &format!("<rect width=\"{w}\" height=\"{h}\" fill=\"{PAPER}\"/>\n");
     out += &head(drawing, page);
     out += &plan(drawing, page, marks);

@@ -2,7 +2,6 @@
 
 use crate::common::Desk;
 use crate::large;
-use std::path::Path;
 use std::process::{Command, Stdio};
 use std::time::Instant;
 
@@ -41,9 +40,11 @@ fn all_well(lines: &[String]) {
     assert!(lines.len() == TRIED && lines.iter().all(|line| line.starts_with("ok ")), "{lines:#?}");
 }
 
-/// The widths and heights of a PDF's pages, in points.
-fn pages(pdf: &[u8]) -> Vec<String> {
-    let text = String::from_utf8_lossy(pdf);
+/// The widths and heights of the pages that a drawing is printed on, in points.
+fn printed(browser: &str, desk: &Desk, drawing: &str) -> Vec<String> {
+    run(browser, desk, &["--no-pdf-header-footer", "--print-to-pdf=printed.pdf"], drawing);
+    let pdf = std::fs::read(desk.place.join("printed.pdf")).expect("a PDF");
+    let text = String::from_utf8_lossy(&pdf);
     text.split("/MediaBox [").skip(1).filter_map(|after| after.split(']').next()).map(str::to_string).collect()
 }
 
@@ -57,10 +58,11 @@ fn the_page_in_a_browser() {
     desk.put("list.txt", "7\t3\t0\t1\tpit\n3\t9\t9\t0\tgone\n8\t2\t2\t1\tnick\n2\t-1\t0\t0\trim\n");
     desk.good("draw plan.full --findings list.txt --over base.full --html -o page.html -q");
     all_well(&driven(browser, &desk, "page.html"));
-    run(browser, &desk, &["--no-pdf-header-footer", "--print-to-pdf=page.pdf"], "page.html");
-    let pdf = std::fs::read(Path::new(&desk.place).join("page.pdf")).expect("a PDF");
-    let sizes = pages(&pdf);
-    assert!(sizes.len() == 2 && sizes.iter().all(|size| is_a4(size)), "{sizes:?}");
+    desk.good("draw plan.full --findings list.txt --over base.full -o sheet.svg -q");
+    for (drawing, count) in [("page.html", 2), ("sheet.svg", 1)] {
+        let sizes = printed(browser, &desk, drawing);
+        assert!(sizes.len() == count && sizes.iter().all(|size| is_a4(size)), "{drawing}: {sizes:?}");
+    }
 }
 
 /// 210 by 297 millimetres, a point of 72 an inch more or less.
