@@ -118,8 +118,10 @@ fn run(words: &Words) -> Outcome<()> {
     let drawing = Drawing::of(&plan, words)?;
     let page = Page::of(&drawing);
     let marks = drawing.marks(page.scale);
-    let sheet = svg::svg(&drawing, &page, &marks);
-    let text = if words.has("--html") { html::html(&drawing, &page, &sheet) } else { sheet };
+    let text = match words.has("--html") {
+        true => html::html(&drawing, &page, &svg::svg(&drawing, &page, &marks, "")),
+        false => svg::svg(&drawing, &page, &marks, &svg::own_page(&page)),
+    };
     files::write(words.output(), text.as_bytes())?;
     if !words.quiet() {
         told(&drawing, &marks).iter().for_each(|line| files::say(line));

@@ -17,8 +17,13 @@ const LINE_WIDTH: f64 = 0.22;
 const LINE_PART: f64 = 0.04;
 const OLDER_WIDER: f64 = 3.2;
 
+/// What a sheet that stands alone tells a browser: to print it on its own A4 page. A page of HTML has pages of its own.
+pub fn own_page(page: &Page) -> String {
+    format!("<style>@page{{size:{}mm {}mm;margin:0}}</style>\n", short(page.width), short(page.sheet))
+}
+
 /// The whole sheet, ended by a line feed.
-pub fn svg(drawing: &Drawing, page: &Page, marks: &[Marks]) -> String {
+pub fn svg(drawing: &Drawing, page: &Page, marks: &[Marks], style: &str) -> String {
     let (w, h) = (short(page.width), short(page.height));
     let mut out = format!(
         "<svg xmlns=\"http://www.w3.org/2000/svg\" width=\"{w}mm\" height=\"{h}mm\" viewBox=\"0 0 {w} {h}\" role=\"img\" \
@@ -26,8 +31,7 @@ pub fn svg(drawing: &Drawing, page: &Page, marks: &[Marks]) -> String {
     );
     let counts = &drawing.counts;
     let counted = format!("{} vertices, {} edges, {} faces", counts.vertices, counts.edges, counts.faces);
-    out += &format!("<title>{}</title>\n<desc>Blade plan: {counted}</desc>\n", escaped(&drawing.title));
-    out += &format!("<style>@page{{size:{w}mm {}mm;margin:0}}</style>\n", short(page.sheet)); // a browser prints it on A4 by itself
+    out += &format!("<title>{}</title>\n<desc>Blade plan: {counted}</desc>\n{style}", escaped(&drawing.title));
     out += &format!("<rect width=\"{w}\" height=\"{h}\" fill=\"{PAPER}\"/>\n");
     out += &head(drawing, page);
     out += &plan(drawing, page, marks);

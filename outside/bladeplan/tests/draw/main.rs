@@ -171,6 +171,10 @@ fn a_page_stands_alone_and_its_script_is_small() {
     let loads = ["src=", "href=", "url(", "@import", "fetch(", "https:", "import "];
     assert!(loads.iter().all(|word| !page.contains(word)) && page.matches("http:").count() == 1, "something is loaded");
     assert!(page.contains("default-src 'none'"));
+    assert!(
+        page.matches("@page").count() == 2 && page.contains("@page sheet {") && page.contains("@page list {"),
+        "the sheet and the list"
+    );
     let script = page.rsplit("<script>").next().and_then(|after| after.split("</script>").next()).expect("a script");
     assert!(script.lines().count() < 200, "{} lines of script", script.lines().count());
     assert_eq!(Sheet::of_page(&page).moves("faces"), 21);
