@@ -65,12 +65,12 @@ fn fitted(text: &str, size: f64, width: f64) -> (String, String) {
 fn plan(drawing: &Drawing, page: &Page, marks: &[Marks]) -> String {
     let mut out = format!("<g id=\"plan\" transform=\"translate({} {})\">\n", short(page.origin.0), short(page.origin.1));
     if let Some(older) = &drawing.older {
-        out += &format!("<g id=\"older\" fill=\"none\" stroke=\"{OLDER}\" stroke-linejoin=\"round\">\n");
+        out += &format!("<g id=\"older\" fill=\"none\" stroke=\"{OLDER}\" stroke-linejoin=\"bevel\">\n");
         let layers = layers(&older.plan, &older.faces, drawing.piece, |_| false);
         layers.iter().for_each(|layer| out += &faces(layer, page.scale, OLDER_WIDER, ""));
         out += "</g>\n";
     }
-    out += &format!("<g id=\"faces\" stroke=\"{EDGES}\" stroke-linejoin=\"round\">\n");
+    out += &format!("<g id=\"faces\" stroke=\"{EDGES}\" stroke-linejoin=\"bevel\">\n");
     drawing.layers.iter().for_each(|layer| out += &faces(layer, page.scale, 1.0, &fill(drawing, layer)));
     out += "</g>\n<g id=\"marks\">\n";
     marks.iter().for_each(|group| out += &vertices(group, page.scale));
