@@ -106,7 +106,7 @@ fn words(refusal: Refusal) -> &'static str {
         Refusal::NotAbove => "that line does not come after the one before it: the file is out of order, or has a point twice",
         Refusal::NotGrown => "these records are no grown mesh: a vertex is missing, or something was changed by hand; also an empty file",
         Refusal::RedundantKept => "a full file, or a mixture, where a reduced one belongs: it keeps a vertex that its neighbours imply",
-        Refusal::OutputShort => "the output is shorter than the file; nothing was written",
+        Refusal::OutputShort => "the output is shorter than the file, or has no room for all the answers; nothing was written",
         Refusal::DegreeZero => "asked of a vertex at the rim, which has no star",
     }
 }
