@@ -16,11 +16,11 @@ ghost use Rattle.queries.specs.ManyLaws.{answersIn};
 use crate::answers::Query;
 use crate::answers::answer_in;
 use lattice::ANSWER_NUMBERS;
-use lattice::refuse_row;
 use lattice::DONE;
 use lattice::NO_RECORD;
 use lattice::NOT_IN_ORDER;
 use lattice::SHORT;
+use lattice::refuse_row;
 use table::in_order;
 use table::slots_of;
 
