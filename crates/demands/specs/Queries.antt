@@ -12,7 +12,7 @@ use Rattle.laws.specs.Choices.{unless}
 use Rattle.lattice.specs.declared.stars.Answer.{Answer}
 use Rattle.table.specs.Order.{inOrderOf}
 use Rattle.queries.specs.Queries.{neighboursOf, facesOf}
-use Rattle.queries.specs.Triples.{triplesIn}
+use Rattle.laws.specs.Triples.{triplesIn}
 use Rattle.queries.specs.Many.{tripleOf, answerWidth, answerRow, answersTo, answered, Answered, allOf, neighboursAllOf, facesAllOf}
 use Rattle.queries.specs.ManyLaws.{query-twenty, all-answer}
 use Rattle.queries.specs.declared.answers.Query.the-variants.{Neighbours, Faces}

@@ -1,7 +1,6 @@
 -- Document 01's queries, neighbours and faces, in antt: Queries; what many are answered: Many.
 pub mod Queries
 -- many at once
-pub mod Triples
 pub mod Many
 -- what the promises of the functions below cite besides
 pub mod Asked

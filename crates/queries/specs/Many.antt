@@ -12,7 +12,7 @@ use Rattle.lattice.specs.declared.stars.Answer.{Answer}
 use Rattle.table.specs.Order.{inOrderOf}
 use Rattle.queries.specs.Queries.{neighboursOf, facesOf}
 use Rattle.lattice.specs.AnswerRows.{answerNumbers}
-use Rattle.queries.specs.Triples.{triplesIn, isByte}
+use Rattle.laws.specs.Triples.{triplesIn, isByte}
 
 -- triple i of a list a, b, m, a, b, m, .., as the single call answers it; 3 where its m is not in 0..255
 unfoldable pub tripleOf : (ℤ → ℤ → ℕ → Answer) → List ℤ → ℕ → Answer

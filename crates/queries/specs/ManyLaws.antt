@@ -27,7 +27,7 @@ use Rattle.queries.specs.Asked.{answerAt}
 use Rattle.lattice.specs.AnswerRows.{pointsNumbers, answerNumbers}
 use Rattle.queries.specs.declared.answers.Query.{Query}
 use Rattle.queries.specs.declared.answers.Query.the-variants.{Neighbours, Faces}
-use Rattle.queries.specs.Triples.{triplesIn, isByte}
+use Rattle.laws.specs.Triples.{triplesIn, isByte}
 use Rattle.queries.specs.Many.{tripleOf, answerWidth, answerRow, answersTo, Answered, answered, allOf}
 
 -- ---- one point

@@ -4,29 +4,15 @@ ghost use Prim.Native.Nat.{_<_};
 ghost use Rattle.lattice.specs.RecordLaws.{Inner};
 ghost use Rattle.lattice.specs.Stars.{given};
 ghost use Rattle.table.specs.Slots.{Table};
-ghost use Rattle.table.specs.Entries.{holds};
 ghost use Rattle.queries.specs.Queries.{adjacentsThere, there, chosenAt};
 ghost use Rattle.lattice.specs.AnswerRows.{answerNumbers};
 use lattice::ANSWER_NUMBERS;
-use lattice::Point;
 use lattice::Record;
 use lattice::Spot;
 use lattice::first_of;
 use lattice::point_at;
 use lattice::second_of;
-use table::Looked;
-use table::look_up;
-
-// A point is in the table.
-fn is_there(t: &[u8], p: Point, n: usize) -> bool
-    requires { ⌜ Table (now t) n ⌝ }
-    ensures { λ r. ⌜ r ≡ holds (now (t .entry)) p ⌝ }
-{
-    match look_up(t, p, n) {
-        Looked::Absent => false,
-        Looked::Held(_) => true,
-    }
-}
+use table::is_there;
 
 // Each adjacent point of v is in the table: the row has them.
 pub fn adjacents_there(t: &[u8], row: &[i32; ANSWER_NUMBERS], v: Record, n: usize) -> bool

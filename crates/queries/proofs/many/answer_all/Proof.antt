@@ -11,7 +11,7 @@ use Rattle.table.specs.Order.{inOrderOf}
 use Rattle.table.specs.MapLaws.{test-order, order-table}
 use Rattle.queries.specs.Queries.{queryOf}
 use Rattle.queries.specs.Asked.{answerAt}
-use Rattle.queries.specs.Triples.{triplesIn}
+use Rattle.laws.specs.Triples.{triplesIn}
 use Rattle.queries.specs.Many.{answerWidth}
 use Rattle.queries.specs.ManyLaws.{all-1, all-13, all-0, answered-parts}
 use Rattle.queries.proofs.many.answer_all.Statement.{statement}

@@ -13,7 +13,7 @@ use mir.Facts.{toZ-ofZ}
 use Rattle.lattice.specs.declared.stars.Answer.{Answer}
 use Rattle.queries.specs.Queries.{queryOf}
 use Rattle.queries.specs.Asked.{answerAt}
-use Rattle.queries.specs.Triples.{below-byte, above-byte, Byte, within-byte}
+use Rattle.laws.specs.Triples.{below-byte, above-byte, Byte, within-byte}
 use Rattle.lattice.specs.AnswerRowLaws.{answer-parts}
 use Rattle.queries.specs.ManyLaws.{triple-3, triple-one}
 use Rattle.queries.proofs.many.answer_triple.Statement.{statement}

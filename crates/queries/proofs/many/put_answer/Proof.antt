@@ -50,7 +50,8 @@ loop-again c =
       omega (arith, c .before .loop-test .taken),
       length-set (l .loop .answers) (at + j) (toZ w32 (ofZ w32 (getD row j (pos 0)))) ∙ l .loop .inv .1,
       (λ k. set (l .loop .inv .2 k) (at + j) (x k))
-          ∙ paste-suc (numbered s) at row j (pos 0) (omega (arith, same s, s .pre .0, c .before .loop-test .taken)) (omega (arith, s .pre .1, c .before .loop-test .taken))
+          ∙ paste-suc (numbered s) at row j (pos 0) (omega (arith, same s, s .pre .0, c .before .loop-test .taken))
+          (omega (arith, s .pre .1, c .before .loop-test .taken))
           ∙ ap (paste (numbered s) at row) e,
     )
 
