@@ -26,7 +26,7 @@ enum { STACK = 128 * 1024, PAGE = 4096, GUARDS = 64, GUARD = 0xa7, BUFFERS = 4, 
 
 enum call {
     NORMALISE, STAR, BASE, SUBDIVIDE, SUBDIVIDE_ALL, NEIGHBOURS, FACES,
-    WRITE_FULL, WRITE_REDUCED, READ_FULL, READ_REDUCED, CENSUS, STACK_USED
+    WRITE_FULL, WRITE_REDUCED, READ_FULL, READ_REDUCED, CENSUS, NEIGHBOURS_ALL, FACES_ALL, STACK_USED
 };
 
 struct request {
@@ -66,7 +66,8 @@ static void give(const void *from, size_t len) {
 
 /* Where a buffer of this length begins in its block: odd addresses too, but for numbers. */
 static size_t start(const struct request *r, int i) {
-    int numbers = i == 1 && (r->call == BASE || r->call == SUBDIVIDE_ALL);
+    int many = r->call == NEIGHBOURS_ALL || r->call == FACES_ALL;
+    int numbers = (i == 1 && (r->call == BASE || r->call == SUBDIVIDE_ALL || many)) || (i == 2 && many);
     return GUARDS + (numbers ? 0 : r->len[i] % 2 + r->len[i] / 12 % 3);
 }
 
@@ -99,6 +100,8 @@ static uint8_t call(const struct request *r, uint8_t **p, int32_t *points, uint6
     case READ_FULL: return fb_read_full(p[0], n[0], p[1], n[1], p[2], n[2], value);
     case READ_REDUCED: return fb_read_reduced(p[0], n[0], p[1], n[1], p[2], n[2], value);
     case CENSUS: return fb_census(p[0], n[0], p[1], n[1], p[2], n[2], p[3], n[3], value);
+    case NEIGHBOURS_ALL: return fb_neighbours_all(p[0], n[0], (const int32_t *)p[1], n[1] / 4, (int32_t *)p[2], n[2] / 4);
+    case FACES_ALL: return fb_faces_all(p[0], n[0], (const int32_t *)p[1], n[1] / 4, (int32_t *)p[2], n[2] / 4);
     case STACK_USED: *value = stack_used(); return 0;
     default: _exit(2);
     }

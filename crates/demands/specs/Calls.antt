@@ -22,13 +22,14 @@ use Rattle.text.specs.declared.line.Line.{Line}
 use Rattle.base.specs.Base as laid
 use Rattle.mesh.specs.Subdivide as divided
 use Rattle.queries.specs.Queries.{neighboursOf, facesOf}
+use Rattle.queries.specs.Many.{Answered, neighboursAllOf, facesAllOf}
 use Rattle.writers.specs.Files as written
 use Rattle.readers.specs.Readers as read
 use Rattle.readers.specs.BeginLaws.{Prepared, unfit, fit}
 use Rattle.census_text.specs.Census as counted
 
 pub data Call : Type 0 where
-  normalise star base subdivide subdivideAll neighbours faces : Call
+  normalise star base subdivide subdivideAll neighbours faces neighboursAll facesAll : Call
   writeFull writeReduced readFull readReduced census inOrder parseLine : Call
 
 -- lent bytes are lists of ℕ, lent whole numbers lists of ℤ
@@ -40,6 +41,8 @@ Lent subdivide = List ℕ × ℤ × ℤ × ℕ
 Lent subdivideAll = List ℕ × List ℤ
 Lent neighbours = List ℕ × ℤ × ℤ × ℕ
 Lent faces = List ℕ × ℤ × ℤ × ℕ
+Lent neighboursAll = List ℕ × List ℤ × List ℤ
+Lent facesAll = List ℕ × List ℤ × List ℤ
 Lent writeFull = List ℕ × List ℕ
 Lent writeReduced = List ℕ × List ℕ
 Lent readFull = List ℕ × List ℕ × List ℕ
@@ -57,6 +60,8 @@ Outcome subdivide = divided.Outcome
 Outcome subdivideAll = divided.Many
 Outcome neighbours = Answer
 Outcome faces = Answer
+Outcome neighboursAll = Answered
+Outcome facesAll = Answered
 Outcome writeFull = written.Outcome
 Outcome writeReduced = written.Outcome
 Outcome readFull = read.Outcome
@@ -73,6 +78,8 @@ does subdivide (t, a, b, m) = divided.subdivideOf t a b m
 does subdivideAll (t, ps) = divided.subdivideAllOf t ps
 does neighbours (t, a, b, m) = neighboursOf t a b m
 does faces (t, a, b, m) = facesOf t a b m
+does neighboursAll (t, ps, out) = neighboursAllOf t ps out
+does facesAll (t, ps, out) = facesAllOf t ps out
 does writeFull (t, out) = written.writeFullOf t out
 does writeReduced (t, out) = written.writeReducedOf t out
 does readFull (t, s, f) = read.readFullOf t s f

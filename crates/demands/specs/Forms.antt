@@ -21,7 +21,8 @@ use Rattle.geometry.specs.GeometryLaws.{low-normal}
 use Rattle.table.specs.Order.{InOrder, inOrderOf}
 use Rattle.table.specs.Entries.{recordsOf}
 use Rattle.table.specs.MapLaws.{Apart, records-looked, records-apart, lookup-valid}
-use Rattle.mesh.specs.Subdivide.{Many, triplesIn, isByte, subdivideOf, subdivideTriple, subdivideFrom, subdivideAllOf}
+use Rattle.laws.specs.Triples.{triplesIn, isByte}
+use Rattle.mesh.specs.Subdivide.{Many, subdivideOf, subdivideTriple, subdivideFrom, subdivideAllOf}
 use Rattle.mesh.specs.Subdivide as divided
 use Rattle.text.specs.Line.{lines}
 use Rattle.writers.specs.Files.{sorted, redundant, leaveOut}

@@ -5,6 +5,8 @@ pub mod Numbers
 pub mod ReadNumbers
 pub mod Faults
 pub mod Refused
+-- many queries at once: each answer is the single call's
+pub mod Queries
 -- demand 2: one form of a point, the opposites of a corner, the meshes, the files
 pub mod Points
 pub mod Opposites

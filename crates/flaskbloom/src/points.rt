@@ -3,8 +3,8 @@ ghost use mathlib.Core.Path.{_≡_};
 ghost use Rattle.lattice.specs.Points.{normalOf};
 ghost use Rattle.lattice.specs.Stars.{starOf};
 ghost use Rattle.queries.specs.Queries.{neighboursOf, facesOf};
+ghost use Rattle.queries.specs.Many.{neighboursAllOf, facesAllOf};
 ghost use Rattle.flaskbloom.specs.Numbers.{pointNumbers, answerNumbers, recordOf};
-use crate::numbers::answer_numbers;
 use crate::numbers::point_numbers;
 use lattice::ANSWER_NUMBERS;
 use lattice::DONE;
@@ -65,9 +65,7 @@ pub extern "C" fn fb_neighbours(
     ensures { λ r. ⌜ r ≡ neighboursOf (now (table .entry)) a b m .number ⌝ }
     ensures { λ r. ⌜ now (points .exit) ≡ answerNumbers (neighboursOf (now (table .entry)) a b m) ⌝ }
 {
-    let answer = queries::neighbours(table, a, b, m);
-    *points = answer_numbers(answer);
-    answer.number
+    queries::neighbours(table, a, b, m, points)
 }
 
 // The opposite of each corner of the vertex at [a, b, m], or 1, 3, 14, 7.
@@ -82,7 +80,23 @@ pub extern "C" fn fb_faces(
     ensures { λ r. ⌜ r ≡ facesOf (now (table .entry)) a b m .number ⌝ }
     ensures { λ r. ⌜ now (points .exit) ≡ answerNumbers (facesOf (now (table .entry)) a b m) ⌝ }
 {
-    let answer = queries::faces(table, a, b, m);
-    *points = answer_numbers(answer);
-    answer.number
+    queries::faces(table, a, b, m, points)
+}
+
+// What fb_neighbours gives for each of the points a, b, m, a, b, m, .., or 1, 13.
+#[no_mangle]
+pub extern "C" fn fb_neighbours_all(table: &[u8], points: &[i32], answers: &mut [i32]) -> u8
+    ensures { λ r. ⌜ r ≡ neighboursAllOf (now (table .entry)) (now (points .entry)) (now (answers .entry)) .number ⌝ }
+    ensures { λ _. ⌜ now (answers .exit) ≡ neighboursAllOf (now (table .entry)) (now (points .entry)) (now (answers .entry)) .answers ⌝ }
+{
+    queries::neighbours_all(table, points, answers)
+}
+
+// What fb_faces gives for each of the points a, b, m, a, b, m, .., or 1, 13.
+#[no_mangle]
+pub extern "C" fn fb_faces_all(table: &[u8], points: &[i32], answers: &mut [i32]) -> u8
+    ensures { λ r. ⌜ r ≡ facesAllOf (now (table .entry)) (now (points .entry)) (now (answers .entry)) .number ⌝ }
+    ensures { λ _. ⌜ now (answers .exit) ≡ facesAllOf (now (table .entry)) (now (points .entry)) (now (answers .entry)) .answers ⌝ }
+{
+    queries::faces_all(table, points, answers)
 }

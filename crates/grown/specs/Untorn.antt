@@ -31,10 +31,8 @@ use Rattle.base.specs.Base.{baseOf}
 use Rattle.mesh.specs.CallLaws.{vertex-4, vertex-5, call-3, call-vertex}
 use Rattle.mesh.specs.Grown.{Reached, laid, Grown}
 use Rattle.mesh.specs.Subdivide.{Outcome, subdivideOf}
-use Rattle.queries.specs.Queries.{adjacentsThere, neighboursAt, neighboursOf}
-use Rattle.queries.specs.QueryLaws.{vertex-looked, neighbours-vertex}
-use Rattle.queries.specs.Vertices.{vertexLooked, answerOf}
-use Rattle.queries.specs.declared.vertices.Vertex.the-variants.{Refused, Star}
+use Rattle.queries.specs.Queries.{adjacentsThere, neighboursAt, queryLooked, neighboursOf}
+use Rattle.queries.specs.QueryLaws.{neighbours-looked}
 use Rattle.local.specs.Sheet.{asOption, sheetOf}
 use Rattle.grown.specs.Steps.{sheet-held, accepted, vertex-accepted, vertex-short}
 use Rattle.grown.specs.Reach.{sheet-reached}
@@ -78,8 +76,8 @@ module _ (t : List ℕ) (o : InOrder t) (g : GrownSheet (sheetOf t)) (a b : ℤ)
       looked (Held v) e = at v e (ℕ-discrete (v .d) 6) (ℕ-discrete (v .n .0) 12)
 
   -- ---- the neighbours query
-  asked : (l : Looked) → lookUp t (normalOf a b m) ≡ l → answerOf (neighboursAt t) (vertexLooked l) ≡ neighboursOf t a b m
-  asked l e = neighbours-vertex t a b m (vertexLooked l) (sym (vertex-looked t a b m (order-test t o) l e))
+  asked : (l : Looked) → lookUp t (normalOf a b m) ≡ l → queryLooked (neighboursAt t) l ≡ neighboursOf t a b m
+  asked = neighbours-looked t a b m (order-test t o)
 
   all-there : (v : Record) → lookUp t (normalOf a b m) ≡ Held v → v .d ≢ 0 → adjacentsThere t v ≡ true
   unfolding adjacentsThere
@@ -90,7 +88,7 @@ module _ (t : List ℕ) (o : InOrder t) (g : GrownSheet (sheetOf t)) (a b : ℤ)
   sheet-given : (v : Record) → lookUp t (normalOf a b m) ≡ Held v → v .d ≢ 0 → neighboursOf t a b m ≡ given v
   sheet-given v e n =
       sym (asked (Held v) e)
-      ∙ ap (λ (z : Bool). answerOf (neighboursAt t) (cond z (Refused 14) (Star v))) (ne-eqb (v .d) 0 n)
+      ∙ ap (λ (z : Bool). cond z (refused 14) (neighboursAt t v)) (ne-eqb (v .d) 0 n)
       ∙ ap (λ (z : Bool). cond z (given v) (refused 7)) (all-there v e n)
 
   sheet-untorn : neighboursOf t a b m .number ≢ 7
@@ -101,7 +99,7 @@ module _ (t : List ℕ) (o : InOrder t) (g : GrownSheet (sheetOf t)) (a b : ℤ)
 
       at : (v : Record) → lookUp t (normalOf a b m) ≡ Held v → Dec (v .d ≡ 0) → neighboursOf t a b m .number ≢ 7
       at v e (yes z) k =
-          let x = is (sym (ap (λ (z : Bool). answerOf (neighboursAt t) (cond z (Refused 14) (Star v))) (eq-eqb (v .d) 0 z)) ∙ asked (Held v) e) in
+          let x = is (sym (ap (λ (z : Bool). cond z (refused 14) (neighboursAt t v)) (eq-eqb (v .d) 0 z)) ∙ asked (Held v) e) in
           omega arith
       at v e (no n) k = let x = is (sym (sheet-given v e n)) in omega arith
 

@@ -15,9 +15,10 @@ pub mod Bools
 pub mod Choices
 pub mod Rules
 pub mod Each
--- lists and bytes: Some, Sets, Stores, Words, Bits
+-- lists and bytes: Some, Sets, Stores, Words, Bits, Triples
 pub mod Some
 pub mod Sets
 pub mod Stores
 pub mod Words
 pub mod Bits
+pub mod Triples

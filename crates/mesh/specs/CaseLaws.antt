@@ -8,11 +8,10 @@ use mathlib.Core.List.{List}
 use Prim.Native.Nat.{ℕ, zero, suc, _+_, _*_, _≤_, _<_, _-_}
 use native.Mathlib.Omega.{arith}
 use native.Mathlib.Decide.{ℕ-discrete, decLt}
-use borrow.Author.Tests.{ne-eqb, ltb-true, ltb-false, lt-ltb, le-ltb}
-use lib.IntN.{ℤ, pos, natAbs, negsuc}
+use borrow.Author.Tests.{ne-eqb}
+use lib.IntN.{ℤ, pos, natAbs}
 use lib.ListN.{length, getD}
-use lib.Dec.{leb, T}
-use lib.Signed.{ltZ, nonNeg}
+use lib.Dec.{leb}
 use Rattle.laws.specs.Rules.{upto}
 use Rattle.lattice.specs.Patterns.{six}
 use Rattle.lattice.specs.Subdivision.{newOf}
@@ -25,13 +24,13 @@ use Rattle.table.specs.Slots.{freeSlots, Table}
 use Rattle.lattice.specs.declared.records.Record.{Record}
 use Rattle.table.specs.declared.entries.Looked.{Looked}
 use Rattle.table.specs.declared.entries.Looked.the-variants.{Absent, Held}
-use Rattle.laws.specs.Each.{not-both}
 use Rattle.table.specs.SlotLaws.{table-same}
 use Rattle.mesh.specs.SubdivideLaws.{Ready, Whole, subdivided-order, subdivided-free}
 use Rattle.mesh.specs.WriteLaws.{subdivided-length}
 use Rattle.mesh.specs.CallLaws.{standing-ready, ready-whole, vertex-4, vertex-5, vertex-6, vertex-7-old, vertex-7-new, vertex-8, vertex-0}
 use Rattle.mesh.specs.CallLaws.{call-1, call-3, call-vertex, call-standing}
-use Rattle.mesh.specs.Subdivide.{adjacentFits, newFits, subdivided, Outcome, outcome, subdivideVertex, subdivideOf, triplesIn, isByte}
+use Rattle.mesh.specs.Subdivide.{adjacentFits, newFits, subdivided, Outcome, outcome, subdivideVertex, subdivideOf}
+use Rattle.laws.specs.Triples.{triplesIn, isByte}
 use Rattle.mesh.specs.Subdivide.{subdivideTriple, subdivideFrom, subdivideAllOf, Many}
 
 pub data Subdivision (t : List ℕ) (a b : ℤ) (m : ℕ) : Type 0 where
@@ -199,21 +198,3 @@ module _ (t₀ : List ℕ) (ps : List ℤ) (n : ℕ) (t : List ℕ) (f i : ℕ) 
 
 pub many-parts : {x y : Many} → x ≡ y → (x .number ≡ y .number) × ((x .done ≡ y .done) × (x .bytes ≡ y .bytes))
 many-parts e = (ap (λ (o : Many). o .number) e, (ap (λ (o : Many). o .done) e, ap (λ (o : Many). o .bytes) e))
-
--- ---- a triple's m as the code tests it
-pub below-byte : (z : ℤ) → ltZ z (pos 0) ≡ true → isByte z ≡ false
-below-byte (pos n) h = absurd (omega (arith, ltb-true n 0 h))
-below-byte (negsuc n) h = refl
-
-pub above-byte : (z : ℤ) → ltZ (pos 255) z ≡ true → isByte z ≡ false
-above-byte (pos n) h = le-ltb n 256 (omega (arith, ltb-true 255 n h))
-above-byte (negsuc n) h = refl
-
-pub record Byte (z : ℤ) : Type 0 where
-  pub is : isByte z ≡ true
-  pub sign : T (nonNeg z)
-  pub size : natAbs z < 256
-
-pub within-byte : (z : ℤ) → ltZ z (pos 0) ≡ false → ltZ (pos 255) z ≡ false → Byte z
-within-byte (pos n) h k = let l : n < 256 = omega (arith, ltb-false 255 n k) in record { is = lt-ltb n 256 l; sign = tt; size = l }
-within-byte (negsuc n) h k = absurd (not-both refl h)

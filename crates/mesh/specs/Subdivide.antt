@@ -4,12 +4,13 @@
 -- Record by record the rules are the lattice's: Subdivision. Assumes nothing.
 use mathlib.Core.Bool.{Bool, false, cond, _&&_, not}
 use mathlib.Core.List.{List}
-use Prim.Native.Nat.{ℕ, zero, suc, _+_, _*_, _/_}
+use Prim.Native.Nat.{ℕ, zero, suc, _+_, _*_}
 use lib.Dec.{eqb, ltb, leb}
-use lib.IntN.{ℤ, pos, negsuc, natAbs}
-use lib.ListN.{length, getD}
+use lib.IntN.{ℤ, pos, natAbs}
+use lib.ListN.{getD}
 use Rattle.laws.specs.Rules.{upto}
 use Rattle.laws.specs.Choices.{unless}
+use Rattle.laws.specs.Triples.{triplesIn, isByte}
 use Rattle.lattice.specs.Stars.{adjacentAt}
 use Rattle.lattice.specs.Subdivision.{centreOf, newOf, backOf, updateOf, acceptsOf, bornOf}
 use Rattle.lattice.specs.Points.{normalOf}
@@ -94,15 +95,6 @@ pub record Many : Type 0 where
   pub number : ℕ
   pub done : ℕ
   pub bytes : List ℕ
-
--- a list of points a, b, m, a, b, m, ..: how many whole triples it has
-abbrev pub triplesIn : List ℤ → ℕ
-triplesIn ps = length ps / 3
-
--- a triple's m is a byte
-abbrev pub isByte : ℤ → Bool
-isByte (pos m) = ltb m 256
-isByte (negsuc m) = false
 
 -- triple i, as `subdivide` answers it; 3 where its m is not in 0..255
 unfoldable pub subdivideTriple : List ℕ → List ℤ → ℕ → Outcome

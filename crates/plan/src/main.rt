@@ -1,5 +1,5 @@
-// The example plan of the README: three hexagons, the vertex between them subdivided twice, its two files, and the census of the plan and of
-// what comes back from its reduced file.
+// The worked example of docs/WORKED.md: three hexagons, the vertex between them subdivided twice, its two files, and the census of the plan and
+// of what comes back from its reduced file.
 use libc::STDOUT_FILENO;
 
 // 40 slots of 12 bytes.

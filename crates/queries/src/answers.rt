@@ -1,93 +1,148 @@
-// The two calls. Refused, they answer count 0 and all zeros, as the star call does.
+// The two calls. Their answer goes into a lent row; refused, it is count 0 and all zeros.
 ghost use mathlib.Core.Path.{_≡_};
 ghost use mathlib.Core.Bool.{true};
-ghost use Rattle.laws.specs.Choices.{unless};
-ghost use Rattle.lattice.specs.Records.{validOf};
-ghost use Rattle.lattice.specs.Stars.{refused, given};
-ghost use Rattle.queries.specs.Queries.{neighboursOf, facesOf};
-ghost use Rattle.queries.specs.Vertices.{Asked};
-ghost use Rattle.queries.specs.Opposites.{facesIf};
+ghost use Rattle.lattice.specs.Stars.{given};
+ghost use Rattle.table.specs.Slots.{Table};
+ghost use Rattle.table.specs.Order.{inOrderOf};
+ghost use Rattle.queries.specs.Queries.{cornersThere, facesGiven, neighboursAt, facesAt, queryOf, neighboursOf, facesOf};
+ghost use Rattle.queries.specs.Asked.{Asked, answerAt, whenTrue};
+ghost use Rattle.lattice.specs.AnswerRows.{answerNumbers};
 use crate::opposites::adjacents_there;
 use crate::opposites::chosen;
-use crate::vertices::Vertex;
-use crate::vertices::found;
-use lattice::Answer;
+use lattice::ANSWER_NUMBERS;
+use lattice::BOUNDARY;
 use lattice::DONE;
-use lattice::Depth;
-use lattice::Point;
+use lattice::NO_RECORD;
+use lattice::NOT_IN_ORDER;
 use lattice::Record;
 use lattice::Spot;
 use lattice::TORN;
-use lattice::refuse;
-use lattice::star;
+use lattice::put_point;
+use lattice::refuse_row;
+use lattice::ring;
+use table::Looked;
+use table::in_order;
+use table::look_up_request;
 use table::slots_of;
 
-// The neighbours of a vertex: its star, if that is whole, each adjacent point being in the table.
-fn neighbours_of(v: Record, whole: bool) -> Answer
-    requires { ⌜ (validOf v ≡ true) × (v .d ≡ 0 → ⊥) ⌝ }
-    ensures { λ r. ⌜ r ≡ unless whole (refused 7) (given v) ⌝ }
-{
-    if whole { star(v) } else { refuse(TORN) }
+// What is asked of a vertex.
+pub enum Query {
+    Neighbours,
+    Faces,
 }
 
-// The faces round a vertex whose star is whole: the chosen opposite of each corner. One pass over the corners, that ends at the first with none.
-fn faces_of(t: &[u8], v: Record, whole: bool, n: usize) -> Answer
+// The neighbours of a vertex: its star, if each adjacent point is in the table.
+fn neighbours_at(t: &[u8], v: Record, n: usize, out: &mut [i32; ANSWER_NUMBERS]) -> u8
     requires { ⌜ Asked (now t) n v ⌝ }
-    ensures { λ r. ⌜ r ≡ facesIf (now (t .entry)) v whole ⌝ }
+    ensures { λ r. ⌜ r ≡ neighboursAt (now (t .entry)) v .number ⌝ }
+    ensures { λ _. ⌜ now (out .exit) ≡ answerNumbers (neighboursAt (now (t .entry)) v) ⌝ }
 {
-    if !whole {
-        return refuse(TORN);
+    ring(out, v);
+    if adjacents_there(t, out, v, n) {
+        return DONE;
     }
+    refuse_row(out, TORN)
+}
+
+// Puts the chosen opposite of each corner in the place of the adjacent point before it, up to the first corner with none.
+fn put_opposites(t: &[u8], v: Record, n: usize, out: &mut [i32; ANSWER_NUMBERS]) -> bool
+    requires { ⌜ Asked (now t) n v ⌝ }
+    requires { ⌜ now out ≡ answerNumbers (given v) ⌝ }
+    ensures { λ r. ⌜ r ≡ cornersThere (now (t .entry)) v ⌝ }
+    ensures { λ r. ⌜ whenTrue r (now (out .exit) ≡ answerNumbers (facesGiven (now (t .entry)) v)) ⌝ }
+{
     let d = v.d;
-    let zero = Point {
-        a: 0,
-        b: 0,
-        m: Depth(0),
-    };
-    let mut points = [zero; 6];
     let mut j = 0;
     while j < d {
         match chosen(t, v, j, n) {
-            Spot::At(p) => {
-                points[j as usize] = p;
-            }
-            Spot::Nothing => return refuse(TORN),
+            Spot::At(p) => put_point(out, 3 * (j as usize) + 1, p),
+            Spot::Nothing => return false,
         }
         j += 1;
     }
-    Answer {
-        number: DONE,
-        count: d,
-        points,
+    true
+}
+
+// The faces round a vertex: the chosen opposite of each corner, if each adjacent point is in the table and each corner has one.
+fn faces_at(t: &[u8], v: Record, n: usize, out: &mut [i32; ANSWER_NUMBERS]) -> u8
+    requires { ⌜ Asked (now t) n v ⌝ }
+    ensures { λ r. ⌜ r ≡ facesAt (now (t .entry)) v .number ⌝ }
+    ensures { λ _. ⌜ now (out .exit) ≡ answerNumbers (facesAt (now (t .entry)) v) ⌝ }
+{
+    ring(out, v);
+    if !adjacents_there(t, out, v, n) {
+        return refuse_row(out, TORN);
     }
+    if put_opposites(t, v, n, out) {
+        return DONE;
+    }
+    refuse_row(out, TORN)
+}
+
+// What a vertex that has a star is answered.
+fn answer_at(q: Query, t: &[u8], v: Record, n: usize, out: &mut [i32; ANSWER_NUMBERS]) -> u8
+    requires { ⌜ Asked (now t) n v ⌝ }
+    ensures { λ r. ⌜ r ≡ answerAt q (now (t .entry)) v .number ⌝ }
+    ensures { λ _. ⌜ now (out .exit) ≡ answerNumbers (answerAt q (now (t .entry)) v) ⌝ }
+{
+    match q {
+        Query::Neighbours => neighbours_at(t, v, n, out),
+        Query::Faces => faces_at(t, v, n, out),
+    }
+}
+
+// The query at [a, b, m] in a table that is known to be in order.
+pub fn answer_in(
+    q: Query,
+    t: &[u8],
+    a: i32,
+    b: i32,
+    m: u8,
+    n: usize,
+    out: &mut [i32; ANSWER_NUMBERS],
+) -> u8
+    requires { ⌜ Table (now t) n ⌝ }
+    requires { ⌜ inOrderOf (now t) ≡ true ⌝ }
+    ensures { λ r. ⌜ r ≡ queryOf (answerAt q (now (t .entry))) (now (t .entry)) a b m .number ⌝ }
+    ensures { λ _. ⌜ now (out .exit) ≡ answerNumbers (queryOf (answerAt q (now (t .entry))) (now (t .entry)) a b m) ⌝ }
+{
+    match look_up_request(t, a, b, m, n) {
+        Looked::Absent => refuse_row(out, NO_RECORD),
+        Looked::Held(v) => {
+            if v.d == 0 {
+                return refuse_row(out, BOUNDARY);
+            }
+            answer_at(q, t, v, n, out)
+        }
+    }
+}
+
+// The query at [a, b, m] in any bytes.
+fn answer(q: Query, t: &[u8], a: i32, b: i32, m: u8, out: &mut [i32; ANSWER_NUMBERS]) -> u8
+    ensures { λ r. ⌜ r ≡ queryOf (answerAt q (now (t .entry))) (now (t .entry)) a b m .number ⌝ }
+    ensures { λ _. ⌜ now (out .exit) ≡ answerNumbers (queryOf (answerAt q (now (t .entry))) (now (t .entry)) a b m) ⌝ }
+{
+    if !in_order(t) {
+        return refuse_row(out, NOT_IN_ORDER);
+    }
+    let n = slots_of(t);
+    answer_in(q, t, a, b, m, n, out)
 }
 
 // The neighbours of the vertex at [a, b, m]: its degree, and its adjacent points in star order. 1: the table is not in order; 3: no record is at
 // the point; 14: its degree is 0; 7: an adjacent point is not in the table.
-pub fn neighbours(table: &[u8], a: i32, b: i32, m: u8) -> Answer
-    ensures { λ r. ⌜ r ≡ neighboursOf (now (table .entry)) a b m ⌝ }
+pub fn neighbours(table: &[u8], a: i32, b: i32, m: u8, points: &mut [i32; ANSWER_NUMBERS]) -> u8
+    ensures { λ r. ⌜ r ≡ neighboursOf (now (table .entry)) a b m .number ⌝ }
+    ensures { λ _. ⌜ now (points .exit) ≡ answerNumbers (neighboursOf (now (table .entry)) a b m) ⌝ }
 {
-    match found(table, a, b, m) {
-        Vertex::Refused(number) => refuse(number),
-        Vertex::Star(v) => {
-            let n = slots_of(table);
-            let whole = adjacents_there(table, v, n);
-            neighbours_of(v, whole)
-        }
-    }
+    answer(Query::Neighbours, table, a, b, m, points)
 }
 
 // The faces round the vertex at [a, b, m]: its degree, and the opposite of each corner; with v, adjacent j and the next adjacent, opposite j makes
 // face j. Refused as neighbours are, and 7 also where a corner has no opposite in the table.
-pub fn faces(table: &[u8], a: i32, b: i32, m: u8) -> Answer
-    ensures { λ r. ⌜ r ≡ facesOf (now (table .entry)) a b m ⌝ }
+pub fn faces(table: &[u8], a: i32, b: i32, m: u8, points: &mut [i32; ANSWER_NUMBERS]) -> u8
+    ensures { λ r. ⌜ r ≡ facesOf (now (table .entry)) a b m .number ⌝ }
+    ensures { λ _. ⌜ now (points .exit) ≡ answerNumbers (facesOf (now (table .entry)) a b m) ⌝ }
 {
-    match found(table, a, b, m) {
-        Vertex::Refused(number) => refuse(number),
-        Vertex::Star(v) => {
-            let n = slots_of(table);
-            let whole = adjacents_there(table, v, n);
-            faces_of(table, v, whole, n)
-        }
-    }
+    answer(Query::Faces, table, a, b, m, points)
 }

@@ -2,50 +2,29 @@
 ghost use mathlib.Core.Path.{_≡_};
 ghost use Prim.Native.Nat.{_<_};
 ghost use Rattle.lattice.specs.RecordLaws.{Inner};
-ghost use Rattle.lattice.specs.Stars.{adjacentAt};
+ghost use Rattle.lattice.specs.Stars.{given};
 ghost use Rattle.table.specs.Slots.{Table};
-ghost use Rattle.table.specs.Entries.{holds};
 ghost use Rattle.queries.specs.Queries.{adjacentsThere, there, chosenAt};
-ghost use Rattle.queries.specs.Opposites.{eitherIn};
-use lattice::Point;
+ghost use Rattle.lattice.specs.AnswerRows.{answerNumbers};
+use lattice::ANSWER_NUMBERS;
 use lattice::Record;
 use lattice::Spot;
-use lattice::adjacent_of;
 use lattice::first_of;
+use lattice::point_at;
 use lattice::second_of;
-use table::Looked;
-use table::look_up;
+use table::is_there;
 
-// A point is in the table.
-fn is_there(t: &[u8], p: Point, n: usize) -> bool
-    requires { ⌜ Table (now t) n ⌝ }
-    ensures { λ r. ⌜ r ≡ holds (now (t .entry)) p ⌝ }
-{
-    match look_up(t, p, n) {
-        Looked::Absent => false,
-        Looked::Held(_) => true,
-    }
-}
-
-// The adjacent point at place j is in the table.
-fn adjacent_there(t: &[u8], v: Record, j: u8, n: usize) -> bool
-    requires { ⌜ Table (now t) n ⌝ }
-    requires { ⌜ Inner v × (j < v .d) ⌝ }
-    ensures { λ r. ⌜ r ≡ holds (now (t .entry)) (adjacentAt v j) ⌝ }
-{
-    is_there(t, adjacent_of(v, j), n)
-}
-
-// Each adjacent point of v is in the table.
-pub fn adjacents_there(t: &[u8], v: Record, n: usize) -> bool
+// Each adjacent point of v is in the table: the row has them.
+pub fn adjacents_there(t: &[u8], row: &[i32; ANSWER_NUMBERS], v: Record, n: usize) -> bool
     requires { ⌜ Table (now t) n ⌝ }
     requires { ⌜ Inner v ⌝ }
+    requires { ⌜ now row ≡ answerNumbers (given v) ⌝ }
     ensures { λ r. ⌜ r ≡ adjacentsThere (now (t .entry)) v ⌝ }
 {
     let d = v.d;
     let mut j = 0;
     while j < d {
-        if adjacent_there(t, v, j, n) {
+        if is_there(t, point_at(row, v, j), n) {
             j += 1;
         } else {
             return false;
@@ -71,24 +50,15 @@ fn kept(t: &[u8], s: Spot, n: usize) -> Spot
     }
 }
 
-// The first of two points, or the second where the table does not hold that; neither, where it holds none.
-fn either(t: &[u8], p: Spot, q: Spot, n: usize) -> Spot
-    requires { ⌜ Table (now t) n ⌝ }
-    ensures { λ r. ⌜ r ≡ eitherIn (now (t .entry)) p q ⌝ }
-{
-    match kept(t, p, n) {
-        Spot::At(o) => Spot::At(o),
-        Spot::Nothing => kept(t, q, n),
-    }
-}
-
 // The opposite of corner j: the first one if that is in the table, else the second if that is; a corner may have none.
 pub fn chosen(t: &[u8], v: Record, j: u8, n: usize) -> Spot
     requires { ⌜ Table (now t) n ⌝ }
     requires { ⌜ Inner v × (j < v .d) ⌝ }
     ensures { λ r. ⌜ r ≡ chosenAt (now (t .entry)) v j ⌝ }
 {
-    let p = Spot::At(first_of(v, j));
-    let q = second_of(v, j);
-    either(t, p, q, n)
+    let first = first_of(v, j);
+    if is_there(t, first, n) {
+        return Spot::At(first);
+    }
+    kept(t, second_of(v, j), n)
 }

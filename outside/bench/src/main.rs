@@ -58,6 +58,7 @@ fn main() {
     let (table, _) = levels.last().expect("six levels");
     subdivision(&mut bench, &levels);
     queries(&mut bench, table);
+    many(&mut bench, table);
     files(&mut bench, table);
     census(&mut bench);
     bench.print();
@@ -196,6 +197,27 @@ fn queries(bench: &mut Bench, large: &[u8]) {
             let task = Task { name, unit: "call", units: list.len() };
             bench.run(task, &mut || all(by_library), &mut || all(by_plain), None);
         }
+    }
+}
+
+type Queries = fn(&[u8], &[i32], &mut [i32]) -> u8;
+
+/// All the vertices of a sheet at once, one test of the table among them.
+fn many(bench: &mut Bench, table: &[u8]) {
+    let list: Vec<i32> = records(table).flat_map(|(p, _)| [p.a, p.b, p.m as i32]).collect();
+    let units = list.len() / 3;
+    let (mut answers, mut other) = (vec![-1; 20 * units], vec![-1; 20 * units]);
+    let calls: [(&str, Queries, Queries); 2] =
+        [("neighbours_all", library::neighbours_all, plain::neighbours_all), ("faces_all", library::faces_all, plain::faces_all)];
+    for (name, by_library, by_plain) in calls {
+        let task = Task { name, unit: "vertex", units };
+        bench.run(
+            task,
+            &mut || clock::time(|| assert_eq!(by_library(table, &list, &mut answers), 0)),
+            &mut || clock::time(|| assert_eq!(by_plain(table, &list, &mut other), 0)),
+            None,
+        );
+        assert!(answers == other);
     }
 }
 

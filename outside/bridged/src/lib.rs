@@ -24,6 +24,8 @@ enum Call {
     ReadFull,
     ReadReduced,
     Census,
+    NeighboursAll,
+    FacesAll,
     StackUsed,
 }
 
@@ -58,6 +60,16 @@ impl Library {
     /// The most stack that was in use so far.
     pub fn stack_used(&self) -> u64 {
         self.ask(Call::StackUsed, NO_FIELDS, &mut [], &[]).value
+    }
+
+    /// A call into lent numbers.
+    fn ask_all(&self, call: Call, table: &[u8], points: &[i32], answers: &mut [i32]) -> u8 {
+        let mut bytes = numbers(answers);
+        let number = self.ask(call, NO_FIELDS, &mut [&mut bytes], &[table, &numbers(points)]).number;
+        for (number, four) in answers.iter_mut().zip(bytes.chunks_exact(4)) {
+            *number = i32::from_le_bytes(four.try_into().expect("four bytes"));
+        }
+        number
     }
 
     /// One call; the lent buffers get back what they then hold, and the constant ones must be as they were.
@@ -121,8 +133,12 @@ enum Which {
 /// Which buffer stands where in a request: in the order of the C call's parameters.
 fn order(call: Call, lent: usize, constant: usize) -> Vec<Which> {
     let (lent, mut constant) = ((0..lent).map(Which::Lent), (0..constant).map(Which::Constant));
-    let constant_first = matches!(call, Call::WriteFull | Call::WriteReduced | Call::Census);
-    let first = if constant_first { constant.next() } else { None };
+    let before = match call {
+        Call::NeighboursAll | Call::FacesAll => 2,
+        Call::WriteFull | Call::WriteReduced | Call::Census => 1,
+        _ => 0,
+    };
+    let first: Vec<Which> = constant.by_ref().take(before).collect();
     first.into_iter().chain(lent).chain(constant).collect()
 }
 
@@ -177,6 +193,12 @@ impl Caller for Library {
     }
     fn faces(&self, table: &[u8], a: i32, b: i32, m: u8) -> (u8, Points) {
         self.ask(Call::Faces, at(a, b, m), &mut [], &[table]).points()
+    }
+    fn neighbours_all(&self, table: &[u8], points: &[i32], answers: &mut [i32]) -> u8 {
+        self.ask_all(Call::NeighboursAll, table, points, answers)
+    }
+    fn faces_all(&self, table: &[u8], points: &[i32], answers: &mut [i32]) -> u8 {
+        self.ask_all(Call::FacesAll, table, points, answers)
     }
     fn write_full(&self, table: &[u8], out: &mut [u8]) -> (u8, u64) {
         self.ask(Call::WriteFull, NO_FIELDS, &mut [out], &[table]).value()

@@ -12,6 +12,8 @@ pub trait Caller: Sync {
     fn subdivide_all(&self, table: &mut [u8], points: &[i32]) -> (u8, u64);
     fn neighbours(&self, table: &[u8], a: i32, b: i32, m: u8) -> (u8, Points);
     fn faces(&self, table: &[u8], a: i32, b: i32, m: u8) -> (u8, Points);
+    fn neighbours_all(&self, table: &[u8], points: &[i32], answers: &mut [i32]) -> u8;
+    fn faces_all(&self, table: &[u8], points: &[i32], answers: &mut [i32]) -> u8;
     fn write_full(&self, table: &[u8], out: &mut [u8]) -> (u8, u64);
     fn write_reduced(&self, table: &[u8], out: &mut [u8]) -> (u8, u64);
     fn read_full(&self, table: &mut [u8], scratch: &mut [u8], file: &[u8]) -> (u8, u64);
@@ -21,6 +23,7 @@ pub trait Caller: Sync {
 
 thread_local! {
     static WHY: std::cell::Cell<&'static str> = const { std::cell::Cell::new("") };
+    static INSIDE: std::cell::RefCell<Vec<(u8, &'static str)>> = const { std::cell::RefCell::new(Vec::new()) };
 }
 
 /// Why the mesher's last answer on this thread is what it is.
@@ -28,9 +31,20 @@ pub fn why() -> &'static str {
     WHY.with(|why| why.get())
 }
 
+/// The number and the reason of each of the answers that its last answer holds, where it is one to many points.
+pub fn inside() -> Vec<(u8, &'static str)> {
+    INSIDE.with(|inside| inside.take())
+}
+
 fn told<T>(answer: mesher::Answer<T>) -> (u8, T) {
     WHY.with(|why| why.set(answer.why));
     (answer.number, answer.value)
+}
+
+fn told_all(answer: mesher::Answer<Vec<(u8, &'static str)>>) -> u8 {
+    let (number, all) = told(answer);
+    INSIDE.with(|inside| inside.replace(all));
+    number
 }
 
 /// The separately written mesher: the reference.
@@ -57,6 +71,12 @@ impl Caller for Mesher {
     }
     fn faces(&self, table: &[u8], a: i32, b: i32, m: u8) -> (u8, Points) {
         told(mesher::faces(table, a, b, m))
+    }
+    fn neighbours_all(&self, table: &[u8], points: &[i32], answers: &mut [i32]) -> u8 {
+        told_all(mesher::neighbours_all(table, points, answers))
+    }
+    fn faces_all(&self, table: &[u8], points: &[i32], answers: &mut [i32]) -> u8 {
+        told_all(mesher::faces_all(table, points, answers))
     }
     fn write_full(&self, table: &[u8], out: &mut [u8]) -> (u8, u64) {
         told(mesher::write_full(table, out))
@@ -100,6 +120,12 @@ impl Caller for Slipped {
     fn faces(&self, table: &[u8], a: i32, b: i32, m: u8) -> (u8, Points) {
         slips::with(self.0, || Mesher.faces(table, a, b, m))
     }
+    fn neighbours_all(&self, table: &[u8], points: &[i32], answers: &mut [i32]) -> u8 {
+        slips::with(self.0, || Mesher.neighbours_all(table, points, answers))
+    }
+    fn faces_all(&self, table: &[u8], points: &[i32], answers: &mut [i32]) -> u8 {
+        slips::with(self.0, || Mesher.faces_all(table, points, answers))
+    }
     fn write_full(&self, table: &[u8], out: &mut [u8]) -> (u8, u64) {
         slips::with(self.0, || Mesher.write_full(table, out))
     }
@@ -141,6 +167,12 @@ impl Caller for Plain {
     }
     fn faces(&self, table: &[u8], a: i32, b: i32, m: u8) -> (u8, Points) {
         plain::faces(table, a, b, m)
+    }
+    fn neighbours_all(&self, table: &[u8], points: &[i32], answers: &mut [i32]) -> u8 {
+        plain::neighbours_all(table, points, answers)
+    }
+    fn faces_all(&self, table: &[u8], points: &[i32], answers: &mut [i32]) -> u8 {
+        plain::faces_all(table, points, answers)
     }
     fn write_full(&self, table: &[u8], out: &mut [u8]) -> (u8, u64) {
         plain::write_full(table, out)

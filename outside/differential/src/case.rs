@@ -13,6 +13,8 @@ pub enum Case {
     SubdivideAll { table: Vec<u8>, points: Vec<i32> },
     Neighbours { table: Vec<u8>, point: ([i32; 2], u8) },
     Faces { table: Vec<u8>, point: ([i32; 2], u8) },
+    NeighboursAll { table: Vec<u8>, points: Vec<i32>, answers: Vec<i32> },
+    FacesAll { table: Vec<u8>, points: Vec<i32>, answers: Vec<i32> },
     WriteFull { table: Vec<u8>, out: Vec<u8> },
     WriteReduced { table: Vec<u8>, out: Vec<u8> },
     ReadFull { table: Vec<u8>, scratch: Vec<u8>, file: Vec<u8> },
@@ -67,6 +69,17 @@ fn count(outcome: (u8, u64)) -> (u8, Vec<i64>) {
     (outcome.0, vec![outcome.1 as i64])
 }
 
+/// A call into lent numbers between guards: its number, and the numbers as they then are.
+fn numbers(lent: &[i32], call: impl FnOnce(&mut [i32]) -> u8) -> (u8, Vec<i64>) {
+    let guard = [i32::from_ne_bytes([GUARD; 4]); GUARDS];
+    let mut all = [&guard, lent, &guard].concat();
+    let number = call(&mut all[GUARDS..GUARDS + lent.len()]);
+    let (before, rest) = all.split_at(GUARDS);
+    let (content, after) = rest.split_at(lent.len());
+    assert!(before == guard && after == guard, "a number outside of what was lent has changed");
+    (number, content.iter().map(|v| *v as i64).collect())
+}
+
 impl Case {
     pub fn call(&self) -> &'static str {
         match self {
@@ -77,6 +90,8 @@ impl Case {
             Case::SubdivideAll { .. } => "subdivide_all",
             Case::Neighbours { .. } => "neighbours",
             Case::Faces { .. } => "faces",
+            Case::NeighboursAll { .. } => "neighbours_all",
+            Case::FacesAll { .. } => "faces_all",
             Case::WriteFull { .. } => "write_full",
             Case::WriteReduced { .. } => "write_reduced",
             Case::ReadFull { .. } => "read_full",
@@ -111,6 +126,14 @@ impl Case {
             Case::Faces { table, point: ([a, b], m) } => {
                 let mut table = Lent::new(table);
                 (points(caller.faces(table.get(), *a, *b, *m)), vec![table])
+            }
+            Case::NeighboursAll { table, points, answers } => {
+                let mut table = Lent::new(table);
+                (numbers(answers, |out| caller.neighbours_all(table.get(), points, out)), vec![table])
+            }
+            Case::FacesAll { table, points, answers } => {
+                let mut table = Lent::new(table);
+                (numbers(answers, |out| caller.faces_all(table.get(), points, out)), vec![table])
             }
             Case::WriteFull { table, out } => {
                 let (mut table, mut out) = (Lent::new(table), Lent::new(out));
@@ -164,6 +187,9 @@ impl std::fmt::Display for Case {
                 write!(f, "{point:?} in {}", shown(table))
             }
             Case::SubdivideAll { table, points } => write!(f, "{:?} in {}", &points[..points.len().min(60)], shown(table)),
+            Case::NeighboursAll { table, points, answers } | Case::FacesAll { table, points, answers } => {
+                write!(f, "{:?}, room for {}, in {}", &points[..points.len().min(60)], answers.len(), shown(table))
+            }
             Case::WriteFull { table, out } | Case::WriteReduced { table, out } => {
                 write!(f, "{} bytes of output, {}", out.len(), shown(table))
             }

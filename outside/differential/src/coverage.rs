@@ -50,6 +50,11 @@ impl Coverage {
         self.cases += 1;
     }
 
+    /// An answer that is one of many in a case.
+    pub fn note_inside(&mut self, call: &'static str, number: u8, why: &'static str) {
+        *self.reached.entry((call, number, why)).or_default() += 1;
+    }
+
     /// Cases of a call by number: one line a call.
     pub fn table(&self) -> String {
         let mut by_number: BTreeMap<&str, BTreeMap<u8, u64>> = BTreeMap::new();
@@ -58,7 +63,7 @@ impl Coverage {
         }
         let line = |(call, numbers): (&&str, &BTreeMap<u8, u64>)| {
             let cells: Vec<String> = numbers.iter().map(|(n, times)| format!("{n}: {times}")).collect();
-            format!("  {call:14} {}\n", cells.join("   "))
+            format!("  {call:19} {}\n", cells.join("   "))
         };
         by_number.iter().map(line).collect()
     }
@@ -82,30 +87,34 @@ pub fn expected() -> Vec<Key> {
     };
     let subdividing = ["subdivide", "subdivide_all"];
     let queries = ["neighbours", "faces"];
+    let many = ["neighbours_all", "faces_all"];
+    let one_of_many = ["neighbours_all, one", "faces_all, one"];
     let writers = ["write_full", "write_reduced"];
     let readers = ["read_full", "read_reduced", "census"];
-    let of_a_table = [subdividing, queries, writers].concat();
-    let of_a_point = [subdividing, queries].concat();
-    let all = [&["normalise", "star", "base"][..], &of_a_table, &readers].concat();
+    let of_a_table = [subdividing, queries, many, writers].concat();
+    let of_a_point = [subdividing, queries, one_of_many].concat();
+    let all = [&["normalise", "star", "base"][..], &of_a_table, &one_of_many, &readers].concat();
     let not_in_order = [&FAULTS[..], &NOT_IN_ORDER].concat();
     let bad_lines = [&FAULTS[..], &MALFORMED].concat();
     let bad_lists = ["list empty or of odd length", "centre out of range", "centre of the wrong remainder", "centre repeated"];
     [
         keys(&all, 0, &["done"]),
         keys(&["star"], 9, &FAULTS),
-        keys(&["star", "neighbours", "faces"], 14, &["degree 0"]),
+        keys(&["star", "neighbours", "faces", "neighbours_all, one", "faces_all, one"], 14, &["degree 0"]),
         keys(&["base"], 1, &["length doesn't fit"]),
         keys(&["base"], 2, &bad_lists),
         keys(&["base"], 8, &["fewer slots than points"]),
         keys(&of_a_table, 1, &not_in_order),
         keys(&of_a_point, 3, &["no record at the point"]),
-        keys(&["subdivide_all"], 3, &["no such depth"]),
+        keys(&["subdivide_all", "neighbours_all, one", "faces_all, one"], 3, &["no such depth"]),
         keys(&subdividing, 4, &["degree isn't 6"]),
         keys(&subdividing, 5, &["level is 12"]),
         keys(&subdividing, 7, &TORN),
         keys(&subdividing, 8, &["fewer than six free slots"]),
-        keys(&queries, 7, &["an adjacent is absent"]),
-        keys(&["faces"], 7, &["a corner with no opposite"]),
+        keys(&[queries, one_of_many].concat(), 7, &["an adjacent is absent"]),
+        keys(&["faces", "faces_all, one"], 7, &["a corner with no opposite"]),
+        keys(&many, 0, &["done, numbers past the last triple"]),
+        keys(&many, 13, &["too little room for the answers"]),
         keys(&["write_full", "write_reduced", "census"], 13, &["output shorter than the file"]),
         keys(&readers, 1, &["length doesn't fit", "scratch of another length"]),
         keys(&readers, 9, &bad_lines),

@@ -184,6 +184,33 @@ impl Cases {
         Case::SubdivideAll { table, points }
     }
 
+    fn query_all(&mut self, faces: bool) -> Case {
+        let (table, records) = self.table();
+        let rng = &mut self.rng;
+        let mut points = Vec::new();
+        for _ in 0..rng.below(8) {
+            let ([a, b], m) = request(rng, &records, false);
+            let m = if rng.once_in(20) { *rng.pick(&[-1, 256, i32::MIN, i32::MAX]) } else { m as i32 };
+            points.extend([a, b, m]);
+        }
+        let wide = 20 * (points.len() / 3);
+        for _ in 0..rng.below(3) {
+            points.push(rng.next() as i32);
+        }
+        let room = match rng.below(6) {
+            0 => wide.saturating_sub(1),
+            1 => rng.below(wide + 1),
+            2 => wide,
+            _ => wide + rng.below(60),
+        };
+        let answers = vec![rng.next() as i32; room];
+        if faces {
+            Case::FacesAll { table, points, answers }
+        } else {
+            Case::NeighboursAll { table, points, answers }
+        }
+    }
+
     fn census(&mut self) -> Case {
         let made = self.file(false);
         let (mut table, mut scratch) = self.lengths(&made);
@@ -229,11 +256,13 @@ impl Iterator for Cases {
                 Case::Subdivide { table, point: request(&mut self.rng, &records, true) }
             }
             41..=48 => self.subdivide_all(),
-            49..=56 => {
+            49..=54 => {
                 let (table, records) = self.table();
                 Case::Neighbours { table, point: request(&mut self.rng, &records, false) }
             }
-            57..=68 => {
+            55..=56 => self.query_all(false),
+            57..=58 => self.query_all(true),
+            59..=68 => {
                 let (table, records) = self.table();
                 Case::Faces { table, point: request(&mut self.rng, &records, false) }
             }

@@ -2,7 +2,7 @@
 //!
 //! FLASKBLOOM_SEED sets the seed (a number, or `now`), FLASKBLOOM_CASES the number of random cases.
 
-use crate::caller::{why, Caller, Mesher};
+use crate::caller::{inside, why, Caller, Mesher};
 use crate::case::{difference, Case, Outcome};
 use crate::coverage::Coverage;
 use crate::makers::*;
@@ -48,6 +48,8 @@ pub fn random_cases(caller: &dyn Caller) {
     for case in Cases::new(seed).take(cases as usize) {
         let wanted = case.run(&Mesher);
         coverage.note(case.call(), wanted.number, why());
+        let one_of_many = if case.call() == "faces_all" { "faces_all, one" } else { "neighbours_all, one" };
+        inside().into_iter().for_each(|(number, why)| coverage.note_inside(one_of_many, number, why));
         let got = case.run(caller);
         if let Some(how) = difference(&wanted, &got) {
             panic!("seed {seed}, case {}: the mesher and the other differ: {how}\n{case}", coverage.cases);
@@ -201,6 +203,8 @@ pub fn single_bytes(caller: &dyn Caller) {
             same(caller, &Case::Subdivide { table: table.clone(), point });
             same(caller, &Case::Neighbours { table: table.clone(), point });
             same(caller, &Case::Faces { table: table.clone(), point });
+            let points = vec![point.0[0], point.0[1], point.1 as i32, 1, 0, 0];
+            same(caller, &Case::FacesAll { table: table.clone(), points, answers: vec![3; 41] });
             same(caller, &Case::WriteReduced { table, out: vec![3; 400] });
         }
     }
@@ -231,6 +235,12 @@ pub fn every_length(caller: &dyn Caller) {
         for len in 0..full.len() + 3 {
             same(caller, &Case::WriteFull { table: table.clone(), out: vec![3; len] });
             same(caller, &Case::WriteReduced { table: table.clone(), out: vec![3; len] });
+        }
+        let points: Vec<i32> = records.iter().take(4).flat_map(|r| [r.a, r.b, r.m as i32]).collect();
+        for (read, room) in (0..=points.len()).flat_map(|read| (0..102).map(move |room| (read, room))) {
+            let (points, answers) = (points[..read].to_vec(), vec![3; room]);
+            same(caller, &Case::NeighboursAll { table: table.clone(), points: points.clone(), answers: answers.clone() });
+            same(caller, &Case::FacesAll { table: table.clone(), points, answers });
         }
         for slots in 0..records.len() + 20 {
             for len in [slots * SLOT, slots * SLOT + 5] {
@@ -298,6 +308,10 @@ pub fn large_meshes(caller: &dyn Caller) {
             caller.subdivide_all(&mut table, &points);
         }
         let list = stored(&table);
+        let points: Vec<i32> = list.iter().flat_map(|r| [r.a, r.b, r.m as i32]).collect();
+        let answers = vec![-1; 20 * list.len()];
+        assert_eq!(same(caller, &Case::NeighboursAll { table: table.clone(), points: points.clone(), answers: answers.clone() }), 0);
+        assert_eq!(same(caller, &Case::FacesAll { table: table.clone(), points, answers }), 0);
         for _ in 0..10 {
             let v = *rng.pick(&list);
             same(caller, &Case::Faces { table: table.clone(), point: ([v.a, v.b], v.m) });
@@ -381,6 +395,9 @@ pub fn small_stack(caller: &dyn Caller) {
     run(Case::Subdivide { table: table.clone(), point });
     run(Case::Neighbours { table: table.clone(), point });
     run(Case::Faces { table: table.clone(), point });
+    let (points, answers) = (vec![1, 0, 0, 3, 0, 1], vec![0; 40]);
+    run(Case::NeighboursAll { table: table.clone(), points: points.clone(), answers: answers.clone() });
+    run(Case::FacesAll { table: table.clone(), points, answers });
     let full = run(Case::WriteFull { table: table.clone(), out: out.clone() });
     let reduced = run(Case::WriteReduced { table, out });
     let text = |written: Outcome| written.lent[1][..written.value[0] as usize].to_vec();

@@ -13,7 +13,7 @@
 //!
 //! `Table` owns its slots; `Refusal` is document 01's numbers; `normalise` and `star` need no mesh; `census` is the program's text.
 //! Every call but `normalise`, `star` and the reading of fields first tests the whole table, in time linear in its slots: to subdivide
-//! many points use `subdivide_all`, which tests it once.
+//! many points use `subdivide_all`, which tests it once; to ask of many, `neighbours_all`, `opposites_all` and `faces_all`.
 
 pub mod raw;
 pub mod slices;
@@ -151,13 +151,28 @@ impl std::ops::Deref for Points {
     }
 }
 
-fn points((number, flat): (u8, slices::Points)) -> Result<Points, Refusal> {
+/// What a query answers: the points, or why not.
+pub type Answer = Result<Points, Refusal>;
+
+fn points((number, flat): (u8, slices::Points)) -> Answer {
     Refusal::of(number)?;
     let mut list = [Point::new(0, 0, 0); 6];
     for (p, at) in list.iter_mut().zip(flat[1..].chunks_exact(3)) {
         *p = Point::new(at[0], at[1], at[2] as u8);
     }
     Ok(Points { count: flat[0] as usize, list })
+}
+
+/// Points as the calls for many have them: a, b, m, a, b, m, ..
+fn flat(list: &[Point]) -> Vec<i32> {
+    list.iter().flat_map(|p| [p.a, p.b, p.m as i32]).collect()
+}
+
+/// The faces round a vertex: itself, adjacent j, opposite j, the next adjacent.
+fn around(p: Point, adjacent: &[Point], opposite: &[Point]) -> Vec<[Point; 4]> {
+    let here = normalise(p);
+    let next = |j: usize| adjacent[(j + 1) % adjacent.len()];
+    (0..adjacent.len()).map(|j| [here, adjacent[j], opposite[j], next(j)]).collect()
 }
 
 /// The normalised spelling of a point.
@@ -167,7 +182,7 @@ pub fn normalise(p: Point) -> Point {
 }
 
 /// The adjacent points of a record, without any mesh.
-pub fn star(r: Record) -> Result<Points, Refusal> {
+pub fn star(r: Record) -> Answer {
     points(slices::star(r.point.a, r.point.b, r.point.m, r.degree, r.orientation, r.level))
 }
 
@@ -182,6 +197,8 @@ pub fn census(input: &[u8]) -> String {
 pub const SLOT: usize = 12;
 /// The slots that the census program lends.
 pub const CENSUS_SLOTS: usize = 5461;
+/// The numbers of an answer among many: its number, then its points.
+const ANSWER: usize = 20;
 /// The longest line of a file: two numerators of seven bytes, m and d of one, k and n of two, six ends.
 const LINE: usize = 26;
 
@@ -244,27 +261,45 @@ impl Table {
 
     /// Subdivides in turn, up to the first refusal; `at` then says how many were made, and those stand.
     pub fn subdivide_all(&mut self, list: &[Point]) -> Result<(), RefusedAt> {
-        let flat: Vec<i32> = list.iter().flat_map(|p| [p.a, p.b, p.m as i32]).collect();
-        placed(slices::subdivide_all(&mut self.bytes, &flat))
+        placed(slices::subdivide_all(&mut self.bytes, &flat(list)))
     }
 
     /// The adjacent vertices, counter-clockwise.
-    pub fn neighbours(&self, p: Point) -> Result<Points, Refusal> {
+    pub fn neighbours(&self, p: Point) -> Answer {
         points(slices::neighbours(&self.bytes, p.a, p.b, p.m))
     }
 
     /// The far vertex of the face at each corner: corner j lies between neighbour j and the next.
-    pub fn opposites(&self, p: Point) -> Result<Points, Refusal> {
+    pub fn opposites(&self, p: Point) -> Answer {
         points(slices::faces(&self.bytes, p.a, p.b, p.m))
     }
 
     /// The faces round a vertex, each counter-clockwise from it.
     pub fn faces(&self, p: Point) -> Result<Vec<[Point; 4]>, Refusal> {
         let opposite = self.opposites(p)?;
-        let adjacent = self.neighbours(p)?;
-        let here = normalise(p);
-        let next = |j: usize| adjacent[(j + 1) % adjacent.len()];
-        Ok((0..adjacent.len()).map(|j| [here, adjacent[j], opposite[j], next(j)]).collect())
+        Ok(around(p, &self.neighbours(p)?, &opposite))
+    }
+
+    /// What `neighbours` answers for each point, with one test of the table; refused is only a table that is not in order.
+    pub fn neighbours_all(&self, list: &[Point]) -> Result<Vec<Answer>, Refusal> {
+        self.answers(list, slices::neighbours_all)
+    }
+
+    /// What `opposites` answers for each point, with one test of the table; refused is only a table that is not in order.
+    pub fn opposites_all(&self, list: &[Point]) -> Result<Vec<Answer>, Refusal> {
+        self.answers(list, slices::faces_all)
+    }
+
+    /// What `faces` answers for each point, with two tests of the table; refused is only a table that is not in order.
+    pub fn faces_all(&self, list: &[Point]) -> Result<Vec<Result<Vec<[Point; 4]>, Refusal>>, Refusal> {
+        let (adjacent, opposite) = (self.neighbours_all(list)?, self.opposites_all(list)?);
+        Ok(list.iter().zip(adjacent.into_iter().zip(opposite)).map(|(p, (u, o))| Ok(around(*p, &u?, &o?))).collect())
+    }
+
+    fn answers(&self, list: &[Point], call: fn(&[u8], &[i32], &mut [i32]) -> u8) -> Result<Vec<Answer>, Refusal> {
+        let mut out = vec![0; ANSWER * list.len()];
+        Refusal::of(call(&self.bytes, &flat(list), &mut out))?;
+        Ok(out.chunks_exact(ANSWER).map(|a| points((a[0] as u8, std::array::from_fn(|i| a[i + 1])))).collect())
     }
 
     /// The full file.

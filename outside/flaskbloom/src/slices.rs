@@ -43,6 +43,16 @@ pub fn faces(table: &[u8], a: i32, b: i32, m: u8) -> (u8, Points) {
     (unsafe { raw::fb_faces(table.as_ptr(), table.len(), a, b, m, points.as_mut_ptr()) }, points)
 }
 
+pub fn neighbours_all(table: &[u8], points: &[i32], answers: &mut [i32]) -> u8 {
+    let (out, room) = (answers.as_mut_ptr(), answers.len());
+    unsafe { raw::fb_neighbours_all(table.as_ptr(), table.len(), points.as_ptr(), points.len(), out, room) }
+}
+
+pub fn faces_all(table: &[u8], points: &[i32], answers: &mut [i32]) -> u8 {
+    let (out, room) = (answers.as_mut_ptr(), answers.len());
+    unsafe { raw::fb_faces_all(table.as_ptr(), table.len(), points.as_ptr(), points.len(), out, room) }
+}
+
 pub fn write_full(table: &[u8], out: &mut [u8]) -> (u8, u64) {
     let mut written = UNSET;
     (unsafe { raw::fb_write_full(table.as_ptr(), table.len(), out.as_mut_ptr(), out.len(), &mut written) }, written)

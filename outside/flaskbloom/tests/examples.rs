@@ -52,6 +52,18 @@ fn subdividing() {
 }
 
 #[test]
+fn many_queries() {
+    let mut sheet = three();
+    sheet.subdivide(Point::new(1, 0, 0)).unwrap();
+    let asked: Vec<Point> = sheet.records().map(|r| r.point).chain([Point::new(5, 5, 0), Point::new(9, 0, 2)]).collect();
+    assert_eq!(sheet.neighbours_all(&asked), Ok(asked.iter().map(|p| sheet.neighbours(*p)).collect()));
+    assert_eq!(sheet.opposites_all(&asked), Ok(asked.iter().map(|p| sheet.opposites(*p)).collect()));
+    assert_eq!(sheet.faces_all(&asked), Ok(asked.iter().map(|p| sheet.faces(*p)).collect()));
+    assert_eq!(sheet.neighbours_all(&[]), Ok(Vec::new()));
+    assert_eq!(Table::from_bytes(vec![1; 192]).faces_all(&[]), Err(Refusal::NotInOrder));
+}
+
+#[test]
 fn files_there_and_back() {
     let mut sheet = three();
     sheet.subdivide(Point::new(1, 0, 0)).unwrap();

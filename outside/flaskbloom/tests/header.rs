@@ -56,7 +56,7 @@ fn header() -> Vec<(String, Vec<String>)> {
 #[test]
 fn raw_is_the_header() {
     let raw = include_str!("../src/raw.rs");
-    assert_eq!(header().len(), 12);
+    assert_eq!(header().len(), 14);
     assert_eq!(functions(raw.split_once("extern").expect("the block").1, ";"), header());
 }
 
@@ -66,7 +66,11 @@ fn seen_from_c(parameter: &str) -> Vec<String> {
     let Some(behind) = kind.strip_prefix('&') else { return vec![parameter.to_string()] };
     let (pointer, behind) = behind.strip_prefix("mut ").map_or(("*const", behind), |rest| ("*mut", rest));
     let element = behind.trim_matches(['[', ']']).split(';').next().expect("a part");
-    let length = if name == "centres" || name == "points" { "count".to_string() } else { format!("{name}_len") };
+    let length = match name {
+        "centres" | "points" => "count".to_string(),
+        "answers" => "room".to_string(),
+        _ => format!("{name}_len"),
+    };
     let is_slice = behind.starts_with('[') && !behind.contains(';');
     [format!("{name}: {pointer} {element}")].into_iter().chain(is_slice.then(|| format!("{length}: usize"))).collect()
 }

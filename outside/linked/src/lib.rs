@@ -27,6 +27,12 @@ impl Caller for Library {
     fn faces(&self, table: &[u8], a: i32, b: i32, m: u8) -> (u8, Points) {
         slices::faces(table, a, b, m)
     }
+    fn neighbours_all(&self, table: &[u8], points: &[i32], answers: &mut [i32]) -> u8 {
+        slices::neighbours_all(table, points, answers)
+    }
+    fn faces_all(&self, table: &[u8], points: &[i32], answers: &mut [i32]) -> u8 {
+        slices::faces_all(table, points, answers)
+    }
     fn write_full(&self, table: &[u8], out: &mut [u8]) -> (u8, u64) {
         slices::write_full(table, out)
     }

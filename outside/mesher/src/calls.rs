@@ -169,15 +169,18 @@ pub fn subdivide_all(table: &mut [u8], points: &[i32]) -> Answer<u64> {
     answer
 }
 
-/// A query of the vertex at a point.
-fn asked(table: &[u8], a: i32, b: i32, m: u8, of: fn(&Mesh, &Record) -> Result<Vec<Spot>, Refused>) -> Answer<Points> {
-    let outcome = opened(table).and_then(|(slots, mesh)| {
-        let v = found(&slots, a, b, m)?;
-        match v.d {
-            0 => Err(Refused(14, "degree 0")),
-            _ => of(&mesh, &v),
-        }
-    });
+type Query = fn(&Mesh, &Record) -> Result<Vec<Spot>, Refused>;
+
+/// A query of the vertex at a point of an opened table.
+fn asked(slots: &Slots, mesh: &Mesh, a: i32, b: i32, m: u8, of: Query) -> Result<Vec<Spot>, Refused> {
+    let v = found(slots, a, b, m)?;
+    match v.d {
+        0 => Err(Refused(14, "degree 0")),
+        _ => of(mesh, &v),
+    }
+}
+
+fn answered(outcome: Result<Vec<Spot>, Refused>) -> Answer<Points> {
     match outcome {
         Ok(spots) => done(listed(&spots)),
         Err(Refused(number, why)) => refused(number, why, NO_POINTS),
@@ -185,11 +188,51 @@ fn asked(table: &[u8], a: i32, b: i32, m: u8, of: fn(&Mesh, &Record) -> Result<V
 }
 
 pub fn neighbours(table: &[u8], a: i32, b: i32, m: u8) -> Answer<Points> {
-    asked(table, a, b, m, Mesh::neighbours)
+    answered(opened(table).and_then(|(slots, mesh)| asked(&slots, &mesh, a, b, m, Mesh::neighbours)))
 }
 
 pub fn faces(table: &[u8], a: i32, b: i32, m: u8) -> Answer<Points> {
-    asked(table, a, b, m, Mesh::opposites)
+    answered(opened(table).and_then(|(slots, mesh)| asked(&slots, &mesh, a, b, m, Mesh::opposites)))
+}
+
+/// The numbers of an answer among many: the number, then the points.
+const WIDE: usize = 20;
+
+/// The answers to these points (a, b, m, a, b, m, ..), as the single calls give them; the value says each one's number and why.
+fn asked_all(table: &[u8], points: &[i32], answers: &mut [i32], of: Query) -> Answer<Vec<(u8, &'static str)>> {
+    let (slots, mesh) = match opened(table) {
+        Ok(both) => both,
+        Err(Refused(number, why)) => return refused(number, why, Vec::new()),
+    };
+    let triples = points.len() / 3;
+    let room = if made(Slip::RoomByAnswers) { answers.len().div_ceil(WIDE) } else { answers.len() / WIDE };
+    if room < triples {
+        return refused(13, "too little room for the answers", Vec::new());
+    }
+    let mut told = Vec::new();
+    let read = if made(Slip::LastTripleForgotten) { triples.saturating_sub(1) } else { triples };
+    for (i, point) in points.chunks_exact(3).take(read).enumerate() {
+        let answer = answered(match u8::try_from(point[2]) {
+            Ok(m) => asked(&slots, &mesh, point[0], point[1], m, of),
+            Err(_) => Err(Refused(3, "no such depth")),
+        });
+        let row = std::iter::once(answer.number as i32).chain(answer.value);
+        answers.iter_mut().skip(WIDE * i).zip(row).for_each(|(out, number)| *out = number);
+        told.push((answer.number, answer.why));
+    }
+    if points.len() % 3 == 0 {
+        done(told)
+    } else {
+        refused(0, "done, numbers past the last triple", told)
+    }
+}
+
+pub fn neighbours_all(table: &[u8], points: &[i32], answers: &mut [i32]) -> Answer<Vec<(u8, &'static str)>> {
+    asked_all(table, points, answers, Mesh::neighbours)
+}
+
+pub fn faces_all(table: &[u8], points: &[i32], answers: &mut [i32]) -> Answer<Vec<(u8, &'static str)>> {
+    asked_all(table, points, answers, Mesh::opposites)
 }
 
 /// A writer: the bytes written.

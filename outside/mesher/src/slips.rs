@@ -44,9 +44,11 @@ pub enum Slip {
     EdgeTwice,
     FaceTwice,
     LongInputByLine,
+    RoomByAnswers,
+    LastTripleForgotten,
 }
 
-pub const ALL: [Slip; 39] = [
+pub const ALL: [Slip; 41] = [
     Slip::FartherOpposite,
     Slip::PlusFourTwice,
     Slip::NewNotNormalised,
@@ -86,6 +88,8 @@ pub const ALL: [Slip; 39] = [
     Slip::EdgeTwice,
     Slip::FaceTwice,
     Slip::LongInputByLine,
+    Slip::RoomByAnswers,
+    Slip::LastTripleForgotten,
 ];
 
 thread_local! {

@@ -14,7 +14,7 @@ pub mod table;
 pub use counts::census;
 pub use files::{read_full, read_reduced, write_full, write_reduced};
 pub use lattice::{normalise, star};
-pub use mesh::{base, faces, neighbours, subdivide, subdivide_all};
+pub use mesh::{base, faces, faces_all, neighbours, neighbours_all, subdivide, subdivide_all};
 
 /// A count and six points as a, b, m.
 pub type Points = [i32; 19];

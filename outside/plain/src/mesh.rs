@@ -211,9 +211,9 @@ pub fn subdivide_all(table: &mut [u8], points: &[i32]) -> (u8, u64) {
     (0, points.len() as u64 / 3)
 }
 
-/// The vertex of a query: its point and star, or 1, 3 or 14.
+/// The vertex of a query in a table in order: its point and star, or 3 or 14.
+#[inline]
 fn asked(table: &[u8], p: Point) -> Result<(Point, Star), u8> {
-    in_order(table).ok_or(1)?;
     let p = reduce(p);
     let (_, v) = Some(p).filter(|p| in_range(*p)).and_then(|p| find(table, p)).ok_or(3)?;
     if v.d == 0 {
@@ -223,7 +223,7 @@ fn asked(table: &[u8], p: Point) -> Result<(Point, Star), u8> {
 }
 
 pub fn neighbours(table: &[u8], a: i32, b: i32, m: u8) -> (u8, Points) {
-    answer(asked(table, Point { a, b, m }).and_then(|(p, v)| adjacents(table, p, v)))
+    answer(in_order(table).ok_or(1).and_then(|_| adjacents(table, Point { a, b, m })))
 }
 
 fn answer(outcome: Result<Points, u8>) -> (u8, Points) {
@@ -233,7 +233,14 @@ fn answer(outcome: Result<Points, u8>) -> (u8, Points) {
     }
 }
 
-fn adjacents(table: &[u8], p: Point, v: Star) -> Result<Points, u8> {
+#[inline]
+fn adjacents(table: &[u8], p: Point) -> Result<Points, u8> {
+    let (p, v) = asked(table, p)?;
+    star_there(table, p, v)
+}
+
+#[inline]
+fn star_there(table: &[u8], p: Point, v: Star) -> Result<Points, u8> {
     let mut points = [0; 19];
     points[0] = v.d as i32;
     for (out, row) in points[1..].chunks_exact_mut(3).zip(rows(v)) {
@@ -245,13 +252,42 @@ fn adjacents(table: &[u8], p: Point, v: Star) -> Result<Points, u8> {
 }
 
 pub fn faces(table: &[u8], a: i32, b: i32, m: u8) -> (u8, Points) {
-    answer(asked(table, Point { a, b, m }).and_then(|(p, v)| {
-        let mut points = adjacents(table, p, v)?;
-        for (out, row) in points[1..].chunks_exact_mut(3).zip(rows(v)) {
-            put_point(out, opposite(table, p, v, row).ok_or(7)?);
-        }
-        Ok(points)
-    }))
+    answer(in_order(table).ok_or(1).and_then(|_| opposites(table, Point { a, b, m })))
+}
+
+#[inline]
+fn opposites(table: &[u8], p: Point) -> Result<Points, u8> {
+    let (p, v) = asked(table, p)?;
+    let mut points = star_there(table, p, v)?;
+    for (out, row) in points[1..].chunks_exact_mut(3).zip(rows(v)) {
+        put_point(out, opposite(table, p, v, row).ok_or(7)?);
+    }
+    Ok(points)
+}
+
+pub fn neighbours_all(table: &[u8], points: &[i32], answers: &mut [i32]) -> u8 {
+    answer_all(table, points, answers, adjacents)
+}
+
+pub fn faces_all(table: &[u8], points: &[i32], answers: &mut [i32]) -> u8 {
+    answer_all(table, points, answers, opposites)
+}
+
+/// One answer each, twenty numbers: what the single call gives.
+#[inline]
+fn answer_all(table: &[u8], points: &[i32], answers: &mut [i32], ask: impl Fn(&[u8], Point) -> Result<Points, u8>) -> u8 {
+    if in_order(table).is_none() {
+        return 1;
+    }
+    if answers.len() / 20 < points.len() / 3 {
+        return 13;
+    }
+    for (p, out) in points.chunks_exact(3).zip(answers.chunks_exact_mut(20)) {
+        let (number, row) = answer(u8::try_from(p[2]).map_err(|_| 3).and_then(|m| ask(table, Point { a: p[0], b: p[1], m })));
+        out[0] = number as i32;
+        out[1..].copy_from_slice(&row);
+    }
+    0
 }
 
 #[inline]

@@ -1,19 +1,20 @@
--- `flaskbloom::points::fb_neighbours` meets its promise. Assumes nothing.
-use mathlib.Core.Path.{_≡_, sym, ap, _∙_}
+-- `flaskbloom::points::fb_neighbours` meets its promise: the call's own. Assumes nothing.
+use mathlib.Core.Path.{sym}
 use borrow.Author.Needs.{needs}
 use Rattle.laws.specs.Machine.{asked₂}
 use Rattle.queries.specs.Queries.{neighboursOf}
 use Rattle.flaskbloom.specs.Numbers.{answerNumbers}
-use Rattle.lattice.specs.declared.stars.Answer.{Answer}
 use Rattle.flaskbloom.proofs.points.fb_neighbours.Statement.{statement}
 use Rattle.flaskbloom.proofs.points.fb_neighbours.Tie as tie
 
 returns : tie.Need-returns
 returns c =
-    let k = c .before in
-    let s = k .before .before in
-    let e = sym (asked₂ (λ x y. neighboursOf (s .args .table .now) x y (s .args .m)) (s .fits .a) (s .fits .b) (k .neighbours .ensures)) in
-    (ap (λ (r : Answer). r .number) e, c .answer-numbers .ensures ∙ ap answerNumbers e)
+    let s = c .before .before .before in
+    let a = s .args in
+    let t = a .table .now in (
+      sym (asked₂ (λ x y. neighboursOf t x y (a .m) .number) (s .fits .a) (s .fits .b) (c .neighbours .ensures .0)),
+      sym (asked₂ (λ x y. answerNumbers (neighboursOf t x y (a .m))) (s .fits .a) (s .fits .b) (c .neighbours .ensures .1)),
+    )
 
 pub fb-neighbours-spec : {M : Type 1} → statement M
-fb-neighbours-spec = tie.close (tie.spec (λ c κs. search needs) (λ c κs. search needs) returns)
+fb-neighbours-spec = tie.close (tie.spec (λ c κs. search needs) returns)

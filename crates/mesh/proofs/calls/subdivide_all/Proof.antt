@@ -10,7 +10,8 @@ use Rattle.table.specs.Order.{inOrderOf}
 use Rattle.table.specs.Slots.{Table}
 use Rattle.table.specs.OrderLaws.{test-order}
 use Rattle.mesh.proofs.calls.subdivide_all.Statement.{statement}
-use Rattle.mesh.specs.Subdivide.{triplesIn, subdivideTriple}
+use Rattle.laws.specs.Triples.{triplesIn}
+use Rattle.mesh.specs.Subdivide.{subdivideTriple}
 use Rattle.mesh.specs.CaseLaws.{many-1, Going, going-start, many-parts, triple-refused, going-end, going-stop, going-room, going-more}
 use Rattle.mesh.proofs.calls.subdivide_all.Tie as tie
 

@@ -12,7 +12,8 @@ use lib.Signed.{ltZ, nonNeg}
 use Rattle.laws.specs.Sizes.{fits}
 use Rattle.laws.specs.Linear.{same}
 use Rattle.mesh.proofs.calls.subdivide_triple.Statement.{statement}
-use Rattle.mesh.specs.CaseLaws.{triple-3, triple-one, below-byte, above-byte, Byte, within-byte}
+use Rattle.laws.specs.Triples.{below-byte, above-byte, Byte, within-byte}
+use Rattle.mesh.specs.CaseLaws.{triple-3, triple-one}
 use Rattle.mesh.specs.CallLaws.{outcome-parts}
 use Rattle.mesh.specs.Subdivide.{subdivideOf}
 use Rattle.mesh.proofs.calls.subdivide_triple.Tie as tie

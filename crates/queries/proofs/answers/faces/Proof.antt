@@ -1,66 +1,21 @@
--- `queries::faces` meets its promise: by the vertex that was found. Assumes nothing.
-use mathlib.Core.Path.{_≡_, ap, _∙_}
-use mathlib.Core.List.{List}
-use Prim.Native.Nat.{ℕ}
+-- `queries::faces` meets its promise: the query's own. Assumes nothing.
+use mathlib.Core.Path.{sym}
 use borrow.Author.Needs.{needs}
 use Rattle.laws.specs.Machine.{asked₂}
-use Rattle.queries.specs.Queries.{facesAt, facesOf}
-use Rattle.queries.specs.Vertices.{vertexOf, answerOf, Asked}
-use Rattle.queries.specs.Opposites.{facesIf}
-use Rattle.queries.specs.QueryLaws.{vertex-asked, asked-inner, faces-vertex}
-use Rattle.queries.specs.declared.vertices.Vertex.{Vertex}
-use Rattle.queries.specs.declared.vertices.Vertex.the-variants.{Refused, Star}
+use Rattle.queries.specs.Queries.{facesAt, queryOf, facesOf}
+use Rattle.lattice.specs.AnswerRows.{answerNumbers}
 use Rattle.queries.proofs.answers.faces.Statement.{statement}
 use Rattle.queries.proofs.answers.faces.Tie as tie
 
--- what was found, and what follows it
-module _ (c : tie.After-found) where
-  abbrev start : tie.Start
-  start = c .before .before
-
-  abbrev t : List ℕ
-  t = start .args .table .now
-
-  vertex : (w : Vertex) → c .found .result ≡ w → vertexOf t (start .args .a) (start .args .b) (start .args .m) ≡ w
-  vertex w e = asked₂ (λ x y. vertexOf t x y (start .args .m)) (start .fits .a) (start .fits .b) (c .found .ensures) ∙ e
-
-  follows : (w : Vertex) → c .found .result ≡ w → answerOf (facesAt t) w ≡ facesOf t (start .args .a) (start .args .b) (start .args .m)
-  follows w e = faces-vertex t (start .args .a) (start .args .b) (start .args .m) w (vertex w e)
-
--- what is known of a vertex that has a star
-asked-there : (c : tie.After-slots-of) → Asked (t (c .before .before .before .before)) (c .slots-of .result) (c .before .before .v .given .0 .0)
-asked-there c =
-    let k = c .before .before in
-    vertex-asked _ _ _ _ (k .v .given .0 .0) (vertex (k .before .before) (Star (k .v .given .0 .0)) (k .v .given .1)) _ (c .slots-of .ensures)
-
-adjacents-there-requires : tie.Need-adjacents-there-requires
-adjacents-there-requires c κs = let z = asked-there c in (z .table, asked-inner z)
-
-faces-of-requires : tie.Need-faces-of-requires
-faces-of-requires c κs = asked-there (c .before)
-
 returns : tie.Need-returns
+unfolding facesOf
 returns c =
-    let k = c .before .before in
-    c .refuse .ensures ∙ follows (k .before .before) (Refused (k .number .given .0 .0)) (k .number .given .1)
-
-returns-2 : tie.Need-returns-2
-returns-2 c =
-    let h = c .before in
-    let k = h .before .before .before in
-    c .faces-of .ensures ∙ ap (facesIf (k .before .before .before .before .args .table .now) (k .v .given .0 .0)) (h .adjacents-there .ensures)
-    ∙ follows (k .before .before) (Star (k .v .given .0 .0)) (k .v .given .1)
+    let s = c .before .before .before in
+    let a = s .args in
+    let t = a .table .now in (
+      sym (asked₂ (λ x y. queryOf (facesAt t) t x y (a .m) .number) (s .fits .a) (s .fits .b) (c .answer .ensures .0)),
+      sym (asked₂ (λ x y. answerNumbers (queryOf (facesAt t) t x y (a .m))) (s .fits .a) (s .fits .b) (c .answer .ensures .1)),
+    )
 
 pub faces-spec : {M : Type 1} → statement M
-faces-spec =
-    tie.close
-    (tie.spec
-    (λ c κs. search needs)
-    (λ c. search needs)
-    (λ c κs. search needs)
-    (λ c. search needs)
-    (λ c κs. search needs)
-    adjacents-there-requires
-    faces-of-requires
-    returns
-    returns-2)
+faces-spec = tie.close (tie.spec (λ c κs. search needs) returns)

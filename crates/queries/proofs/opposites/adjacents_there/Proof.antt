@@ -1,6 +1,6 @@
 -- `queries::adjacents_there` meets its promise. The invariant: the adjacent points so far are there. Assumes nothing.
 use mathlib.Core.Path.{_≡_, ap, sym, _∙_}
-use mathlib.Core.Bool.{Bool, true}
+use mathlib.Core.Bool.{Bool, true, false}
 use mathlib.Core.List.{List}
 use Prim.Native.Nat.{ℕ, _≤_, _-_}
 use native.Mathlib.Omega.{arith}
@@ -19,26 +19,38 @@ abbrev at : List ℕ → Record → ℕ → Bool
 at t v j = holds t (adjacentAt v j)
 
 abbrev Inv-loop : tie.InvT-loop
-Inv-loop t v n d j₀ j = (j ≤ v .d) × (upto j (at t v) ≡ true)
+Inv-loop t row v n d j₀ j = (j ≤ v .d) × (upto j (at t v) ≡ true)
 
 abbrev μ-loop : tie.MeasureT-loop
-μ-loop t v n d j₀ j = v .d - j
+μ-loop t row v n d j₀ j = v .d - j
+
+point-at-requires : tie.Need-point-at-requires Inv-loop μ-loop
+point-at-requires c κs = let s = c .before .before .before in (s .pre .1 .1, (s .pre .1 .0, omega (arith, c .loop-test .taken)))
+
+abbrev start : tie.After-is-there Inv-loop μ-loop → tie.Start Inv-loop μ-loop
+start c = c .before .before .before .before .before
+
+abbrev place : tie.After-is-there Inv-loop μ-loop → ℕ
+place c = c .before .before .before .loop .j
+
+-- whether the point at the place that the loop has come to is there
+at-place : (c : tie.After-is-there Inv-loop μ-loop) (b : Bool) → c .is-there .result ≡ b → at (start c .args .t .now) (start c .args .v) (place c) ≡ b
+at-place c b e = ap (holds (start c .args .t .now)) (sym (c .before .point-at .ensures)) ∙ sym (c .is-there .ensures) ∙ e
 
 loop-again : tie.Need-loop-again Inv-loop μ-loop
 loop-again c =
     let p = c .before in
-    let l = p .before .before in
+    let l = p .before .before .before in
     let a = l .before .before .args in
-    (search needs, upto-more (at (a .t .now) (a .v)) (l .loop .j) (l .loop .inv .1) (sym (p .adjacent-there .ensures) ∙ c .if1 .taken))
+    (search needs, upto-more (at (a .t .now) (a .v)) (l .loop .j) (l .loop .inv .1) (at-place p true (c .if1 .taken)))
 
 returns : tie.Need-returns Inv-loop μ-loop
 unfolding adjacentsThere
 returns c =
     let p = c .before in
-    let l = p .before .before in
+    let l = p .before .before .before in
     let a = l .before .before .args in
-    let e = sym (p .adjacent-there .ensures) ∙ c .if1 .left in
-    sym (upto-fails (at (a .t .now) (a .v)) (l .loop .j) (a .v .d) (omega (arith, p .before .loop-test .taken)) e)
+    sym (upto-fails (at (a .t .now) (a .v)) (l .loop .j) (a .v .d) (omega (arith, p .before .before .loop-test .taken)) (at-place p false (c .if1 .left)))
 
 returns-2 : tie.Need-returns-2 Inv-loop μ-loop
 unfolding adjacentsThere
@@ -55,6 +67,7 @@ adjacents-there-spec =
     Inv-loop
     μ-loop
     (λ c. search needs)
+    point-at-requires
     (λ c κs. search needs)
     (λ c. search needs)
     (λ c. search needs)

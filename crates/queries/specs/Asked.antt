@@ -1,0 +1,29 @@
+-- What the functions below the queries promise: `answerAt` what a vertex that has a star is answered, by what is asked · `Asked` what is known of
+-- the vertex and its table · `whenTrue` what holds where a function gave true.
+-- Assumes nothing.
+use mathlib.Core.Path.{_≡_}
+use mathlib.Core.Bool.{Bool, true, false}
+use mathlib.Core.List.{List}
+use Prim.{Unit}
+use Prim.Native.Nat.{ℕ}
+use Rattle.lattice.specs.Records.{validOf}
+use Rattle.lattice.specs.declared.records.Record.{Record}
+use Rattle.lattice.specs.declared.stars.Answer.{Answer}
+use Rattle.table.specs.Slots.{Table}
+use Rattle.queries.specs.Queries.{neighboursAt, facesAt}
+use Rattle.queries.specs.declared.answers.Query.{Query}
+use Rattle.queries.specs.declared.answers.Query.the-variants.{Neighbours, Faces}
+
+abbrev pub answerAt : Query → List ℕ → Record → Answer
+answerAt Neighbours t v = neighboursAt t v
+answerAt Faces t v = facesAt t v
+
+-- v has a star, and t is a table of n slots
+pub record Asked (t : List ℕ) (n : ℕ) (v : Record) : Type 0 where
+  pub table : Table t n
+  pub valid : validOf v ≡ true
+  pub inside : v .d ≡ 0 → ⊥
+
+abbrev pub whenTrue : Bool → Type 0 → Type 0
+whenTrue true A = A
+whenTrue false A = Unit {0}

@@ -1,0 +1,58 @@
+//! `census` and `check`: a plan counted, and what kind of file it is.
+
+use crate::files;
+use crate::plan::{Kind, Plan};
+use crate::trouble::{told, Outcome};
+use crate::words::{Command, Words};
+
+pub const CENSUS: Command = Command {
+    name: "census",
+    usage: "PLAN [-o FILE]",
+    about: "count a plan: vertices, edges, faces, vertices by degree",
+    help: "\
+PLAN is a full or a reduced file, '-' standard input. Two lines, tabs between: V E F d0 d3 d4 d5 d6, and the numbers. V counts the vertices
+(those that a reduced file leaves out too), E the edges, F the faces; then vertices by degree, 0 at the rim.
+
+example:
+  bladeplan census plan.full
+",
+    flags: &[],
+    valued: &["--output"],
+    takes: 1..=1,
+    run: census,
+};
+
+pub const CHECK: Command = Command {
+    name: "check",
+    usage: "PLAN [-o FILE]",
+    about: "say whether a file is a full file, a reduced file or neither, and why",
+    help: "\
+PLAN is any file, '-' standard input. Of a plan: its kind, why it is not of the other, and how many vertices, edges and faces it has. A file
+that is no plan gets one line on standard error, and the status is the number of the refusal.
+
+example:
+  bladeplan check plan.reduced && echo good
+",
+    flags: &[],
+    valued: &["--output"],
+    takes: 1..=1,
+    run: check,
+};
+
+fn census(words: &Words) -> Outcome<()> {
+    let counts = Plan::load(&words.plain[0])?.counts()?;
+    files::write(words.output(), counts.text().as_bytes())
+}
+
+fn check(words: &Words) -> Outcome<()> {
+    let plan = Plan::load(&words.plain[0])?;
+    let counts = plan.counts()?;
+    let kind = match plan.kind {
+        Kind::Full(reduced) => format!("a full file\nas a reduced file it is {}", told(reduced)),
+        Kind::Reduced(full) => format!("a reduced file\nas a full file it is {}", told(full)),
+        Kind::Both => "a full file, and a reduced one as well: no vertex can be left out of it".to_string(),
+    };
+    let (lines, [v, e, f]) = (plan.lines, [counts.vertices, counts.edges, counts.faces]);
+    let text = format!("{} is {kind}\n{lines} lines: {v} vertices, {e} edges, {f} faces\n", plan.name);
+    files::write(words.output(), text.as_bytes())
+}

@@ -1,0 +1,29 @@
+//! The subcommands, in the order of the work.
+
+mod compare;
+mod convert;
+mod count;
+mod example;
+mod lattice;
+mod lay;
+mod queries;
+mod subdivide;
+
+use crate::draw;
+use crate::words::Command;
+
+pub const ALL: &[&Command] = &[
+    &lay::COMMAND,
+    &subdivide::COMMAND,
+    &queries::NEIGHBOURS,
+    &queries::FACES,
+    &lattice::NORMALISE,
+    &lattice::STAR,
+    &convert::REDUCE,
+    &convert::RESTORE,
+    &count::CENSUS,
+    &count::CHECK,
+    &compare::COMMAND,
+    &draw::COMMAND,
+    &example::COMMAND,
+];

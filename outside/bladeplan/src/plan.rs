@@ -1,0 +1,163 @@
+//! A plan loaded: the table that a reader or a base gave, and its records in file order; all neighbours, all faces, the counts.
+
+use crate::counts::Counts;
+use crate::files;
+use crate::place::Place;
+use crate::sizes;
+use crate::trouble::{Outcome, Trouble};
+use flaskbloom::{normalise, Point, Record, Refusal, RefusedAt, Table};
+use std::ffi::OsStr;
+
+/// The longest line that a reader passes.
+const LONGEST_LINE: u64 = 26;
+/// The bytes that settle what a reader says of a file: line 65,537 finds no slot, whatever follows. So a reader given these first bytes of
+/// a longer file answers as for the whole.
+const LIMIT: u64 = (sizes::LARGEST as u64 + 1) * LONGEST_LINE;
+
+/// How many vertices a subdivision enters.
+const NEW_VERTICES: usize = 6;
+
+/// Which reader accepts the file, and what the other one says of it. Both accept it where nothing can be left out; then both give the
+/// same mesh (docs/DECISIONS.md says why).
+#[derive(Clone, Copy, PartialEq, Eq, Debug)]
+pub enum Kind {
+    /// A full file; the reduced reader's refusal.
+    Full(Refusal),
+    /// A reduced file; the full reader's refusal.
+    Reduced(Refusal),
+    Both,
+}
+
+/// A face: its four corners, counter-clockwise.
+pub type Face = [Point; 4];
+
+pub struct Plan {
+    /// The file's name, for messages and titles.
+    pub name: String,
+    pub kind: Kind,
+    /// The lines of the file it came from.
+    pub lines: usize,
+    pub table: Table,
+    records: Vec<Record>,
+}
+
+impl Plan {
+    /// The plan of a file, full or reduced; `-` is standard input.
+    pub fn load(path: &OsStr) -> Outcome<Plan> {
+        Plan::read(&files::shown(path), &files::read(path, LIMIT)?)
+    }
+
+    /// The plan of these bytes; where both readers refuse them, both refusals.
+    pub fn read(name: &str, file: &[u8]) -> Outcome<Plan> {
+        let lines = file.iter().filter(|byte| **byte == b'\n').count();
+        let full = sizes::growing(lines, |slots| Table::read_full(slots, file));
+        let reduced = sizes::growing(lines, |slots| Table::read_reduced(slots, file));
+        let (table, kind) = match (full, reduced) {
+            (Ok(table), Ok(_)) => (table, Kind::Both),
+            (Ok(table), Err(refused)) => (table, Kind::Full(refused.refusal)),
+            (Err(refused), Ok(table)) => (table, Kind::Reduced(refused.refusal)),
+            (Err(full), Err(reduced)) => return Err(Trouble::NoPlan { name: name.to_string(), full, reduced }),
+        };
+        let mut records: Vec<Record> = table.records().collect();
+        records.sort_unstable_by_key(|r| order(r.point));
+        Ok(Plan { name: name.to_string(), kind, lines, table, records })
+    }
+
+    /// Every vertex, in file order: by m, then a, then b.
+    pub fn records(&self) -> &[Record] {
+        &self.records
+    }
+
+    /// The place in file order of the vertex at a point, spelled in any way.
+    pub fn place(&self, p: Point) -> Option<usize> {
+        self.records.binary_search_by_key(&order(normalise(p)), |r| order(r.point)).ok()
+    }
+
+    /// The vertex at a point, spelled in any way.
+    pub fn vertex(&self, p: Point) -> Option<Record> {
+        self.place(p).map(|at| self.records[at])
+    }
+
+    /// The neighbours of every vertex, in file order, each in star order; none at the rim.
+    pub fn neighbours_all(&self) -> Outcome<Vec<Vec<Point>>> {
+        let answers = self.table.neighbours_all(&self.points()).map_err(|refusal| self.refused(refusal))?;
+        self.answered(answers.into_iter().map(|answer| answer.map(|list| list.to_vec())))
+    }
+
+    /// The faces round every vertex, in file order, each counter-clockwise from it; none at the rim. A face stands at each of its inner
+    /// corners: `faces` has it once.
+    pub fn faces_all(&self) -> Outcome<Vec<Vec<Face>>> {
+        let answers = self.table.faces_all(&self.points()).map_err(|refusal| self.refused(refusal))?;
+        self.answered(answers.into_iter())
+    }
+
+    /// Every face once, from the first vertex in file order that has it.
+    pub fn faces(&self) -> Outcome<Vec<Face>> {
+        let mut named: Vec<([(u8, i32, i32); 4], Face)> = Vec::new();
+        for face in self.faces_all()?.into_iter().flatten() {
+            named.push((from_least(face), face));
+        }
+        named.sort_by_key(|(name, _)| *name); // stable: of equal names the first stays
+        named.dedup_by_key(|(name, _)| *name);
+        Ok(named.into_iter().map(|(_, face)| face).collect())
+    }
+
+    /// The full file of this plan subdivided at these points in turn, in a table with room for it; refused, how many were made.
+    pub fn subdivided(&self, points: &[Point]) -> Outcome<Result<Vec<u8>, RefusedAt>> {
+        let file = self.full()?;
+        let most = self.records.len().saturating_add(points.len().saturating_mul(NEW_VERTICES));
+        let table = sizes::growing(most, |slots| {
+            let mut table = Table::read_full(slots, &file)?;
+            table.subdivide_all(points).map(|()| table)
+        });
+        Ok(match table {
+            Ok(table) => Ok(table.write_full().map_err(|refusal| self.refused(refusal))?),
+            Err(refused) => Err(refused),
+        })
+    }
+
+    /// V, E, F and the vertices by degree.
+    pub fn counts(&self) -> Outcome<Counts> {
+        Counts::of(self)
+    }
+
+    /// The full file.
+    pub fn full(&self) -> Outcome<Vec<u8>> {
+        self.table.write_full().map_err(|refusal| self.refused(refusal))
+    }
+
+    /// The reduced file.
+    pub fn reduced(&self) -> Outcome<Vec<u8>> {
+        self.table.write_reduced().map_err(|refusal| self.refused(refusal))
+    }
+
+    fn refused(&self, refusal: Refusal) -> Trouble {
+        Trouble::refused(Place::File(self.name.clone()), refusal)
+    }
+
+    fn points(&self) -> Vec<Point> {
+        self.records.iter().map(|r| r.point).collect()
+    }
+
+    /// The answers for all vertices; one at the rim, which has no star, has nothing round it.
+    fn answered<T>(&self, answers: impl Iterator<Item = Result<Vec<T>, Refusal>>) -> Outcome<Vec<Vec<T>>> {
+        let one = |(r, answer): (&Record, Result<Vec<T>, Refusal>)| match answer {
+            Err(Refusal::DegreeZero) => Ok(Vec::new()),
+            answer => answer.map_err(|refusal| Trouble::refused(Place::Point(self.name.clone(), r.point), refusal)),
+        };
+        self.records.iter().zip(answers).map(one).collect()
+    }
+}
+
+/// Where a point stands in a file.
+pub fn order(p: Point) -> (u8, i32, i32) {
+    (p.m, p.a, p.b)
+}
+
+/// A face's name: its corners in file order's terms, from the least one round.
+fn from_least(face: Face) -> [(u8, i32, i32); 4] {
+    let mut name = face.map(order);
+    let least = (0..4).min_by_key(|at| name[*at]).unwrap_or(0);
+    name.rotate_left(least);
+    name
+}
