@@ -16,10 +16,4 @@ returns-2 c = let h = c .before in ap recordIn (sym (h .r .given .1) ∙ h .befo
 pub record-keyed-spec : {M : Type 1} → statement M
 record-keyed-spec =
     tie.close
-    (tie.spec
-    (λ c κs. search needs)
-    (λ c. search needs)
-    (λ c. search needs)
-    (λ c κs. search needs)
-    returns
-    returns-2)
+    (tie.spec (λ c κs. search needs) (λ c. search needs) (λ c κs. search needs) (λ c. search needs) returns returns-2)
