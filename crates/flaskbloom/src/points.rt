@@ -50,7 +50,7 @@ pub extern "C" fn fb_star(
     ensures { λ r. ⌜ r ≡ starOf (recordOf a b m d k n) .number ⌝ }
     ensures { λ r. ⌜ now (points .exit) ≡ answerNumbers (starOf (recordOf a b m d k n)) ⌝ }
 {
-    lattice::star_row(points, record_of(a, b, m, d, k, n))
+    lattice::star(points, record_of(a, b, m, d, k, n))
 }
 
 // The adjacent points of the vertex at [a, b, m], or 1, 3, 14, 7.

@@ -45,7 +45,7 @@ sheet-absent Absent e = refl
 sheet-absent (Held q) e = absurd (let z : _≡_ {A = ℕ} 0 1 = cc in omega arith)
 
 -- ---- a table's subdivision as the model's
-module _ (t : List ℕ) (v : Record) (w : table.Whole t v) where
+module _ (t : List ℕ) (v : Record) (w : table.Intact t v) where
   whole-sheet : UntornAt (sheetOf t) v
   whole-sheet =
       record {

@@ -1,10 +1,10 @@
--- Document 01, "Records". What the promises cite: `validOf`.
+-- Document 01, "Records". What the promises cite: `validOf`; `nobody` the record of no vertex.
 -- Assumes nothing.
 use mathlib.Core.Bool.{Bool, cond, _&&_}
 use Prim.Native.Nat.{ℕ, _*_, _%_, _^_}
 use lib.Dec.{eqb, ltb, leb}
-use lib.IntN.{ℤ, natAbs}
-use Rattle.lattice.specs.Points.{normalAt}
+use lib.IntN.{ℤ, pos, natAbs}
+use Rattle.lattice.specs.Points.{pt, normalAt}
 use Rattle.lattice.specs.declared.records.Record.{Record}
 
 -- "|a| and |b| are at most 251 × 3^m"
@@ -29,3 +29,7 @@ validAt a b m d k n = normalAt a b m && (leb m 6 && (within a m && (within b m &
 
 abbrev pub validOf : Record → Bool
 validOf r = validAt (r .at .a) (r .at .b) (r .at .m .0) (r .d) (r .k) (r .n .0)
+
+-- what stands for a record where there is none: all zeros
+abbrev pub nobody : Record
+nobody = record { at = pt (pos 0) (pos 0) 0; d = 0; k = 0; n = record { 0 = 0 } }

@@ -4,7 +4,8 @@ ghost use mathlib.Core.Bool.{_&&_};
 ghost use Prim.Native.Nat.{_*_, _^_, _≤_};
 ghost use lib.IntN.{natAbs};
 ghost use Rattle.lattice.specs.Points.{normalAt};
-ghost use Rattle.lattice.specs.Records.{within, orientationsOf, suitsOf, validAt, validOf};
+ghost use Rattle.lattice.specs.Records.{within, orientationsOf, suitsOf, validAt, validOf, nobody};
+use crate::points::Depth;
 use crate::points::Point;
 use crate::points::both3;
 
@@ -19,19 +20,35 @@ pub struct Record {
     pub n: Level,
 }
 
+// What stands for a record where there is none: all zeros.
+pub fn blank() -> Record
+    ensures { λ r. ⌜ r ≡ nobody ⌝ }
+{
+    Record {
+        at: Point {
+            a: 0,
+            b: 0,
+            m: Depth(0),
+        },
+        d: 0,
+        k: 0,
+        n: Level(0),
+    }
+}
+
 // The size of a number, without its sign: i64 holds that of the least i32 too.
-fn size(x: i32) -> u64
+pub fn size(x: i32) -> u32
     ensures { λ r. ⌜ r ≡ natAbs x ⌝ }
 {
     let w = x as i64;
-    if w < 0 { (-w) as u64 } else { w as u64 }
+    if w < 0 { (-w) as u32 } else { w as u32 }
 }
 
 // The most that a numerator may be, at each depth: 251 times a power of 3.
-const RANGE: [u64; 7] = [251, 753, 2259, 6777, 20331, 60993, 182979];
+const RANGE: [u32; 7] = [251, 753, 2259, 6777, 20331, 60993, 182979];
 
 // The range at depth m. Read at fixed indices, as the star patterns are.
-fn range(m: u8) -> u64
+fn range(m: u8) -> u32
     requires { ⌜ m ≤ 6 ⌝ }
     ensures { λ r. ⌜ r ≡ 251 * 3 ^ m ⌝ }
 {

@@ -3,7 +3,7 @@ ghost use mathlib.Core.Path.{_≡_};
 ghost use Prim.Native.Nat.{_+_, _/_, _<_};
 ghost use Rattle.lattice.specs.AnswerRows.{answerNumbers};
 ghost use Rattle.lattice.specs.Points.{pt};
-ghost use Rattle.lattice.specs.Stars.{given, stepOf, adjacentAt, firstAt, secondAt, cellOf, refused, starOf};
+ghost use Rattle.lattice.specs.Stars.{given, stepOf, adjacentAt, firstAt, secondAt, starOf};
 ghost use Rattle.lattice.specs.Bounds.{Small, Near};
 ghost use Rattle.lattice.specs.RecordLaws.{Inner};
 use crate::numbers::BOUNDARY;
@@ -114,66 +114,9 @@ pub fn ring(out: &mut [i32; ANSWER_NUMBERS], v: Record)
     }
 }
 
-// Place j of the answer: the adjacent point, or [0, 0, 0] past the last.
-fn cell(r: Record, j: u8) -> Point
-    requires { ⌜ Inner r ⌝ }
-    ensures { λ p. ⌜ p ≡ cellOf r j ⌝ }
-{
-    let d = r.d;
-    if j < d {
-        adjacent_of(r, j)
-    } else {
-        Point {
-            a: 0,
-            b: 0,
-            m: Depth(0),
-        }
-    }
-}
-
-// A refusal: count 0 and all zeros.
-pub fn refuse(number: u8) -> Answer
-    ensures { λ s. ⌜ s ≡ refused number ⌝ }
-{
-    let p = Point {
-        a: 0,
-        b: 0,
-        m: Depth(0),
-    };
-    Answer {
-        number,
-        count: 0,
-        points: [p, p, p, p, p, p],
-    }
-}
-
-// The star of any six fields: 9 where they are no valid record, 14 where the degree is 0, else the adjacent points in star order.
-pub fn star(r: Record) -> Answer
-    ensures { λ s. ⌜ s ≡ starOf r ⌝ }
-{
-    if !valid(r) {
-        return refuse(9);
-    }
-    let d = r.d;
-    if d == 0 {
-        return refuse(14);
-    }
-    Answer {
-        number: 0,
-        count: d,
-        points: [
-            cell(r, 0),
-            cell(r, 1),
-            cell(r, 2),
-            cell(r, 3),
-            cell(r, 4),
-            cell(r, 5),
-        ],
-    }
-}
-
-// The same in a lent row: the number is given back, the count and the points are put into the row.
-pub fn star_row(out: &mut [i32; ANSWER_NUMBERS], r: Record) -> u8
+// The star of any six fields, in a lent row: 9 where they are no valid record, 14 where the degree is 0, else the adjacent points in star order.
+// The number is given back; refused, the row is all zeros.
+pub fn star(out: &mut [i32; ANSWER_NUMBERS], r: Record) -> u8
     ensures { λ s. ⌜ s ≡ starOf r .number ⌝ }
     ensures { λ _. ⌜ now (out .exit) ≡ answerNumbers (starOf r) ⌝ }
 {

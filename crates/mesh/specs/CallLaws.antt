@@ -29,7 +29,7 @@ use Rattle.table.specs.Slots.{freeSlots}
 use Rattle.lattice.specs.declared.records.Record.{Record}
 use Rattle.table.specs.declared.entries.Looked.{Looked}
 use Rattle.table.specs.declared.entries.Looked.the-variants.{Absent, Held}
-use Rattle.mesh.specs.SubdivideLaws.{Ready, Whole, old}
+use Rattle.mesh.specs.SubdivideLaws.{Ready, Intact, old}
 use Rattle.mesh.specs.WriteLaws.{Standing}
 use Rattle.mesh.specs.Subdivide.{adjacentFits, newFits, torn, tooDeep, subdivided, Outcome, outcome, subdivideVertex, subdivideLooked}
 use Rattle.mesh.specs.Subdivide.{subdivideOf, renewedTo, enteredTo}
@@ -52,7 +52,7 @@ module _ (t : List ℕ) (v : Record) where
   absent-looked (Held r) h = absurd (not-both h refl)
 
   -- past 7 and 8
-  pub ready-whole : Ready t v → upto 6 (adjacentFits t v) ≡ true → upto 6 (newFits t v) ≡ true → 6 ≤ freeSlots t → Whole t v
+  pub ready-whole : Ready t v → upto 6 (adjacentFits t v) ≡ true → upto 6 (newFits t v) ≡ true → 6 ≤ freeSlots t → Intact t v
   ready-whole r a n f =
       record {
         ready = r;

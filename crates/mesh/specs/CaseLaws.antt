@@ -25,7 +25,7 @@ use Rattle.lattice.specs.declared.records.Record.{Record}
 use Rattle.table.specs.declared.entries.Looked.{Looked}
 use Rattle.table.specs.declared.entries.Looked.the-variants.{Absent, Held}
 use Rattle.table.specs.SlotLaws.{table-same}
-use Rattle.mesh.specs.SubdivideLaws.{Ready, Whole, subdivided-order, subdivided-free}
+use Rattle.mesh.specs.SubdivideLaws.{Ready, Intact, subdivided-order, subdivided-free}
 use Rattle.mesh.specs.WriteLaws.{subdivided-length}
 use Rattle.mesh.specs.CallLaws.{standing-ready, ready-whole, vertex-4, vertex-5, vertex-6, vertex-7-old, vertex-7-new, vertex-8, vertex-0}
 use Rattle.mesh.specs.CallLaws.{call-1, call-3, call-vertex, call-standing}
@@ -37,7 +37,7 @@ pub data Subdivision (t : List ℕ) (a b : ℤ) (m : ℕ) : Type 0 where
   -- some other number than 0, and the table as it was
   refused : (x : ℕ) → (x ≡ 0 → ⊥) → outcome x t ≡ subdivideOf t a b m → Subdivision t a b m
   -- 0, of a table in order and a vertex in it, which is whole
-  made : (v : Record) → inOrderOf t ≡ true → lookUp t (normalOf a b m) ≡ Held v → Whole t v → outcome 0 (subdivided t v) ≡ subdivideOf t a b m
+  made : (v : Record) → inOrderOf t ≡ true → lookUp t (normalOf a b m) ≡ Held v → Intact t v → outcome 0 (subdivided t v) ≡ subdivideOf t a b m
       → Subdivision t a b m
 
 module _ (t : List ℕ) (a b : ℤ) (m : ℕ) where
@@ -79,7 +79,7 @@ module _ (t : List ℕ) (a b : ℤ) (m : ℕ) where
 -- ---- a triple of a list
 pub data Triple (t : List ℕ) (ps : List ℤ) (i : ℕ) : Type 0 where
   refused : (x : ℕ) → (x ≡ 0 → ⊥) → outcome x t ≡ subdivideTriple t ps i → Triple t ps i
-  made : (v : Record) → Whole t v → outcome 0 (subdivided t v) ≡ subdivideTriple t ps i → Triple t ps i
+  made : (v : Record) → Intact t v → outcome 0 (subdivided t v) ≡ subdivideTriple t ps i → Triple t ps i
 
 module _ (t : List ℕ) (ps : List ℤ) (i : ℕ) where
   abbrev A : ℤ

@@ -2,7 +2,7 @@
 -- The argument goes write by write. v's record is replaced; then each old adjacent vertex's, in turn: they are different points, and none is v, since
 -- v's own degree has no rule; so each is still as it was when its turn comes, and its rule makes a valid record. Then the new ones enter: they were
 -- absent, they are different points, and six slots were free.
--- `Ready` a vertex that may be subdivided · `Whole` one whose subdivision is not torn and has room · `subdivided-order`, `subdivided-free` ·
+-- `Ready` a vertex that may be subdivided · `Intact` one whose subdivision is not torn and has room · `subdivided-order`, `subdivided-free` ·
 -- `subdivided-centre`, `subdivided-new`, `subdivided-old`, `subdivided-rest` the records after · `renewed`, `entered` the same after some of the
 -- writes.
 -- Assumes nothing.
@@ -39,7 +39,7 @@ pub record Ready (t : List ℕ) (v : Record) : Type 0 where
   pub six : v .d ≡ 6
   pub below : v .n .0 < 12
 
-pub record Whole (t : List ℕ) (v : Record) : Type 0 where
+pub record Intact (t : List ℕ) (v : Record) : Type 0 where
   pub ready : Ready t v
   pub fits : (j : ℕ) → j < 6 → adjacentFits t v j ≡ true
   pub fresh : (j : ℕ) → j < 6 → lookUp t (newOf v j .at) ≡ Absent
@@ -73,7 +73,7 @@ held-fits : (v : Record) (j : ℕ) (l : Looked) → fitsAt v j l ≡ true → (u
 held-fits v j Absent h = absurd (not-both h refl)
 held-fits v j (Held u) h = (u, refl, h)
 
-module _ (t : List ℕ) (v : Record) (w : Whole t v) where
+module _ (t : List ℕ) (v : Record) (w : Intact t v) where
   abbrev o : InOrder t
   o = w .ready .order
 

@@ -24,7 +24,7 @@ use Rattle.table.specs.declared.slots.Slot.{Slot}
 use Rattle.table.specs.declared.entries.Looked.{Looked}
 use Rattle.table.specs.declared.entries.Looked.the-variants.{Absent, Held}
 use Rattle.table.specs.declared.slots.Slot.the-variants.{Free, Holds}
-use Rattle.mesh.specs.SubdivideLaws.{Ready, Whole, update-at, renewed}
+use Rattle.mesh.specs.SubdivideLaws.{Ready, Intact, update-at, renewed}
 use Rattle.mesh.specs.Subdivide.{renewAt, renewOf, renewedTo, enteredTo, subdivided}
 use Rattle.table.specs.declared.probe.Found.the-variants as found
 
@@ -37,7 +37,7 @@ pub record Renewable (t : List ℕ) (v : Record) : Type 0 where
 pub ready-inner : {t : List ℕ} {v : Record} → Ready t v → Inner v
 ready-inner {t} {v} r = let s = r .six in inner v (of-true (lookup-valid t (r .order) (v .at) v (r .held))) (omega arith)
 
-pub whole-renewable : {t : List ℕ} {v : Record} → Whole t v → Renewable (replaceOf t (centreOf v)) v
+pub whole-renewable : {t : List ℕ} {v : Record} → Intact t v → Renewable (replaceOf t (centreOf v)) v
 whole-renewable {t} {v} w = record { inner = ready-inner (w .ready); six = w .ready .six; order = λ j h. renewed t v w j h .order }
 
 -- a slot whose vertex, if it has one, has a level that can rise

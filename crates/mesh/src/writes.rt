@@ -8,7 +8,7 @@ ghost use Rattle.lattice.specs.Subdivision.{centreOf, bornOf};
 ghost use Rattle.table.specs.Slots.{slotWidth, Table};
 ghost use Rattle.table.specs.Order.{InOrder};
 ghost use Rattle.mesh.specs.Subdivide.{renewOf, renewedTo, enteredTo, subdivided};
-ghost use Rattle.mesh.specs.SubdivideLaws.{Whole};
+ghost use Rattle.mesh.specs.SubdivideLaws.{Intact};
 ghost use Rattle.mesh.specs.WriteLaws.{Renewable, Low, renewSlot};
 ghost use Rattle.mesh.specs.Points.{pointsOf};
 use lattice::Point;
@@ -87,7 +87,7 @@ fn enter_all(t: &mut [u8], c: Record, new: [Point; 6], n: usize)
 
 // The whole subdivision of v.
 pub fn divide(t: &mut [u8], v: Record, old: [Point; 6], new: [Point; 6], n: usize)
-    requires { ⌜ Table (now t) n × (Whole (now t) v × ((old ≡ pointsOf v) × (new ≡ pointsOf (centreOf v)))) ⌝ }
+    requires { ⌜ Table (now t) n × (Intact (now t) v × ((old ≡ pointsOf v) × (new ≡ pointsOf (centreOf v)))) ⌝ }
     ensures { λ _. ⌜ now (t .exit) ≡ subdivided (now (t .entry)) v ⌝ }
 {
     let c = centre(v);

@@ -7,13 +7,12 @@ ghost use Rattle.text.specs.LineOrder.{earlier};
 ghost use Rattle.readers.specs.Readers.{above, readLines};
 ghost use Rattle.readers.specs.LineSteps.{lineBefore, enteredStep, stepAt, tableAfter, EndsAs};
 use lattice::DONE;
-use lattice::Depth;
-use lattice::Level;
 use lattice::NO_ROOM;
 use lattice::NOT_ABOVE;
 use lattice::NOT_VALID;
 use lattice::Point;
 use lattice::Record;
+use lattice::blank;
 use reader::Met;
 use reader::line_at;
 use table::Found;
@@ -88,20 +87,6 @@ fn read_line(table: &mut [u8], n: usize, file: &[u8], at: usize, line: u64, last
     }
 }
 
-// No record's line: what stands before the first.
-fn nothing() -> Record {
-    Record {
-        at: Point {
-            a: 0,
-            b: 0,
-            m: Depth(0),
-        },
-        d: 0,
-        k: 0,
-        n: Level(0),
-    }
-}
-
 // Enters the records of a file, in its order, up to the first fault.
 pub fn read_lines(table: &mut [u8], n: usize, file: &[u8]) -> ReadBack
     requires { ⌜ Table (now table) n ⌝ }
@@ -109,7 +94,7 @@ pub fn read_lines(table: &mut [u8], n: usize, file: &[u8]) -> ReadBack
 {
     let mut at = 0;
     let mut line: u64 = 1;
-    let mut last = nothing();
+    let mut last = blank(); // no line stands before the first
     loop {
         let s = read_line(table, n, file, at, line, last);
         match s {

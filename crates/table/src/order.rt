@@ -42,34 +42,6 @@ fn placed(t: &[u8], i: usize, n: usize) -> bool
     }
 }
 
-// Every slot is placed so.
-fn all_placed(t: &[u8], n: usize) -> bool
-    requires { ⌜ Table (now t) n ⌝ }
-    ensures { λ v. ⌜ v ≡ allPlaced (now (t .entry)) n ⌝ }
-{
-    let mut i = 0;
-    while i < n {
-        if placed(t, i, n) {
-            i += 1;
-        } else {
-            return false;
-        }
-    }
-    true
-}
-
-// Whether any bytes are a table in order. As long as the searches are short this takes a time linear in the slots; records made to
-// share one home make it quadratic.
-pub fn in_order(t: &[u8]) -> bool
-    ensures { λ v. ⌜ v ≡ inOrderOf (now (t .entry)) ⌝ }
-{
-    let n = slots_of(t);
-    if n == 0 {
-        return false;
-    }
-    all_placed(t, n)
-}
-
 // Whether bytes are a table in order, and if so how many slots are free.
 pub struct Ordered {
     pub ok: bool,
@@ -104,4 +76,13 @@ pub fn check_order(t: &[u8]) -> Ordered
         return Ordered { ok: false, free: 0 };
     }
     free_placed(t, n)
+}
+
+// Whether any bytes are a table in order. As long as the searches are short this takes a time linear in the slots; records made to
+// share one home make it quadratic.
+pub fn in_order(t: &[u8]) -> bool
+    ensures { λ v. ⌜ v ≡ inOrderOf (now (t .entry)) ⌝ }
+{
+    let checked = check_order(t);
+    checked.ok
 }

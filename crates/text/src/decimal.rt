@@ -7,6 +7,7 @@ ghost use lib.ListN.{length, drop};
 ghost use Rattle.laws.specs.Stores.{Wrote};
 ghost use Rattle.text.specs.Decimal.{minus, digits, numeral, ended};
 ghost use Rattle.text.specs.Reading.{isDigit, plainly, begins, numberAt, signedAt};
+use lattice::size;
 
 // What stands where a number is looked for: a number and the position past the byte that ends it, or none.
 pub enum Number {
@@ -156,14 +157,6 @@ pub fn number_back(out: &mut [u8], end: usize, n: u32, stop: u8) -> usize
     let last = end - 1;
     out[last] = stop;
     digits_back(out, last, n)
-}
-
-// The size of a number, without its sign: i64 holds that of the least i32 too.
-fn size(z: i32) -> u32
-    ensures { λ r. ⌜ r ≡ natAbs z ⌝ }
-{
-    let w = z as i64;
-    if w < 0 { (-w) as u32 } else { w as u32 }
 }
 
 // The same as `number_back` with a sign.

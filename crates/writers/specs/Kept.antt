@@ -1,5 +1,5 @@
 -- What the code writes of a table, slot by slot: the records that are not marked to be left out, and their keys.
--- `keptAt` what is written of a slot · `keyOf` the key of a record · `standing`, `keysBelow` the records and the keys of the first slots · `recordOf`
+-- `keptAt` what is written of a slot · `keyOf` the key of a record · `standing`, `keysBelow` the records and the keys of the first slots · `recordKeyed`
 -- the record of a key.
 -- Assumes nothing.
 use mathlib.Core.Path.{_≡_}
@@ -7,8 +7,7 @@ use mathlib.Core.Bool.{Bool, cond, _&&_}
 use mathlib.Core.List.{List, [], _∷_, _++_}
 use Prim.Native.Nat.{ℕ, zero, suc, _+_, _*_, _%_}
 use lib.Dec.{eqb}
-use lib.IntN.{pos}
-use Rattle.lattice.specs.Points.{pt}
+use Rattle.lattice.specs.Records.{nobody}
 use Rattle.lattice.specs.declared.records.Record.{Record}
 use Rattle.table.specs.Slots.{slotAt}
 use Rattle.table.specs.Entries.{listed}
@@ -55,15 +54,12 @@ keysBelow f zero = []
 keysBelow f (suc i) = keysBelow f i ++ keyed i (f i)
 
 -- the record of a key: that of its slot
-abbrev pub nobody : Record
-nobody = record { at = pt (pos 0) (pos 0) 0; d = 0; k = 0; n = record { 0 = 0 } }
-
 abbrev pub recordIn : Slot → Record
 recordIn Free = nobody
 recordIn (Holds r) = r
 
-abbrev pub recordOf : List ℕ → ℕ → Record
-recordOf t v = recordIn (slotAt t (v % places))
+abbrev pub recordKeyed : List ℕ → ℕ → Record
+recordKeyed t v = recordIn (slotAt t (v % places))
 
 -- keys vs, at most one, stored from key k on
 abbrev pub Added : List ℕ → ℕ → List ℕ → List ℕ → ℕ → Type 0

@@ -30,7 +30,7 @@ use Rattle.sorting.specs.SortLaws.{sort-map}
 use Rattle.sorting.specs.Tally.{nth}
 use Rattle.sorting.specs.Keys.{Put}
 use Rattle.writers.specs.Files.{before, sorted}
-use Rattle.writers.specs.Kept.{places, keyOf, keptOf, keptAt, standing, keyed, keysBelow, recordIn, recordOf, Added}
+use Rattle.writers.specs.Kept.{places, keyOf, keptOf, keptAt, standing, keyed, keysBelow, recordIn, recordKeyed, Added}
 
 -- ---- slot by slot
 
@@ -98,7 +98,7 @@ module _ (t : List ℕ) (o : InOrder t) (f : ℕ → Slot) (part : (i : ℕ) (r 
   few : (i : ℕ) → i < slotsOf t → i < places
   few i h = omega (arith, o .fits .most)
 
-  come-record : (v : ℕ) (c : Comes f (slotsOf t) v) → recordOf t v ≡ c .rec
+  come-record : (v : ℕ) (c : Comes f (slotsOf t) v) → recordKeyed t v ≡ c .rec
   come-record v c =
       ap (λ (x : ℕ). recordIn (slotAt t (x % places))) (c .is)
       ∙ ap (λ (i : ℕ). recordIn (slotAt t i)) (key-slot (c .rec) (c .slot) (few (c .slot) (c .below)))
@@ -111,13 +111,13 @@ module _ (t : List ℕ) (o : InOrder t) (f : ℕ → Slot) (part : (i : ℕ) (r 
       let e : v % places ≡ c .slot = ap (λ (x : ℕ). x % places) (c .is) ∙ key-slot (c .rec) (c .slot) (few (c .slot) (c .below)) in
       omega (arith, c .below, o .fits .long)
 
-  pub keys-map : (k : ℕ) → k ≤ slotsOf t → map (recordOf t) (keysBelow f k) ≡ standing f k
+  pub keys-map : (k : ℕ) → k ≤ slotsOf t → map (recordKeyed t) (keysBelow f k) ≡ standing f k
   unfolding keysBelow standing
   keys-map zero h = refl
   keys-map (suc k) h =
-      map-append (recordOf t) (keysBelow f k) (keyed k (f k)) ∙ (λ i. keys-map k (omega arith) i ++ one (f k) refl i)
+      map-append (recordKeyed t) (keysBelow f k) (keyed k (f k)) ∙ (λ i. keys-map k (omega arith) i ++ one (f k) refl i)
     where
-      one : (s : Slot) → f k ≡ s → map (recordOf t) (keyed k s) ≡ listed s
+      one : (s : Slot) → f k ≡ s → map (recordKeyed t) (keyed k s) ≡ listed s
       one Free e = refl
       one (Holds r) e = λ i. (ap (λ (x : ℕ). recordIn (slotAt t x)) (key-slot r k (few k (omega arith))) ∙ ap recordIn (part k r e)) i ∷ []
 
@@ -136,7 +136,7 @@ module _ (t : List ℕ) (o : InOrder t) (f : ℕ → Slot) (part : (i : ℕ) (r 
           let q = one e in
           le-ltb (orderOf (r .at) * places + i) (orderOf (s .at) * places + j) (omega arith) ∙ sym (le-ltb (orderOf (r .at)) (orderOf (s .at)) (omega arith))
 
-  keys-order : (v w : ℕ) → List·Memᴰ v (keysBelow f (slotsOf t)) → List·Memᴰ w (keysBelow f (slotsOf t)) → ltb v w ≡ before (recordOf t v) (recordOf t w)
+  keys-order : (v w : ℕ) → List·Memᴰ v (keysBelow f (slotsOf t)) → List·Memᴰ w (keysBelow f (slotsOf t)) → ltb v w ≡ before (recordKeyed t v) (recordKeyed t w)
   keys-order v w m n =
       let c = keys-come f (slotsOf t) v m in
       let d = keys-come f (slotsOf t) w n in
@@ -151,8 +151,8 @@ module _ (t : List ℕ) (o : InOrder t) (f : ℕ → Slot) (part : (i : ℕ) (r 
       ∙ sym (λ i. before (come-record v c i) (come-record w d i))
 
   -- the records of the sorted keys are the records in file order
-  pub keys-sorted : map (recordOf t) (sortBy ltb (keysBelow f (slotsOf t))) ≡ sorted (standing f (slotsOf t))
-  keys-sorted = sort-map ltb before (recordOf t) (keysBelow f (slotsOf t)) keys-order ∙ ap sorted (keys-map (slotsOf t) (omega arith))
+  pub keys-sorted : map (recordKeyed t) (sortBy ltb (keysBelow f (slotsOf t))) ≡ sorted (standing f (slotsOf t))
+  keys-sorted = sort-map ltb before (recordKeyed t) (keysBelow f (slotsOf t)) keys-order ∙ ap sorted (keys-map (slotsOf t) (omega arith))
 
 -- ---- as many bytes in any order
 

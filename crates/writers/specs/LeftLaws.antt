@@ -24,7 +24,7 @@ use Rattle.sorting.specs.Tally.{nth}
 use Rattle.sorting.specs.Keys.{key-before}
 use Rattle.sorting.specs.KeyLaws.{firsts-length, firsts-at}
 use Rattle.writers.specs.Files.{before, sorted, outcome, putOf}
-use Rattle.writers.specs.Kept.{places, keptAt, standing, keysBelow, recordOf}
+use Rattle.writers.specs.Kept.{places, keptAt, standing, keysBelow, recordKeyed}
 use Rattle.writers.specs.KeptLaws.{keys-sorted, keys-inside, keys-length, lines-sorted, kept-part, Filled}
 
 -- the file of the records that are not marked
@@ -44,7 +44,7 @@ pub record Ready (t m o : List ℕ) (k total : ℕ) : Type 0 where
   pub room : total ≤ length o
 
 abbrev pub linesOf : List ℕ → List ℕ → List ℕ
-linesOf t K = lines (map (recordOf t) K)
+linesOf t K = lines (map (recordKeyed t) K)
 
 -- of the keys K, in their order, the first k are left; the lines of the others stand at `at`, and the bytes `rest` past them
 pub record Left (t K rest o : List ℕ) (k at : ℕ) : Type 0 where
@@ -88,14 +88,14 @@ module _ (t K rest o : List ℕ) (k at : ℕ) (l : Left t K rest o (k + 1) at) w
   left-top = l .keys k (omega arith)
 
   abbrev top : Record
-  top = recordOf t (nth K k)
+  top = recordKeyed t (nth K k)
 
   split : linesOf t (take (k + 1) K) ≡ linesOf t (take k K) ++ (lineOf top ++ [])
   unfolding lines
   split =
       let e : k + 1 ≡ suc k = omega arith in
       ap (λ (n : ℕ). linesOf t (take n K)) e ∙ ap (linesOf t) (take-suc K k 0 (omega (arith, l .count)))
-      ∙ ap lines (map-append (recordOf t) (take k K) (nth K k ∷ [])) ∙ lines-join (map (recordOf t) (take k K)) (top ∷ [])
+      ∙ ap lines (map-append (recordKeyed t) (take k K) (nth K k ∷ [])) ∙ lines-join (map (recordKeyed t) (take k K)) (top ∷ [])
 
   -- its line ends at `at`
   pub left-place : at ≡ length (linesOf t (take k K)) + length (lineOf top)
@@ -115,8 +115,8 @@ module _ (t K rest o : List ℕ) (k at : ℕ) (l : Left t K rest o (k + 1) at) w
   -- the keys left end before the lines
   keys-end : (j : ℕ) → j ≤ length K → shortest * j ≤ length (linesOf t (take j K))
   keys-end j h =
-      let a = lines-least (map (recordOf t) (take j K)) in
-      let b = length-map (take j K) (recordOf t) in
+      let a = lines-least (map (recordKeyed t) (take j K)) in
+      let b = length-map (take j K) (recordKeyed t) in
       let c = length-take-le j K h in
       omega arith
 
@@ -146,8 +146,8 @@ left-end t K rest o at l = ap (λ (n : ℕ). drop n o) (sym (l .place)) ∙ l .d
 -- the keys left end where the lines begin, or before
 pub left-room : (t K rest o : List ℕ) (k at : ℕ) → Left t K rest o k at → shortest * k ≤ at
 left-room t K rest o k at l =
-    let a = lines-least (map (recordOf t) (take k K)) in
-    let b = length-map (take k K) (recordOf t) in
+    let a = lines-least (map (recordKeyed t) (take k K)) in
+    let b = length-map (take k K) (recordKeyed t) in
     let c = length-take-le k K (l .count) in
     omega (arith, l .place)
 

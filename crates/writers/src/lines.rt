@@ -5,35 +5,24 @@ ghost use Prim.Native.Nat.{ℕ, _+_, _*_, _%_, _≤_};
 ghost use lib.ListN.{length, drop};
 ghost use Rattle.table.specs.Slots.{slotWidth};
 ghost use Rattle.table.specs.Order.{InOrder};
-ghost use Rattle.writers.specs.Kept.{places, recordOf};
+ghost use Rattle.writers.specs.Kept.{places, recordKeyed};
 ghost use Rattle.writers.specs.LeftLaws.{Ready, fileOf};
 use crate::keys::PLACES;
-use lattice::Depth;
-use lattice::Level;
-use lattice::Point;
 use lattice::Record;
+use lattice::blank;
 use sorting::key;
 use table::Slot;
 use table::read_slot;
 use text::write_line_back;
 
 // The record of a key.
-fn record_of(table: &[u8], v: u64) -> Record
+fn record_keyed(table: &[u8], v: u64) -> Record
     requires { ⌜ slotWidth * (v % places) + slotWidth ≤ length (now table) ⌝ }
-    ensures { λ r. ⌜ r ≡ recordOf (now (table .entry)) v ⌝ }
+    ensures { λ r. ⌜ r ≡ recordKeyed (now (table .entry)) v ⌝ }
 {
     let i = (v % PLACES) as usize;
     match read_slot(table, i) {
-        Slot::Free => Record {
-            at: Point {
-                a: 0,
-                b: 0,
-                m: Depth(0),
-            },
-            d: 0,
-            k: 0,
-            n: Level(0),
-        },
+        Slot::Free => blank(),
         Slot::Holds(r) => r,
     }
 }
@@ -48,7 +37,7 @@ pub fn write_lines(table: &[u8], out: &mut [u8], k: usize, total: usize)
     let mut at = total;
     while 0 < left {
         left -= 1;
-        let r = record_of(table, key(out, left));
+        let r = record_keyed(table, key(out, left));
         at = write_line_back(out, at, r);
     }
 }

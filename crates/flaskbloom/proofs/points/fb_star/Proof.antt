@@ -13,7 +13,7 @@ returns c =
     let k = c .before in
     let s = k .before .before in
     let e = sym (asked₂ (λ x y. recordOf x y (s .args .m) (s .args .d) (s .args .k) (s .args .n)) (s .fits .a) (s .fits .b) (k .record-of .ensures)) in
-    (c .star-row .ensures .0 ∙ ap (λ (r : Record). starOf r .number) e, c .star-row .ensures .1 ∙ ap (λ (r : Record). answerNumbers (starOf r)) e)
+    (c .star .ensures .0 ∙ ap (λ (r : Record). starOf r .number) e, c .star .ensures .1 ∙ ap (λ (r : Record). answerNumbers (starOf r)) e)
 
 pub fb-star-spec : {M : Type 1} → statement M
 fb-star-spec = tie.close (tie.spec (λ c κs. search needs) (λ c κs. search needs) returns)

@@ -29,13 +29,13 @@ cast-result c =
     let s = c .before in
     let z = s .args .x in
     let below = lt-taken (wide s) zero tt tt (c .if1 .taken) in
-    need-nat w64 (zero -ᵐ wide s) tt tt (omega (arith, minus-is (pos 0) z, apart z, apart (pos 0 -ℤ z)))
+    need-nat w32 (zero -ᵐ wide s) tt tt (omega (arith, minus-is (pos 0) z, apart z, apart (pos 0 -ℤ z)))
 
 cast-result-2 : tie.Need-cast-result-2
 cast-result-2 c =
     let s = c .before in
     let above = lt-left (wide s) zero tt tt (c .if1 .left) in
-    need-nat w64 (wide s) tt tt (omega (arith, apart (s .args .x)))
+    need-nat w32 (wide s) tt tt (omega (arith, apart (s .args .x)))
 
 returns : tie.Need-returns
 returns c =

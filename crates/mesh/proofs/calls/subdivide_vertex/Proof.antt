@@ -16,7 +16,7 @@ use Rattle.table.specs.Entries.{holds}
 use Rattle.table.specs.Slots.{freeSlots}
 use Rattle.table.specs.MapLaws.{room}
 use Rattle.mesh.proofs.calls.subdivide_vertex.Statement.{statement}
-use Rattle.mesh.specs.SubdivideLaws.{Ready, Whole}
+use Rattle.mesh.specs.SubdivideLaws.{Ready, Intact}
 use Rattle.mesh.specs.WriteLaws.{ready-inner, ready-turn}
 use Rattle.mesh.specs.CallLaws.{standing-ready, centre-inner, vertex-4, vertex-5, outcome-parts, vertex-6, vertex-7-old, vertex-7-new, vertex-8}
 use Rattle.mesh.specs.CallLaws.{ready-whole, vertex-0}
@@ -157,7 +157,7 @@ module _ (x : tie.Else6) where
   abbrev v : Record
   v = begun e .args .v
 
-  passed : Whole t v
+  passed : Intact t v
   passed =
       let room : 6 ≤ freeSlots t = subst (λ (n : ℕ). 6 ≤ n) (begun e .pre .1 .1) (x .if6 .left) in
       ready-whole t v (ready e) (sym (a .adjacents-fit .ensures) ∙ not-false _ (b .before .before .if4 .left))

@@ -11,7 +11,7 @@ use Rattle.lattice.specs.declared.records.Record.{Record}
 use Rattle.text.specs.Line.{lineOf}
 use Rattle.table.specs.Slots.{slotWidth}
 use Rattle.sorting.specs.Tally.{nth}
-use Rattle.writers.specs.Kept.{places, recordOf}
+use Rattle.writers.specs.Kept.{places, recordKeyed}
 use Rattle.writers.specs.LeftLaws.{ordered, Ready, Left, ordered-file, ordered-inside, left-start, left-room, left-top, left-place, left-step, left-end}
 use Rattle.writers.proofs.lines.write_lines.Statement.{statement}
 use Rattle.writers.proofs.lines.write_lines.Tie as tie
@@ -63,28 +63,28 @@ module _ (c : tie.After-key Inv-loop μ-loop) where
     top = c .key .ensures ∙ left-top t (ordered t m) rest (l .loop .out) k (l .loop .at) one
 
     abbrev rec : Record
-    rec = recordOf t (nth (ordered t m) k)
+    rec = recordKeyed t (nth (ordered t m) k)
 
     place : length (lineOf rec) ≤ l .loop .at
     place = omega (arith, left-place t (ordered t m) rest (l .loop .out) k (l .loop .at) one)
 
-record-of-requires : tie.Need-record-of-requires Inv-loop μ-loop
-record-of-requires p κs =
+record-keyed-requires : tie.Need-record-keyed-requires Inv-loop μ-loop
+record-keyed-requires p κs =
     let m = s p .pre .1 .0 in
     let r = s p .pre .1 .1 in
     subst (λ (v : ℕ). slotWidth * (v % places) + slotWidth ≤ length (t p)) (sym (top p m r))
     (ordered-inside (t p) (s p .pre .0) m (k p) (omega (arith, one p m r .count)))
 
 -- the record of the key, and its line's length
-module _ (c : tie.After-record-of Inv-loop μ-loop) where
+module _ (c : tie.After-record-keyed Inv-loop μ-loop) where
   abbrev p : tie.After-key Inv-loop μ-loop
   p = c .before
 
   module _ (m : List ℕ) (r : Ready (t p) m (s p .args .out .now) (s p .args .k) (s p .args .total)) where
-    is : c .record-of .result ≡ rec p m r
-    is = c .record-of .ensures ∙ ap (recordOf (t p)) (top p m r)
+    is : c .record-keyed .result ≡ rec p m r
+    is = c .record-keyed .ensures ∙ ap (recordKeyed (t p)) (top p m r)
 
-    long : length (lineOf (c .record-of .result)) ≡ length (lineOf (rec p m r))
+    long : length (lineOf (c .record-keyed .result)) ≡ length (lineOf (rec p m r))
     long = ap (λ (x : Record). length (lineOf x)) is
 
 write-line-back-requires : tie.Need-write-line-back-requires Inv-loop μ-loop
@@ -102,7 +102,7 @@ loop-again c =
     let o₂ = x .write-line-back .last .0 in
     let at = l (p q) .loop .at in
     let at′ = x .write-line-back .result in (
-      ap length (x .write-line-back .ensures .bytes) ∙ length-sets o₁ at′ (lineOf (q .record-of .result)) ∙ l (p q) .loop .inv .0,
+      ap length (x .write-line-back .ensures .bytes) ∙ length-sets o₁ at′ (lineOf (q .record-keyed .result)) ∙ l (p q) .loop .inv .0,
       λ m r.
           let e = long q m r in
           let w = x .write-line-back .ensures .past in
@@ -133,7 +133,7 @@ write-lines-spec =
     loop-holds
     (λ c. search needs)
     key-requires
-    record-of-requires
+    record-keyed-requires
     write-line-back-requires
     (λ c. search needs)
     loop-again
