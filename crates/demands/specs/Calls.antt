@@ -22,7 +22,7 @@ use Rattle.text.specs.declared.line.Line.{Line}
 use Rattle.base.specs.Base as laid
 use Rattle.mesh.specs.Subdivide as divided
 use Rattle.queries.specs.Queries.{neighboursOf, facesOf}
-use Rattle.queries.specs.Many.{Answered, neighboursAllOf, facesAllOf}
+use Rattle.queries.specs.Many.{AnswersAfter, neighboursAllOf, facesAllOf}
 use Rattle.writers.specs.Files as written
 use Rattle.readers.specs.Readers as read
 use Rattle.readers.specs.BeginLaws.{Prepared, unfit, fit}
@@ -55,17 +55,17 @@ Lent parseLine = List ℕ × ℕ
 abbrev pub Outcome : Call → Type 0
 Outcome normalise = Point
 Outcome star = Answer
-Outcome base = laid.Answered
-Outcome subdivide = divided.Outcome
+Outcome base = laid.BaseAfter
+Outcome subdivide = divided.MeshAfter
 Outcome subdivideAll = divided.Many
 Outcome neighbours = Answer
 Outcome faces = Answer
-Outcome neighboursAll = Answered
-Outcome facesAll = Answered
-Outcome writeFull = written.Outcome
-Outcome writeReduced = written.Outcome
-Outcome readFull = read.Outcome
-Outcome readReduced = read.Outcome
+Outcome neighboursAll = AnswersAfter
+Outcome facesAll = AnswersAfter
+Outcome writeFull = written.OutputAfter
+Outcome writeReduced = written.OutputAfter
+Outcome readFull = read.TablesAfter
+Outcome readReduced = read.TablesAfter
 Outcome census = counted.Result
 Outcome inOrder = Bool
 Outcome parseLine = Line

@@ -2,14 +2,14 @@
 ghost use mathlib.Core.Path.{_≡_};
 ghost use Prim.Native.Nat.{_≤_};
 ghost use lib.ListN.{length};
-ghost use Rattle.writers.specs.Files.{outcome, writeFullOf, writeReducedOf};
+ghost use Rattle.writers.specs.Files.{outputAfter, writeFullOf, writeReducedOf};
 ghost use Rattle.readers.specs.Readers as reader;
 ghost use Rattle.census_text.specs.Census.{put, result, censusOf, textOf, readInputOf};
 
 // Writes the full file, or 1, 13; written: its bytes, 0 if refused.
 #[no_mangle]
 pub extern "C" fn fb_write_full(table: &[u8], out: &mut [u8], written: &mut u64) -> u8
-    ensures { λ r. ⌜ outcome r (now (written .exit)) (now (out .exit)) ≡ writeFullOf (now (table .entry)) (now (out .entry)) ⌝ }
+    ensures { λ r. ⌜ outputAfter r (now (written .exit)) (now (out .exit)) ≡ writeFullOf (now (table .entry)) (now (out .entry)) ⌝ }
 {
     let file = writers::write_full(table, out);
     *written = file.bytes;
@@ -19,7 +19,7 @@ pub extern "C" fn fb_write_full(table: &[u8], out: &mut [u8], written: &mut u64)
 // Writes the reduced file, or 1, 13; written: its bytes, 0 if refused.
 #[no_mangle]
 pub extern "C" fn fb_write_reduced(table: &[u8], out: &mut [u8], written: &mut u64) -> u8
-    ensures { λ r. ⌜ outcome r (now (written .exit)) (now (out .exit)) ≡ writeReducedOf (now (table .entry)) (now (out .entry)) ⌝ }
+    ensures { λ r. ⌜ outputAfter r (now (written .exit)) (now (out .exit)) ≡ writeReducedOf (now (table .entry)) (now (out .entry)) ⌝ }
 {
     let file = writers::write_reduced(table, out);
     *written = file.bytes;
@@ -35,7 +35,7 @@ pub extern "C" fn fb_read_full(
     line: &mut u64,
 ) -> u8
     ensures { λ r. ⌜
-        reader.outcome r (now (line .exit)) (now (table .exit)) (now (scratch .exit))
+        reader.tablesAfter r (now (line .exit)) (now (table .exit)) (now (scratch .exit))
         ≡ reader.readFullOf (now (table .entry)) (now (scratch .entry)) (now (file .entry))
         ⌝ }
 {
@@ -53,7 +53,7 @@ pub extern "C" fn fb_read_reduced(
     line: &mut u64,
 ) -> u8
     ensures { λ r. ⌜
-        reader.outcome r (now (line .exit)) (now (table .exit)) (now (scratch .exit))
+        reader.tablesAfter r (now (line .exit)) (now (table .exit)) (now (scratch .exit))
         ≡ reader.readReducedOf (now (table .entry)) (now (scratch .entry)) (now (file .entry))
         ⌝ }
 {
