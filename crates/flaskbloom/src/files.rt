@@ -4,7 +4,9 @@ ghost use Prim.Native.Nat.{_≤_};
 ghost use lib.ListN.{length};
 ghost use Rattle.writers.specs.Files.{outputAfter, writeFullOf, writeReducedOf};
 ghost use Rattle.readers.specs.Readers as reader;
+ghost use Rattle.counts.specs.Count.{countOf};
 ghost use Rattle.census_text.specs.Census.{put, result, censusOf, textOf, readInputOf};
+use counts::COUNTS;
 
 // Writes the full file, or 1, 13; written: its bytes, 0 if refused.
 #[no_mangle]
@@ -80,4 +82,13 @@ pub extern "C" fn fb_census(
     let census = census_text::census(input, table, scratch, out);
     *written = census.written;
     census.number
+}
+
+// The census's numbers of a table, V E F d0 d3 d4 d5 d6; or 1, and all zeros.
+#[no_mangle]
+pub extern "C" fn fb_counts(table: &[u8], numbers: &mut [u32; COUNTS]) -> u8
+    ensures { λ r. ⌜ r ≡ countOf (now (table .entry)) .number ⌝ }
+    ensures { λ _. ⌜ now (numbers .exit) ≡ countOf (now (table .entry)) .counted ⌝ }
+{
+    counts::count(table, numbers)
 }
