@@ -25,8 +25,8 @@ counts-of-requires c κs =
 returns-2 : tie.Need-returns-2
 returns-2 c =
     let k = c .before .before .before .before in
-    let e = count-0 (k .before .before .args .table .now) (sym (k .in-order .ensures) ∙ not-false _ (c .before .before .before .if1 .left)) (c .before .counts-of .result)
-    (c .before .counts-of .ensures) in
+    let ordered = sym (k .in-order .ensures) ∙ not-false _ (c .before .before .before .if1 .left) in
+    let e = count-0 (k .before .before .args .table .now) ordered (c .before .counts-of .result) (c .before .counts-of .ensures) in
     (ap (λ (x : CountsAfter). x .number) (sym e), ap (λ (x : CountsAfter). x .counted) (sym e))
 
 pub count-spec : {M : Type 1} → statement M
