@@ -13,7 +13,8 @@
 //!
 //! `Table` owns its slots; `Refusal` is document 01's numbers; `normalise` and `star` need no mesh; `census` is the program's text.
 //! Every call but `normalise`, `star` and the reading of fields first tests the whole table, in time linear in its slots: to subdivide
-//! many points use `subdivide_all`, which tests it once; to ask of many, `neighbours_all`, `opposites_all` and `faces_all`.
+//! many points use `subdivide_all`, which tests it once; to ask of many, `neighbours_all`, `opposites_all` and `faces_all`. `Table::counts` has
+//! the census's numbers of a table of any size.
 
 pub mod raw;
 pub mod slices;
