@@ -26,7 +26,7 @@ enum { STACK = 128 * 1024, PAGE = 4096, GUARDS = 64, GUARD = 0xa7, BUFFERS = 4, 
 
 enum call {
     NORMALISE, STAR, BASE, SUBDIVIDE, SUBDIVIDE_ALL, NEIGHBOURS, FACES,
-    WRITE_FULL, WRITE_REDUCED, READ_FULL, READ_REDUCED, CENSUS, NEIGHBOURS_ALL, FACES_ALL, STACK_USED
+    WRITE_FULL, WRITE_REDUCED, READ_FULL, READ_REDUCED, CENSUS, NEIGHBOURS_ALL, FACES_ALL, COUNTS, STACK_USED
 };
 
 struct request {
@@ -38,7 +38,7 @@ struct request {
 
 struct answer {
     uint32_t number;      /* 0..255; 256 where a guard was broken */
-    int32_t points[POINTS];
+    int32_t points[POINTS]; /* the first of them also the numbers of a table counted */
     uint64_t value;
 };
 
@@ -102,6 +102,7 @@ static uint8_t call(const struct request *r, uint8_t **p, int32_t *points, uint6
     case CENSUS: return fb_census(p[0], n[0], p[1], n[1], p[2], n[2], p[3], n[3], value);
     case NEIGHBOURS_ALL: return fb_neighbours_all(p[0], n[0], (const int32_t *)p[1], n[1] / 4, (int32_t *)p[2], n[2] / 4);
     case FACES_ALL: return fb_faces_all(p[0], n[0], (const int32_t *)p[1], n[1] / 4, (int32_t *)p[2], n[2] / 4);
+    case COUNTS: return fb_counts(p[0], n[0], (uint32_t *)points);
     case STACK_USED: *value = stack_used(); return 0;
     default: _exit(2);
     }

@@ -21,7 +21,7 @@ use Rattle.writers.specs.FileLaws.{sorted-rises, sorted-holds, holds-sorted, so
 use Rattle.mesh.specs.Grown.{Grown}
 use Rattle.grown.specs.Grown.{is-grown, grown-is, grown-same}
 use Rattle.readers.specs.BeginLaws.{lengths-table}
-use Rattle.readers.specs.Readers.{Outcome, lengthsFit, accepted, refused, readFullOf}
+use Rattle.readers.specs.Readers.{TablesAfter, lengthsFit, accepted, refused, readFullOf}
 use Rattle.readers.specs.ReadLaws.{Valid, Lined, read-lines, lines-read, lines-one}
 use Rattle.readers.specs.RestoreLaws.{Within}
 use Rattle.archive.specs.Outcomes.{FullRead, full-ends, full-zero}
@@ -85,11 +85,12 @@ module _ (table scratch f : List ℕ) (z : readFullOf table scratch f .number �
   -- "11: not a grown mesh": what is accepted is grown, and the file is its full file, byte for byte
   pub full-accepted : Grown (readFullOf table scratch f .table) × (f ≡ fullFile (readFullOf table scratch f .table))
   full-accepted =
-      subst (λ (o : Outcome). Grown (o .table) × (f ≡ fullFile (o .table))) (sym (way .is)) (is-grown (way .table) (way .grown), lined .text ∙ ap lines records)
+      subst (λ (o : TablesAfter). Grown (o .table) × (f ≡ fullFile (o .table))) (sym (way .is))
+      (is-grown (way .table) (way .grown), lined .text ∙ ap lines records)
 
   -- as many records as lines
   pub full-count : length (recordsOf (readFullOf table scratch f .table)) ≡ linesIn f
-  full-count = ap (λ (o : Outcome). length (recordsOf (o .table))) (way .is) ∙ lined .count ∙ sym (ap linesIn (lined .text) ∙ lines-in (way .records))
+  full-count = ap (λ (o : TablesAfter). length (recordsOf (o .table))) (way .is) ∙ lined .count ∙ sym (ap linesIn (lined .text) ∙ lines-in (way .records))
 
 -- ---- two tables in order with one full file hold the same record at every point
 pub full-one : (t u : List ℕ) → InOrder t → InOrder u → fullFile t ≡ fullFile u → (p : Point) → lookUp t p ≡ lookUp u p

@@ -17,7 +17,7 @@ use Rattle.table.specs.Slots.{Table, fitsLength, slotsOf, clearedOf}
 use Rattle.table.specs.SlotLaws.{table-test, test-table}
 use Rattle.writers.specs.Files.{redundant}
 use Rattle.grown.specs.Grown.{isGrown}
-use Rattle.readers.specs.Readers.{Lines, Read, Fault, readLines, Restored, With, Stopped, restoreAll, Outcome, outcome, refused, accepted, lengthsFit}
+use Rattle.readers.specs.Readers.{Lines, Read, Fault, readLines, Restored, With, Stopped, restoreAll, TablesAfter, tablesAfter, refused, accepted, lengthsFit}
 use Rattle.readers.specs.Readers.{endFull, endRestored, endReduced, readFullOf, readReducedOf}
 use Rattle.readers.specs.FaultLaws.{fault-number, stop-number}
 
@@ -26,7 +26,7 @@ module _ (t s f : List ℕ) where
   pub full-ends : (rs : List Record) (u : List ℕ) → lengthsFit t s ≡ true → readLines f (clearedOf t) ≡ Read rs u
       → readFullOf t s f ≡ cond (isGrown u) (accepted u s) (refused 11 0 t s)
   unfolding readFullOf
-  full-ends rs u fit e = λ i. cond (fit i) (endFull t s (e i)) (outcome 1 0 t s)
+  full-ends rs u fit e = λ i. cond (fit i) (endFull t s (e i)) (tablesAfter 1 0 t s)
 
   pub record FullRead : Type 0 where
     pub fit : lengthsFit t s ≡ true
@@ -53,19 +53,19 @@ module _ (t s f : List ℕ) where
       }
       judged fit rs u e false g z = absurd (omega arith)
 
-      go : (b : Bool) → lengthsFit t s ≡ b → (x : Lines) → readLines f (clearedOf t) ≡ x → cond b (endFull t s x) (outcome 1 0 t s) .number ≡ 0 → FullRead
+      go : (b : Bool) → lengthsFit t s ≡ b → (x : Lines) → readLines f (clearedOf t) ≡ x → cond b (endFull t s x) (tablesAfter 1 0 t s) .number ≡ 0 → FullRead
       go false fit x e z = absurd (omega arith)
       go true fit (Fault number line) e z = absurd (let l = fault-number f (length f) 0 1 none (clearedOf t) number line e in omega arith)
       go true fit (Read rs u) e z = judged fit rs u e (isGrown u) refl z
 
   -- ---- the reduced reader
-  abbrev pub ended : List Record → List ℕ → Outcome
+  abbrev pub ended : List Record → List ℕ → TablesAfter
   ended rs w = cond (isGrown w) (cond (someOf (redundant w) rs) (refused 12 0 t s) (accepted w s)) (refused 11 0 t s)
 
   pub reduced-ends : (rs : List Record) (u w : List ℕ) → lengthsFit t s ≡ true → readLines f (clearedOf t) ≡ Read rs u → restoreAll rs (With u) ≡ With w
       → readReducedOf t s f ≡ ended rs w
   unfolding readReducedOf
-  reduced-ends rs u w fit e k = (λ i. cond (fit i) (endReduced t s (e i)) (outcome 1 0 t s)) ∙ ap (endRestored t s rs) k
+  reduced-ends rs u w fit e k = (λ i. cond (fit i) (endReduced t s (e i)) (tablesAfter 1 0 t s)) ∙ ap (endRestored t s rs) k
 
   -- its lines are read, what they leave out is restored, and the whole is grown; whether a redundant record was kept
   pub record ReducedRead (kept : Bool) : Type 0 where
@@ -120,7 +120,7 @@ module _ (t s f : List ℕ) where
       back fit rs u e (With w) k z = judged fit rs u w e k (isGrown w) refl z
 
       go : (b : Bool) → lengthsFit t s ≡ b → (x : Lines) → readLines f (clearedOf t) ≡ x
-          → cond b (endReduced t s x) (outcome 1 0 t s) .number ≡ cond kept 12 0 → ReducedRead kept
+          → cond b (endReduced t s x) (tablesAfter 1 0 t s) .number ≡ cond kept 12 0 → ReducedRead kept
       go false fit x e z = other 1 (omega arith) (omega arith) z
       go true fit (Fault number line) e z =
           let (l, h) = fault-number f (length f) 0 1 none (clearedOf t) number line e in other number (omega arith) (omega arith) z

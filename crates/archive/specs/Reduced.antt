@@ -23,7 +23,7 @@ use Rattle.writers.specs.FileLaws.{left-rises, left-holds, holds-left, left-one
 use Rattle.mesh.specs.Grown.{Grown}
 use Rattle.grown.specs.Grown.{is-grown}
 use Rattle.readers.specs.BeginLaws.{table-lengths}
-use Rattle.readers.specs.Readers.{Outcome, lengthsFit, accepted, refused, readReducedOf}
+use Rattle.readers.specs.Readers.{TablesAfter, lengthsFit, accepted, refused, readReducedOf}
 use Rattle.archive.specs.Outcomes.{ReducedRead, reduced-zero, reduced-twelve}
 use Rattle.archive.specs.Returns.{Returns, accepted-returns}
 use Rattle.text.specs.LineCount.{linesIn, lines-in}
@@ -91,11 +91,11 @@ module _ (table scratch f : List ℕ) (z : readReducedOf table scratch f .number
   -- what is accepted is grown, and the file is its reduced file, byte for byte
   pub reduced-accepted : Grown (readReducedOf table scratch f .table) × (f ≡ reducedFile (readReducedOf table scratch f .table))
   reduced-accepted =
-      subst (λ (o : Outcome). Grown (o .table) × (f ≡ reducedFile (o .table))) (sym (way .is)) (is-grown (way .table) (way .grown), text ∙ ap lines records)
+      subst (λ (o : TablesAfter). Grown (o .table) × (f ≡ reducedFile (o .table))) (sym (way .is)) (is-grown (way .table) (way .grown), text ∙ ap lines records)
 
   -- as many records as lines and redundant ones
   pub reduced-count : length (recordsOf (readReducedOf table scratch f .table)) ≡ linesIn f + length (redundants (readReducedOf table scratch f .table))
-  reduced-count = subst (λ (o : Outcome). length (recordsOf (o .table)) ≡ linesIn f + length (redundants (o .table))) (sym (way .is))
+  reduced-count = subst (λ (o : TablesAfter). length (recordsOf (o .table)) ≡ linesIn f + length (redundants (o .table))) (sym (way .is))
       (omega (
         arith,
         left-out (redundant (way .table)) (recordsOf (way .table)),
@@ -128,11 +128,11 @@ pub kept-twelve : (t table scratch : List ℕ) → Grown t → (rs : List Record
     → readReducedOf table scratch (lines rs) .number ≡ 12
 kept-twelve t table scratch g rs x r m e fit room =
     let b = read-back t g rs x table scratch fit room in
-    ap (λ (o : Outcome). o .number) (b .is ∙ ap (λ (k : Bool). cond k (refused 12 0 table scratch) (accepted (b .result) scratch))
+    ap (λ (o : TablesAfter). o .number) (b .is ∙ ap (λ (k : Bool). cond k (refused 12 0 table scratch) (accepted (b .result) scratch))
     (at-some (redundant t) rs r m e))
 
 -- and no other file
-pub record Kept (table f : List ℕ) : Type 0 where
+pub record KeptOne (table f : List ℕ) : Type 0 where
   pub mesh : List ℕ
   pub grown : Grown mesh
   pub room : length (recordsOf mesh) ≤ slotsOf table
@@ -141,7 +141,7 @@ pub record Kept (table f : List ℕ) : Type 0 where
   pub leaves : Leaves mesh records
   pub kept : (r : Record) × List·Memᴰ r records × (redundant mesh r ≡ true)
 
-pub twelve-kept : (table scratch f : List ℕ) → readReducedOf table scratch f .number ≡ 12 → Kept table f
+pub twelve-kept : (table scratch f : List ℕ) → readReducedOf table scratch f .number ≡ 12 → KeptOne table f
 twelve-kept table scratch f z =
     let x = reduced-twelve table scratch f z in
     record {

@@ -16,13 +16,13 @@ use Rattle.table.specs.declared.entries.Looked.the-variants.{Absent, Held}
 use Rattle.sorting.specs.SortLaws.{Rising}
 use Rattle.text.specs.LineOrder.{orderOf}
 use Rattle.writers.specs.FileLaws.{Before}
-use Rattle.readers.specs.Readers.{Outcome, accepted}
+use Rattle.readers.specs.Readers.{TablesAfter, accepted}
 use Rattle.readers.specs.Additions.{held-absent}
 use Rattle.readers.specs.ReadLaws.{Valid, before-order}
 use Rattle.readers.specs.RestoreLaws.{Within}
 
 -- the records of table t come back: number 0, line 0, and the reader's table is in order, has the same record as t at every point, and as many of them
-pub record Returns (t : List ℕ) (o : Outcome) : Type 0 where
+pub record Returns (t : List ℕ) (o : TablesAfter) : Type 0 where
   pub number : o .number ≡ 0
   pub line : o .line ≡ 0
   pub order : InOrder (o .table)

@@ -1,6 +1,6 @@
 -- Document 01, "Base": a list of centres judged, and the records it lays into a table. What the promise cites: `baseOf`.
 -- `centreAt`, `isListed` the centres of the list · `goodCentre`, `badAt`, `firstBad` the list judged · `cornerOf`, `internal`, `hexagonOf` the seven
--- records of a hexagon · `Laid`, `laidOf` all of them entered · `Answered`, `baseOf` what the call answers.
+-- records of a hexagon · `Laid`, `laidOf` all of them entered · `BaseAfter`, `baseOf` what the call answers.
 -- Assumes nothing.
 use mathlib.Core.Bool.{Bool, cond, _&&_, not, _||_}
 use mathlib.Core.List.{List}
@@ -112,27 +112,27 @@ laidOf t cs = layAll cs (centresIn cs) (Room (clearedOf t))
 
 -- ---- the call
 -- the number, the place of the first bad centre, and the table after
-pub record Answered : Type 0 where
+pub record BaseAfter : Type 0 where
   pub number : ℕ
   pub place : ℕ
   pub bytes : List ℕ
 
-abbrev pub answered : ℕ → ℕ → List ℕ → Answered
-answered n p t = record { number = n; place = p; bytes = t }
+abbrev pub baseAfter : ℕ → ℕ → List ℕ → BaseAfter
+baseAfter n p t = record { number = n; place = p; bytes = t }
 
 -- "8: too few free slots"
-abbrev pub fromLaid : List ℕ → Laid → Answered
-fromLaid t (Room u) = answered 0 0 u
-fromLaid t NoRoom = answered 8 0 (clearedOf t)
+abbrev pub fromLaid : List ℕ → Laid → BaseAfter
+fromLaid t (Room u) = baseAfter 0 0 u
+fromLaid t NoRoom = baseAfter 8 0 (clearedOf t)
 
 -- "base list empty, of odd length"
 abbrev pub unpaired : List ℤ → Bool
 unpaired cs = eqb (length cs) 0 || not (eqb (length cs % 2) 0)
 
 -- "Base 1, 2, 8. .. Base gives the 0-based place, counted in centres, of the first bad centre, else 0; an empty or odd list gives place 0, its centres unread."
-unfoldable pub baseOf : List ℕ → List ℤ → Answered
+unfoldable pub baseOf : List ℕ → List ℤ → BaseAfter
 baseOf t cs =
-    unless (fitsLength (length t)) (answered 1 0 t)
-    (cond (unpaired cs) (answered 2 0 (clearedOf t))
-    (cond (ltb (badPlace cs) (centresIn cs)) (answered 2 (badPlace cs) (clearedOf t))
+    unless (fitsLength (length t)) (baseAfter 1 0 t)
+    (cond (unpaired cs) (baseAfter 2 0 (clearedOf t))
+    (cond (ltb (badPlace cs) (centresIn cs)) (baseAfter 2 (badPlace cs) (clearedOf t))
     (fromLaid t (laidOf t cs))))

@@ -22,8 +22,8 @@ use Rattle.table.specs.SearchLaws.{same-refl, same-true}
 use Rattle.table.specs.Slots.{Table, fitsLength, slotsOf, clearedOf}
 use Rattle.lattice.specs.declared.points.Point.{Point}
 use Rattle.table.specs.declared.entries.Looked.the-variants.{Absent, Held}
-use Rattle.base.specs.Base.{centreAt, centresIn, goodCentre, listedIn, isListed, badPlace, cornerOf, Laid, Room, NoRoom, laidOf, Answered}
-use Rattle.base.specs.Base.{unpaired, answered, baseOf}
+use Rattle.base.specs.Base.{centreAt, centresIn, goodCentre, listedIn, isListed, badPlace, cornerOf, Laid, Room, NoRoom, laidOf, BaseAfter}
+use Rattle.base.specs.Base.{unpaired, baseAfter, baseOf}
 use Rattle.base.specs.LayLaws.{corner-within, judged, base-by, laid-is}
 use Rattle.base.specs.Vertices.{hexagonPoint, inHexagon, inFirst, inBase, baseRecord, pointsIn, GoodList}
 use Rattle.base.specs.HoldLaws.{corner-class, corner-back, Holding, all-holds, all-short}
@@ -33,8 +33,9 @@ use Rattle.base.specs.MarkLaws.{Good, good-is, first-past, none-bad, not
 
 pub data BaseEnd (t : List ℕ) (cs : List ℤ) : Type 0 where
   refused : 0 < baseOf t cs .number → baseOf t cs .number ≤ 2 → (Table t (slotsOf t) → GoodList cs → ⊥) → BaseEnd t cs
-  short : slotsOf t < pointsIn cs (centresIn cs) → baseOf t cs ≡ answered 8 0 (clearedOf t) → BaseEnd t cs
-  done : (u : List ℕ) → GoodList cs → Holding (isListed cs) (slotsOf t) u (inBase cs) (pointsIn cs (centresIn cs)) → baseOf t cs ≡ answered 0 0 u → BaseEnd t cs
+  short : slotsOf t < pointsIn cs (centresIn cs) → baseOf t cs ≡ baseAfter 8 0 (clearedOf t) → BaseEnd t cs
+  done : (u : List ℕ) → GoodList cs → Holding (isListed cs) (slotsOf t) u (inBase cs) (pointsIn cs (centresIn cs))
+      → baseOf t cs ≡ baseAfter 0 0 u → BaseEnd t cs
 
 module _ (t : List ℕ) (cs : List ℤ) where
   good-list : unpaired cs ≡ false → centresIn cs ≤ badPlace cs → GoodList cs
@@ -54,7 +55,7 @@ module _ (t : List ℕ) (cs : List ℤ) where
     where
       number : (fit odd bad : Bool) (l : Laid) → fitsLength (length t) ≡ fit → unpaired cs ≡ odd → ltb (badPlace cs) (centresIn cs) ≡ bad → laidOf t cs ≡ l
           → judged t cs fit odd bad l .number ≡ baseOf t cs .number
-      number fit odd bad l f o b e = ap (λ (x : Answered). x .number) (base-by t cs fit odd bad l f o b e)
+      number fit odd bad l f o b e = ap (λ (x : BaseAfter). x .number) (base-by t cs fit odd bad l f o b e)
 
       go : (fit odd bad : Bool) (l : Laid) → fitsLength (length t) ≡ fit → unpaired cs ≡ odd → ltb (badPlace cs) (centresIn cs) ≡ bad → laidOf t cs ≡ l
           → BaseEnd t cs
@@ -85,11 +86,11 @@ module _ (t : List ℕ) (cs : List ℤ) where
       where
         go : BaseEnd t cs → GoodList cs × Holding (isListed cs) (slotsOf t) (baseOf t cs .bytes) (inBase cs) (pointsIn cs (centresIn cs))
         go (refused a b c) = absurd (omega arith)
-        go (short a e) = let n : baseOf t cs .number ≡ 8 = ap (λ (x : Answered). x .number) e in absurd (omega arith)
+        go (short a e) = let n : baseOf t cs .number ≡ 8 = ap (λ (x : BaseAfter). x .number) e in absurd (omega arith)
         go (done u g h e) = (
           g,
           subst (λ (x : List ℕ). Holding (isListed cs) (slotsOf t) x (inBase cs) (pointsIn cs (centresIn cs)))
-              (sym (ap (λ (x : Answered). x .bytes) e)) h,
+              (sym (ap (λ (x : BaseAfter). x .bytes) e)) h,
         )
 
     pub base-list : GoodList cs
@@ -114,7 +115,7 @@ module _ (t : List ℕ) (cs : List ℤ) where
       go : BaseEnd t cs → baseOf t cs .number ≡ 0
       go (refused a b c) = absurd (c w g)
       go (short a e) = absurd (omega arith)
-      go (done u l h e) = ap (λ (x : Answered). x .number) e
+      go (done u l h e) = ap (λ (x : BaseAfter). x .number) e
 
 -- ---- the points of a base
 

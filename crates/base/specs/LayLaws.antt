@@ -26,7 +26,7 @@ use Rattle.table.specs.Search.{findOf}
 use Rattle.table.specs.Entries.{enterAt, enterOf}
 use Rattle.table.specs.declared.probe.Found.{Found}
 use Rattle.base.specs.Base.{centresIn, centreAt, isListed, badPlace, cornerOf, internal, at0, centreRecord, cornerRecord, hexagonOf, Laid, Room}
-use Rattle.base.specs.Base.{NoRoom, lay, layAt, layHexagon, layAll, laidOf, Answered, answered, fromLaid, unpaired, baseOf}
+use Rattle.base.specs.Base.{NoRoom, lay, layAt, layHexagon, layAll, laidOf, BaseAfter, baseAfter, fromLaid, unpaired, baseOf}
 use Rattle.base.specs.Marks.{Within, inMarks, layCorners}
 use Rattle.base.specs.MarkLaws.{good-is, marked-good, listed-at}
 use Rattle.table.specs.declared.probe.Found.the-variants as found
@@ -185,28 +185,28 @@ module _ (cs : List ℤ) (x : Laid) where
 
 module _ (t : List ℕ) (cs : List ℤ) where
   -- the answered by the three judgements, and what was laid
-  abbrev pub judged : Bool → Bool → Bool → Laid → Answered
+  abbrev pub judged : Bool → Bool → Bool → Laid → BaseAfter
   judged fit odd bad l =
       cond fit
-      (cond odd (answered 2 0 (clearedOf t))
-      (cond bad (answered 2 (badPlace cs) (clearedOf t))
+      (cond odd (baseAfter 2 0 (clearedOf t))
+      (cond bad (baseAfter 2 (badPlace cs) (clearedOf t))
       (fromLaid t l)))
-      (answered 1 0 t)
+      (baseAfter 1 0 t)
 
   pub base-by : (fit odd bad : Bool) (l : Laid) → fitsLength (length t) ≡ fit → unpaired cs ≡ odd → ltb (badPlace cs) (centresIn cs) ≡ bad → laidOf t cs ≡ l
       → judged fit odd bad l ≡ baseOf t cs
   unfolding baseOf
   base-by fit odd bad l f o b e = sym (λ i. judged (f i) (o i) (b i) (e i))
 
-  pub base-unfit : fitsLength (length t) ≡ false → answered 1 0 t ≡ baseOf t cs
+  pub base-unfit : fitsLength (length t) ≡ false → baseAfter 1 0 t ≡ baseOf t cs
   base-unfit f = base-by false (unpaired cs) (ltb (badPlace cs) (centresIn cs)) (laidOf t cs) f refl refl refl
 
   module _ (f : fitsLength (length t) ≡ true) where
-    pub base-unpaired : unpaired cs ≡ true → answered 2 0 (clearedOf t) ≡ baseOf t cs
+    pub base-unpaired : unpaired cs ≡ true → baseAfter 2 0 (clearedOf t) ≡ baseOf t cs
     base-unpaired o = base-by true true (ltb (badPlace cs) (centresIn cs)) (laidOf t cs) f o refl refl
 
     module _ (o : unpaired cs ≡ false) where
-      pub base-bad : badPlace cs < centresIn cs → answered 2 (badPlace cs) (clearedOf t) ≡ baseOf t cs
+      pub base-bad : badPlace cs < centresIn cs → baseAfter 2 (badPlace cs) (clearedOf t) ≡ baseOf t cs
       base-bad h = base-by true false true (laidOf t cs) f o (lt-ltb (badPlace cs) (centresIn cs) h) refl
 
       pub base-laid : centresIn cs ≤ badPlace cs → (l : Laid) → l ≡ laidOf t cs → fromLaid t l ≡ baseOf t cs

@@ -6,7 +6,7 @@ mod centres;
 mod hexagons;
 
 ghost use mathlib.Core.Path.{_≡_};
-ghost use Rattle.base.specs.Base.{answered, baseOf};
+ghost use Rattle.base.specs.Base.{baseAfter, baseOf};
 use crate::centres::MARK_BYTES;
 use crate::centres::first_bad;
 use crate::hexagons::lay_all;
@@ -32,7 +32,7 @@ fn answer(number: u8, place: usize) -> Based
 // Clears the table and lays the hexagons at the centres a, b, a, b, .. into it. Refused with 1 the table is untouched, with 2 or 8 all 255.
 // Linear in the table's slots and in the list, as long as the searches are short.
 pub fn base(table: &mut [u8], centres: &[i32]) -> Based
-    ensures { λ r. ⌜ answered (r .number) (r .place) (now (table .exit)) ≡ baseOf (now (table .entry)) (now (centres .entry)) ⌝ }
+    ensures { λ r. ⌜ baseAfter (r .number) (r .place) (now (table .exit)) ≡ baseOf (now (table .entry)) (now (centres .entry)) ⌝ }
 {
     let n = slots_of(table);
     if n == 0 {

@@ -11,7 +11,7 @@ use lib.ListN.{length, drop, replicate}
 use Rattle.laws.specs.Choices.{unless}
 use Rattle.table.specs.Slots.{slotWidth}
 use Rattle.text.specs.Decimal.{tab, feed, digits, ended}
-use Rattle.readers.specs.Readers.{Outcome, outcome, refused, lengthsFit, readFullOf}
+use Rattle.readers.specs.Readers.{TablesAfter, tablesAfter, refused, lengthsFit, readFullOf}
 use Rattle.counts.specs.Counts.{countsOf}
 use Rattle.counts.specs.declared.Counts.{Counts}
 
@@ -56,7 +56,7 @@ refusedWord = 114 ∷ 101 ∷ 102 ∷ 117 ∷ 115 ∷ 101 ∷ 100 ∷ []
 abbrev pub refusedText : ℕ → ℕ → List ℕ
 refusedText number line = tabbed (refusedWord ∷ digits number ∷ digits line ∷ [])
 
-unfoldable pub textOf : Outcome → List ℕ
+unfoldable pub textOf : TablesAfter → List ℕ
 textOf r = cond (eqb (r .number) 0) (countsText (countsOf (r .table))) (refusedText (r .number) (r .line))
 
 -- ---- the input
@@ -66,8 +66,8 @@ abbrev pub mostInput : ℕ
 mostInput = 65536
 
 -- "It reads a full file"; "Longer input gives `refused`, 8, 0."
-unfoldable pub readInputOf : List ℕ → List ℕ → List ℕ → Outcome
-readInputOf t s input = unless (lengthsFit t s) (outcome 1 0 t s) (cond (ltb mostInput (length input)) (refused 8 0 t s) (readFullOf t s input))
+unfoldable pub readInputOf : List ℕ → List ℕ → List ℕ → TablesAfter
+readInputOf t s input = unless (lengthsFit t s) (tablesAfter 1 0 t s) (cond (ltb mostInput (length input)) (refused 8 0 t s) (readFullOf t s input))
 
 -- ---- the program
 
@@ -107,7 +107,7 @@ pub record Result : Type 0 where
 abbrev pub result : Put → List ℕ → List ℕ → Result
 result p t s = record { put = p; table = t; scratch = s }
 
-abbrev pub resultFrom : Outcome → List ℕ → Result
+abbrev pub resultFrom : TablesAfter → List ℕ → Result
 resultFrom r out = result (putText (r .number) (textOf r) out) (r .table) (r .scratch)
 
 unfoldable pub censusOf : List ℕ → List ℕ → List ℕ → List ℕ → Result

@@ -22,7 +22,7 @@ use Rattle.text.specs.Line.{lineAt}
 use Rattle.text.specs.declared.line.Line.{Line}
 use Rattle.text.specs.declared.line.Line.the-variants.{Good, Bad, End}
 use Rattle.grown.specs.Grown.{isGrown}
-use Rattle.readers.specs.Readers.{Lines, Read, Fault, after, above, noSlot, lineRead, linesFrom, readLines, Outcome, outcome, refused, accepted}
+use Rattle.readers.specs.Readers.{Lines, Read, Fault, after, above, noSlot, lineRead, linesFrom, readLines, TablesAfter, tablesAfter, refused, accepted}
 use Rattle.readers.specs.Readers.{lengthsFit, endFull, readFullOf}
 use Rattle.readers.specs.BeginLaws.{Prepared, prepared-unfit, prepared-fit, full-unfit}
 use Rattle.readers.specs.FaultLaws.{fault-number}
@@ -33,13 +33,13 @@ use Rattle.census_text.specs.Census.{countsText, refusedText, textOf, mo
 -- ---- the ways of reading
 
 -- too long an input, once it is known that the lengths fit
-abbrev pub longOf : List ℕ → List ℕ → Outcome
-longOf t s = cond (lengthsFit t s) (refused 8 0 t s) (outcome 1 0 t s)
+abbrev pub longOf : List ℕ → List ℕ → TablesAfter
+longOf t s = cond (lengthsFit t s) (refused 8 0 t s) (tablesAfter 1 0 t s)
 
 pub input-long : (t s input : List ℕ) → mostInput < length input → longOf t s ≡ readInputOf t s input
 unfolding readInputOf
 input-long t s input h =
-    ap (λ (b : Bool). cond (lengthsFit t s) (cond b (refused 8 0 t s) (readFullOf t s input)) (outcome 1 0 t s)) (sym (lt-ltb mostInput (length input) h))
+    ap (λ (b : Bool). cond (lengthsFit t s) (cond b (refused 8 0 t s) (readFullOf t s input)) (tablesAfter 1 0 t s)) (sym (lt-ltb mostInput (length input) h))
 
 pub input-read : (t s input : List ℕ) → length input ≤ mostInput → readFullOf t s input ≡ readInputOf t s input
 unfolding readInputOf
@@ -49,20 +49,20 @@ input-read t s input h = go (lengthsFit t s) refl
     short = le-ltb mostInput (length input) h
 
     go : (b : Bool) → lengthsFit t s ≡ b
-        → readFullOf t s input ≡ cond b (cond (ltb mostInput (length input)) (refused 8 0 t s) (readFullOf t s input)) (outcome 1 0 t s)
+        → readFullOf t s input ≡ cond b (cond (ltb mostInput (length input)) (refused 8 0 t s) (readFullOf t s input)) (tablesAfter 1 0 t s)
     go true e = ap (λ (x : Bool). cond x (refused 8 0 t s) (readFullOf t s input)) (sym short)
     go false e = full-unfit t s input e
 
 -- both tables cleared, or untouched
-pub long-unfit : (t s t′ s′ : List ℕ) (n : ℕ) → Prepared t s t′ s′ n → n ≡ 0 → outcome 1 0 t′ s′ ≡ longOf t s
+pub long-unfit : (t s t′ s′ : List ℕ) (n : ℕ) → Prepared t s t′ s′ n → n ≡ 0 → tablesAfter 1 0 t′ s′ ≡ longOf t s
 long-unfit t s t′ s′ n p h =
     let x = prepared-unfit t s p h in
-    (λ i. outcome 1 0 (x .1 i) (x .2 i)) ∙ ap (λ (b : Bool). cond b (refused 8 0 t s) (outcome 1 0 t s)) (sym (x .0))
+    (λ i. tablesAfter 1 0 (x .1 i) (x .2 i)) ∙ ap (λ (b : Bool). cond b (refused 8 0 t s) (tablesAfter 1 0 t s)) (sym (x .0))
 
-pub long-fit : (t s t′ s′ : List ℕ) (n : ℕ) → Prepared t s t′ s′ n → (n ≡ 0 → ⊥) → outcome 8 0 t′ s′ ≡ longOf t s
+pub long-fit : (t s t′ s′ : List ℕ) (n : ℕ) → Prepared t s t′ s′ n → (n ≡ 0 → ⊥) → tablesAfter 8 0 t′ s′ ≡ longOf t s
 long-fit t s t′ s′ n p h =
     let x = prepared-fit t s p h in
-    (λ i. outcome 8 0 (x .1 i) (x .2 i)) ∙ ap (λ (b : Bool). cond b (refused 8 0 t s) (outcome 1 0 t s)) (sym (x .0))
+    (λ i. tablesAfter 8 0 (x .1 i) (x .2 i)) ∙ ap (λ (b : Bool). cond b (refused 8 0 t s) (tablesAfter 1 0 t s)) (sym (x .0))
 
 -- ---- what has been read
 
@@ -95,7 +95,7 @@ line-below f (suc left) p i q t = go (lineAt f p) (λ r next. line-below f left 
 
 module _ (t s input : List ℕ) where
   -- what is known of an outcome: the line is none past the bytes, and a table that is read is in order
-  pub record Sound (r : Outcome) : Type 0 where
+  pub record Sound (r : TablesAfter) : Type 0 where
     pub line-low : r .line ≤ mostInput
     pub order : r .number ≡ 0 → InOrder (r .table)
 
@@ -121,14 +121,14 @@ module _ (t s input : List ℕ) where
   input-sound = go (lengthsFit t s) refl (ltb mostInput (length input)) refl
     where
       go : (a : Bool) → lengthsFit t s ≡ a → (b : Bool) → ltb mostInput (length input) ≡ b
-          → Sound (cond a (cond b (refused 8 0 t s) (cond a (endFull t s (readLines input (clearedOf t))) (outcome 1 0 t s))) (outcome 1 0 t s))
+          → Sound (cond a (cond b (refused 8 0 t s) (cond a (endFull t s (readLines input (clearedOf t))) (tablesAfter 1 0 t s))) (tablesAfter 1 0 t s))
       go false e b h = record { line-low = omega arith; order = λ z. zero-one z (omega arith) }
       go true e true h = record { line-low = omega arith; order = λ z. zero-one z (omega arith) }
       go true e false h = ended-sound e (ltb-false mostInput (length input) h) (readLines input (clearedOf t)) refl
 
   -- the same of what the reader gave back
-  module _ (number line : ℕ) (t′ s′ : List ℕ) (e : outcome number line t′ s′ ≡ readInputOf t s input) where
-    sound : Sound (outcome number line t′ s′)
+  module _ (number line : ℕ) (t′ s′ : List ℕ) (e : tablesAfter number line t′ s′ ≡ readInputOf t s input) where
+    sound : Sound (tablesAfter number line t′ s′)
     sound = subst Sound (sym e) input-sound
 
     pub input-line : line ≤ mostInput
@@ -139,26 +139,27 @@ module _ (t s input : List ℕ) where
 
     -- the text that follows
     module _ (ne : number ≡ 0 → ⊥) where
-      text-refused : refusedText number line ≡ textOf (outcome number line t′ s′)
+      text-refused : refusedText number line ≡ textOf (tablesAfter number line t′ s′)
       unfolding textOf
       text-refused = ap (λ (b : Bool). cond b (countsText (countsOf t′)) (refusedText number line)) (sym (ne-eqb number 0 ne))
 
       pub census-refused : (out : List ℕ) (p : Put) → p ≡ putText number (refusedText number line) out → result p t′ s′ ≡ censusOf input t s out
       unfolding censusOf
-      census-refused out p h = (λ i. result ((h ∙ ap (λ (x : List ℕ). putText number x out) text-refused) i) t′ s′) ∙ ap (λ (r : Outcome). resultFrom r out) e
+      census-refused out p h = (λ i. result ((h ∙ ap (λ (x : List ℕ). putText number x out) text-refused) i) t′ s′)
+          ∙ ap (λ (r : TablesAfter). resultFrom r out) e
 
       pub refused-most : length (refusedText number line) ≤ 128 → length (textOf (readInputOf t s input)) ≤ 128
       refused-most h = subst (λ (x : List ℕ). length x ≤ 128) (text-refused ∙ ap textOf e) h
 
     module _ (z : number ≡ 0) where
-      text-counted : countsText (countsOf t′) ≡ textOf (outcome number line t′ s′)
+      text-counted : countsText (countsOf t′) ≡ textOf (tablesAfter number line t′ s′)
       unfolding textOf
       text-counted = ap (λ (b : Bool). cond b (countsText (countsOf t′)) (refusedText number line)) (sym (eq-eqb number 0 z))
 
       pub census-counted : (out : List ℕ) (p : Put) → p ≡ putText 0 (countsText (countsOf t′)) out → result p t′ s′ ≡ censusOf input t s out
       unfolding censusOf
       census-counted out p h =
-          (λ i. result ((h ∙ (λ k. putText (sym z k) (text-counted k) out)) i) t′ s′) ∙ ap (λ (r : Outcome). resultFrom r out) e
+          (λ i. result ((h ∙ (λ k. putText (sym z k) (text-counted k) out)) i) t′ s′) ∙ ap (λ (r : TablesAfter). resultFrom r out) e
 
       pub counted-most : length (countsText (countsOf t′)) ≤ 128 → length (textOf (readInputOf t s input)) ≤ 128
       counted-most h = subst (λ (x : List ℕ). length x ≤ 128) (text-counted ∙ ap textOf e) h

@@ -8,7 +8,7 @@ use Prim.Native.Nat.{ℕ, _+_, _-_, _≤_}
 use native.Mathlib.Omega.{arith}
 use borrow.Author.Tests.{le-ltb}
 use lib.ListN.{length, drop, length-append, length-drop}
-use Rattle.readers.specs.Readers.{Outcome}
+use Rattle.readers.specs.Readers.{TablesAfter}
 use Rattle.census_text.specs.Census.{Put, put, putText, Result, result, resultFrom, readInputOf, textOf, censusOf, freeTable, programText}
 
 -- a text written where there is room for it
@@ -30,7 +30,7 @@ module _ (input out : List ℕ) (number w : ℕ) (out′ t′ s′ : List ℕ) (
       → (w ≡ length (programText input)) × (w ≤ length out) × (out′ ≡ programText input ++ drop w out)
   unfolding censusOf programText
   program-text h =
-      let r : Outcome = readInputOf freeTable freeTable input in
+      let r : TablesAfter = readInputOf freeTable freeTable input in
       let p : put number w out′ ≡ put (r .number) (length (textOf r)) (textOf r ++ drop (length (textOf r)) out) =
       ap (λ (x : Result). x .put) e ∙ text-put (r .number) (textOf r) out h in
       let l : w ≡ length (textOf r) = ap (λ (x : Put). x .written) p in

@@ -5,7 +5,7 @@
 ghost use mathlib.Core.Path.{_≡_};
 ghost use Prim.Native.Nat.{_≤_};
 ghost use lib.ListN.{length};
-ghost use Rattle.readers.specs.Readers.{outcome};
+ghost use Rattle.readers.specs.Readers.{tablesAfter};
 ghost use Rattle.census_text.specs.Census.{textOf, readInputOf, put, result, censusOf};
 ghost use Rattle.census_text.specs.InputLaws.{longOf};
 
@@ -28,7 +28,7 @@ const MOST_INPUT: usize = 65536;
 
 // Refuses an input that is too long.
 fn refuse_long(table: &mut [u8], scratch: &mut [u8]) -> ReadBack
-    ensures { λ r. ⌜ outcome (r .number) (r .line) (now (table .exit)) (now (scratch .exit)) ≡ longOf (now (table .entry)) (now (scratch .entry)) ⌝ }
+    ensures { λ r. ⌜ tablesAfter (r .number) (r .line) (now (table .exit)) (now (scratch .exit)) ≡ longOf (now (table .entry)) (now (scratch .entry)) ⌝ }
 {
     let n = prepare(table, scratch);
     let number = if n == 0 { NOT_IN_ORDER } else { NO_ROOM };
@@ -37,7 +37,7 @@ fn refuse_long(table: &mut [u8], scratch: &mut [u8]) -> ReadBack
 
 // Reads the input into the table.
 fn read_input(input: &[u8], table: &mut [u8], scratch: &mut [u8]) -> ReadBack
-    ensures { λ r. ⌜ outcome (r .number) (r .line) (now (table .exit)) (now (scratch .exit))
+    ensures { λ r. ⌜ tablesAfter (r .number) (r .line) (now (table .exit)) (now (scratch .exit))
         ≡ readInputOf (now (table .entry)) (now (scratch .entry)) (now (input .entry)) ⌝ }
 {
     if MOST_INPUT < input.len() {

@@ -1,5 +1,6 @@
 -- Document 01, "Census program", in antt: what is counted of a table.
 pub mod Counts
+pub mod Count
 -- what the promises of the functions below cite besides
 pub mod Earlier
 -- their laws
@@ -10,5 +11,6 @@ pub mod PairLaws
 pub mod FaceLaws
 pub mod DegreeLaws
 pub mod CaseLaws
+pub mod CountLaws
 -- examples that compute
 pub mod Examples

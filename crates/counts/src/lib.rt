@@ -1,6 +1,7 @@
 // What a census counts of a table: document 01's V, E, F and the records by degree.
 //
-// `counts_of` gives them all. pairs.rt and faces.rt count each pair and each face once, at the first vertex that names it, with no memory but a few words.
+// `counts_of` gives them all, `count` those of any bytes in a lent row. pairs.rt and faces.rt count each pair and each face once, at the first vertex
+// that names it, with no memory but a few words.
 // The promise cites specs/Counts.
 ghost use mathlib.Core.Path.{_≡_};
 ghost use Rattle.table.specs.Slots.{slotsOf};
@@ -11,11 +12,14 @@ mod degrees;
 mod earlier;
 mod faces;
 mod pairs;
+mod rows;
 
 use crate::degrees::count_degree;
 use crate::degrees::count_vertices;
 use crate::faces::count_faces;
 use crate::pairs::count_edges;
+pub use rows::COUNTS;
+pub use rows::count;
 
 // Document 01's numbers: V, E, F, and the records by degree.
 pub struct Counts {

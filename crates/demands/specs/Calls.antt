@@ -1,6 +1,7 @@
 -- Every call that may be made with anything: what it is lent, what is known of it afterwards, and the definition that its promise cites. A promise is
--- `outcome ≡ does call lent`, for all that can be lent. They are document 01's calls; ours, `subdivide_all`; and what floors above stand on,
--- `in_order`, `parse_line`, `prepare`. All else that crates make public is a part of these that a floor above needs, and no call of the library.
+-- `outcome ≡ does call lent`, for all that can be lent. They are document 01's calls; ours, `subdivide_all`, the queries of many points and `count`; and
+-- what floors above stand on, `in_order`, `parse_line`, `prepare`. All else that crates make public is a part of these that a floor above needs, and
+-- no call of the library.
 -- `one-outcome` two outcomes that a promise allows are equal · `prepare-one` the same of `prepare`, whose promise is by cases · `one-told` whatever is
 -- told of an outcome is one: so the C names, whose promises are these equations with the points in a row (`pointNumbers`, `answerNumbers`).
 -- Assumes nothing.
@@ -22,15 +23,16 @@ use Rattle.text.specs.declared.line.Line.{Line}
 use Rattle.base.specs.Base as laid
 use Rattle.mesh.specs.Subdivide as divided
 use Rattle.queries.specs.Queries.{neighboursOf, facesOf}
-use Rattle.queries.specs.Many.{Answered, neighboursAllOf, facesAllOf}
+use Rattle.queries.specs.Many.{AnswersAfter, neighboursAllOf, facesAllOf}
 use Rattle.writers.specs.Files as written
 use Rattle.readers.specs.Readers as read
 use Rattle.readers.specs.BeginLaws.{Prepared, unfit, fit}
+use Rattle.counts.specs.Count.{CountsAfter, countOf}
 use Rattle.census_text.specs.Census as counted
 
 pub data Call : Type 0 where
   normalise star base subdivide subdivideAll neighbours faces neighboursAll facesAll : Call
-  writeFull writeReduced readFull readReduced census inOrder parseLine : Call
+  writeFull writeReduced readFull readReduced census counts inOrder parseLine : Call
 
 -- lent bytes are lists of ℕ, lent whole numbers lists of ℤ
 abbrev pub Lent : Call → Type 0
@@ -48,6 +50,7 @@ Lent writeReduced = List ℕ × List ℕ
 Lent readFull = List ℕ × List ℕ × List ℕ
 Lent readReduced = List ℕ × List ℕ × List ℕ
 Lent census = List ℕ × List ℕ × List ℕ × List ℕ
+Lent counts = List ℕ
 Lent inOrder = List ℕ
 Lent parseLine = List ℕ × ℕ
 
@@ -55,18 +58,19 @@ Lent parseLine = List ℕ × ℕ
 abbrev pub Outcome : Call → Type 0
 Outcome normalise = Point
 Outcome star = Answer
-Outcome base = laid.Answered
-Outcome subdivide = divided.Outcome
+Outcome base = laid.BaseAfter
+Outcome subdivide = divided.MeshAfter
 Outcome subdivideAll = divided.Many
 Outcome neighbours = Answer
 Outcome faces = Answer
-Outcome neighboursAll = Answered
-Outcome facesAll = Answered
-Outcome writeFull = written.Outcome
-Outcome writeReduced = written.Outcome
-Outcome readFull = read.Outcome
-Outcome readReduced = read.Outcome
+Outcome neighboursAll = AnswersAfter
+Outcome facesAll = AnswersAfter
+Outcome writeFull = written.OutputAfter
+Outcome writeReduced = written.OutputAfter
+Outcome readFull = read.TablesAfter
+Outcome readReduced = read.TablesAfter
 Outcome census = counted.Result
+Outcome counts = CountsAfter
 Outcome inOrder = Bool
 Outcome parseLine = Line
 
@@ -85,6 +89,7 @@ does writeReduced (t, out) = written.writeReducedOf t out
 does readFull (t, s, f) = read.readFullOf t s f
 does readReduced (t, s, f) = read.readReducedOf t s f
 does census (i, t, s, out) = counted.censusOf i t s out
+does counts t = countOf t
 does inOrder t = inOrderOf t
 does parseLine (f, p) = lineAt f p
 

@@ -155,7 +155,7 @@ module _ (t s f : List ℕ) where
       judged u true = refl
       judged u false = refl
 
-      go : (b : Bool) (x : Lines) → cond b (endFull t s x) (read.outcome 1 0 t s) .line ≡ cond b (lineIn x) 0
+      go : (b : Bool) (x : Lines) → cond b (endFull t s x) (read.tablesAfter 1 0 t s) .line ≡ cond b (lineIn x) 0
       go false x = refl
       go true (Fault n i) = refl
       go true (Read rs u) = judged u (isGrown u)
@@ -173,7 +173,7 @@ module _ (t s f : List ℕ) where
       restored rs (Stopped n) = refl
       restored rs (With u) = judged u (isGrown u) (someOf (redundant u) rs)
 
-      go : (b : Bool) (x : Lines) → cond b (endReduced t s x) (read.outcome 1 0 t s) .line ≡ cond b (lineIn x) 0
+      go : (b : Bool) (x : Lines) → cond b (endReduced t s x) (read.tablesAfter 1 0 t s) .line ≡ cond b (lineIn x) 0
       go false x = refl
       go true (Fault n i) = refl
       go true (Read rs u) = restored rs (restoreAll rs (With u))

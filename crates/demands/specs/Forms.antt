@@ -65,16 +65,16 @@ triple-spelling t ps ps′ i h =
     same-choice (isByte (mAt ps i)) (isByte (mAt ps′ i))
     (subdivideOf t (aAt ps i) (bAt ps i) (natAbs (mAt ps i)))
     (subdivideOf t (aAt ps′ i) (bAt ps′ i) (natAbs (mAt ps′ i)))
-    (divided.outcome 3 t) (h .byte)
+    (divided.meshAfter 3 t) (h .byte)
     (λ e.
     let one = one-form (aAt ps i) (bAt ps i) (natAbs (mAt ps i)) (aAt ps′ i) (bAt ps′ i) (natAbs (mAt ps′ i)) (h .point e) in
     subdivide-spelling (aAt ps i) (bAt ps i) (natAbs (mAt ps i)) (aAt ps′ i) (bAt ps′ i) (natAbs (mAt ps′ i)) t one)
 
 -- one turn: the answer of triple i, and what follows it
-abbrev turn : List ℕ → ℕ → (List ℕ → Many) → divided.Outcome → Many
+abbrev turn : List ℕ → ℕ → (List ℕ → Many) → divided.MeshAfter → Many
 turn t i f o = cond (eqb (o .number) 0) (f (o .bytes)) (record { number = o .number; done = i; bytes = t })
 
-turn-same : (t : List ℕ) (i : ℕ) (f g : List ℕ → Many) → ((u : List ℕ) → f u ≡ g u) → (o : divided.Outcome) → turn t i f o ≡ turn t i g o
+turn-same : (t : List ℕ) (i : ℕ) (f g : List ℕ → Many) → ((u : List ℕ) → f u ≡ g u) → (o : divided.MeshAfter) → turn t i f o ≡ turn t i g o
 turn-same t i f g h o = ap (λ (x : Many). cond (eqb (o .number) 0) x (record { number = o .number; done = i; bytes = t })) (h (o .bytes))
 
 from-spelling : (ps ps′ : List ℤ) (left : ℕ) (t : List ℕ) (i : ℕ) → ((j : ℕ) → j < i + left → OneTriple ps ps′ j)

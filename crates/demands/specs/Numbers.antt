@@ -122,7 +122,8 @@ unfolding baseOf
 base-number t cs = go (fitsLength (length t)) (unpaired cs) (ltb (badPlace cs) (centresIn cs)) (laidOf t cs)
   where
     go : (f o b : Bool) (l : Laid)
-        → cond f (cond o (laid.answered 2 0 (clearedOf t)) (cond b (laid.answered 2 (badPlace cs) (clearedOf t)) (fromLaid t l))) (laid.answered 1 0 t) .number
+        → cond f (cond o (laid.baseAfter 2 0 (clearedOf t)) (cond b (laid.baseAfter 2 (badPlace cs) (clearedOf t)) (fromLaid t l)))
+        (laid.baseAfter 1 0 t) .number
         ≡ firstOf (not f ⇒ 1 ∷ o ⇒ 2 ∷ b ⇒ 2 ∷ noRoom l ⇒ 8 ∷ [])
     go false o b l = refl
     go true true b l = refl
@@ -137,7 +138,8 @@ unfolding baseOf
 base-place t cs = go (fitsLength (length t)) (unpaired cs) (ltb (badPlace cs) (centresIn cs)) (laidOf t cs)
   where
     go : (f o b : Bool) (l : Laid)
-        → cond f (cond o (laid.answered 2 0 (clearedOf t)) (cond b (laid.answered 2 (badPlace cs) (clearedOf t)) (fromLaid t l))) (laid.answered 1 0 t) .place
+        → cond f (cond o (laid.baseAfter 2 0 (clearedOf t)) (cond b (laid.baseAfter 2 (badPlace cs) (clearedOf t)) (fromLaid t l)))
+        (laid.baseAfter 1 0 t) .place
         ≡ cond (f && (not o && b)) (badPlace cs) 0
     go false o b l = refl
     go true true b l = refl
@@ -163,11 +165,11 @@ subdivide-number t a b m = go (inOrderOf t) (lookUp t (normalOf a b m))
   where
     at : (v : Record) (six last deep t7 few : Bool)
         → cond six
-        (cond last (divided.outcome 5 t)
-        (cond deep (divided.outcome 6 t)
-        (cond t7 (divided.outcome 7 t)
-        (cond few (divided.outcome 8 t) (divided.outcome 0 (subdivided t v))))))
-        (divided.outcome 4 t) .number
+        (cond last (divided.meshAfter 5 t)
+        (cond deep (divided.meshAfter 6 t)
+        (cond t7 (divided.meshAfter 7 t)
+        (cond few (divided.meshAfter 8 t) (divided.meshAfter 0 (subdivided t v))))))
+        (divided.meshAfter 4 t) .number
         ≡ firstOf (not six ⇒ 4 ∷ last ⇒ 5 ∷ deep ⇒ 6 ∷ t7 ⇒ 7 ∷ few ⇒ 8 ∷ [])
     at v false last deep t7 few = refl
     at v true true deep t7 few = refl
@@ -177,7 +179,7 @@ subdivide-number t a b m = go (inOrderOf t) (lookUp t (normalOf a b m))
     at v true false false false false = refl
 
     go : (o : Bool) (l : Looked)
-        → cond o (subdivideLooked t l) (divided.outcome 1 t) .number
+        → cond o (subdivideLooked t l) (divided.meshAfter 1 t) .number
         ≡ firstOf
         (not o ⇒ 1
         ∷ not (isHeld l) ⇒ 3
@@ -228,7 +230,8 @@ unfolding writeOf putOf
 write-number file t out = go (inOrderOf t) (ltb (length out) (length file))
   where
     go : (o s : Bool)
-        → cond o (cond s (written.outcome 13 0 out) (written.outcome 0 (length file) (file ++ drop (length file) out))) (written.outcome 1 0 out) .number
+        → cond o (cond s (written.outputAfter 13 0 out) (written.outputAfter 0 (length file) (file ++ drop (length file) out)))
+        (written.outputAfter 1 0 out) .number
         ≡ firstOf (not o ⇒ 1 ∷ s ⇒ 13 ∷ [])
     go false s = refl
     go true true = refl

@@ -19,4 +19,4 @@ pub use Rattle.queries.specs.QueryLaws.{neighbours-spelling, faces-spelling}
 module _ (a b : ℤ) (m : ℕ) (a′ b′ : ℤ) (m′ : ℕ) where
   pub subdivide-spelling : (t : List ℕ) → normalOf a b m ≡ normalOf a′ b′ m′ → subdivideOf t a b m ≡ subdivideOf t a′ b′ m′
   unfolding subdivideOf
-  subdivide-spelling t e = ap (λ (p : Point). cond (inOrderOf t) (subdivideLooked t (lookUp t p)) (divided.outcome 1 t)) e
+  subdivide-spelling t e = ap (λ (p : Point). cond (inOrderOf t) (subdivideLooked t (lookUp t p)) (divided.meshAfter 1 t)) e

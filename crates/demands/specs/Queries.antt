@@ -13,7 +13,7 @@ use Rattle.lattice.specs.declared.stars.Answer.{Answer}
 use Rattle.table.specs.Order.{inOrderOf}
 use Rattle.queries.specs.Queries.{neighboursOf, facesOf}
 use Rattle.laws.specs.Triples.{triplesIn}
-use Rattle.queries.specs.Many.{tripleOf, answerWidth, answerRow, answersTo, answered, Answered, allOf, neighboursAllOf, facesAllOf}
+use Rattle.queries.specs.Many.{tripleOf, answerWidth, answerRow, answersTo, answersAfter, AnswersAfter, allOf, neighboursAllOf, facesAllOf}
 use Rattle.queries.specs.ManyLaws.{query-twenty, all-answer}
 use Rattle.queries.specs.declared.answers.Query.the-variants.{Neighbours, Faces}
 
@@ -36,11 +36,11 @@ module _ (t : List ℕ) (ps out : List ℤ) where
   unfolding allOf
   as-lent query h = go (inOrderOf t) (leb (answerWidth * triplesIn ps) (length out)) h
     where
-      all : Bool → Bool → Answered
+      all : Bool → Bool → AnswersAfter
       all ordered room =
-          unless ordered (answered 1 out)
-          (unless room (answered 13 out)
-          (answered 0 (answersTo (tripleOf query ps) (triplesIn ps) ++ drop (answerWidth * triplesIn ps) out)))
+          unless ordered (answersAfter 1 out)
+          (unless room (answersAfter 13 out)
+          (answersAfter 0 (answersTo (tripleOf query ps) (triplesIn ps) ++ drop (answerWidth * triplesIn ps) out)))
 
       go : (o r : Bool) → (all o r .number ≡ 0 → ⊥) → all o r .answers ≡ out
       go false r h = refl

@@ -155,7 +155,7 @@ full-number t s f = go (lengthsFit t s) (readLines f (clearedOf t))
     judged u true = refl
     judged u false = refl
 
-    go : (b : Bool) (x : Lines) → cond b (endFull t s x) (read.outcome 1 0 t s) .number
+    go : (b : Bool) (x : Lines) → cond b (endFull t s x) (read.tablesAfter 1 0 t s) .number
         ≡ firstOf (not b ⇒ 1 ∷ isFault x ⇒ numberIn x ∷ ofRead (λ rs u. not (isGrown u)) x ⇒ 11 ∷ [])
     go false x = refl
     go true (Fault n i) = refl
@@ -168,7 +168,7 @@ pub census-number : (t s input : List ℕ)
 unfolding readInputOf
 census-number t s input = go (lengthsFit t s) (ltb mostInput (length input))
   where
-    go : (b long : Bool) → cond b (cond long (read.refused 8 0 t s) (readFullOf t s input)) (read.outcome 1 0 t s) .number
+    go : (b long : Bool) → cond b (cond long (read.refused 8 0 t s) (readFullOf t s input)) (read.tablesAfter 1 0 t s) .number
         ≡ firstOf (not b ⇒ 1 ∷ long ⇒ 8 ∷ fullRules t s (readLines input (clearedOf t)))
     go false long = refl
     go true true = refl
@@ -203,7 +203,7 @@ reduced-number t s f = go (lengthsFit t s) (readLines f (clearedOf t))
     ended rs u (Stopped n) = refl
     ended rs u (With v) = judged v (isGrown v) (someOf (redundant v) rs)
 
-    go : (b : Bool) (x : Lines) → cond b (endReduced t s x) (read.outcome 1 0 t s) .number
+    go : (b : Bool) (x : Lines) → cond b (endReduced t s x) (read.tablesAfter 1 0 t s) .number
         ≡ firstOf
         (not b ⇒ 1
         ∷ isFault x ⇒ numberIn x
@@ -231,13 +231,13 @@ empty-not t s h =
 pub full-empty : (t s : List ℕ) → lengthsFit t s ≡ true → readFullOf t s [] ≡ read.refused 11 0 t s
 unfolding readFullOf linesFrom
 full-empty t s h =
-    ap (λ (b : Bool). cond b (endFull t s (Read [] (clearedOf t))) (read.outcome 1 0 t s)) h
+    ap (λ (b : Bool). cond b (endFull t s (Read [] (clearedOf t))) (read.tablesAfter 1 0 t s)) h
     ∙ ap (λ (g : Bool). cond g (read.accepted (clearedOf t) s) (read.refused 11 0 t s)) (empty-not t s h)
 
 pub reduced-empty : (t s : List ℕ) → lengthsFit t s ≡ true → readReducedOf t s [] ≡ read.refused 11 0 t s
 unfolding readReducedOf linesFrom restoreAll
 reduced-empty t s h =
-    ap (λ (b : Bool). cond b (endRestored t s [] (With (clearedOf t))) (read.outcome 1 0 t s)) h
+    ap (λ (b : Bool). cond b (endRestored t s [] (With (clearedOf t))) (read.tablesAfter 1 0 t s)) h
     ∙ ap (λ (g : Bool). cond g (read.accepted (clearedOf t) s) (read.refused 11 0 t s)) (empty-not t s h)
 
 -- `isGrown` is the decision of document 01's "grown": where it fails, the records are not

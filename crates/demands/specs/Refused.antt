@@ -29,7 +29,7 @@ use Rattle.table.specs.Slots.{fitsLength, clearedOf}
 use Rattle.table.specs.Order.{inOrderOf}
 use Rattle.base.specs.Base.{Laid, Room, NoRoom, baseOf, unpaired, badPlace, centresIn, laidOf, fromLaid}
 use Rattle.base.specs.Base as laid
-use Rattle.mesh.specs.Subdivide.{Outcome, subdivideOf, subdivideAllOf}
+use Rattle.mesh.specs.Subdivide.{MeshAfter, subdivideOf, subdivideAllOf}
 use Rattle.mesh.specs.CaseLaws.{Subdivision, subdivision}
 use Rattle.mesh.specs.CaseLaws as cases
 use Rattle.writers.specs.Files.{writeOf, putOf, redundant}
@@ -49,8 +49,8 @@ pub subdivide-untouched : (t : List ℕ) (a b : ℤ) (m : ℕ) → subdivideOf t
 subdivide-untouched t a b m n = go (subdivision t a b m)
   where
     go : Subdivision t a b m → subdivideOf t a b m .bytes ≡ t
-    go (cases.refused x k e) = sym (ap (λ (o : Outcome). o .bytes) e)
-    go (cases.made v h l w e) = absurd (n (sym (ap (λ (o : Outcome). o .number) e)))
+    go (cases.refused x k e) = sym (ap (λ (o : MeshAfter). o .bytes) e)
+    go (cases.made v h l w e) = absurd (n (sym (ap (λ (o : MeshAfter). o .number) e)))
 
 -- of a list, those before the refused one stand; none do where the table is not in order
 pub all-untouched : (t : List ℕ) (ps : List ℤ) → inOrderOf t ≡ false → subdivideAllOf t ps ≡ record { number = 1; done = 0; bytes = t }
@@ -98,8 +98,8 @@ faces-refused t a b m =
 
 -- ---- writers
 module _ (file t out : List ℕ) where
-  abbrev put : Bool → Bool → written.Outcome
-  put o s = cond o (cond s (written.outcome 13 0 out) (written.outcome 0 (length file) (file ++ drop (length file) out))) (written.outcome 1 0 out)
+  abbrev put : Bool → Bool → written.OutputAfter
+  put o s = cond o (cond s (written.outputAfter 13 0 out) (written.outputAfter 0 (length file) (file ++ drop (length file) out))) (written.outputAfter 1 0 out)
 
   pub write-untouched : writeOf file t out .number ≢ 0 → (writeOf file t out .out ≡ out) × (writeOf file t out .bytes ≡ 0)
   unfolding writeOf putOf
@@ -112,14 +112,15 @@ module _ (file t out : List ℕ) where
 
 -- ---- base
 module _ (t : List ℕ) (cs : List ℤ) where
-  abbrev based : Bool → Bool → Bool → Laid → laid.Answered
-  based f o b l = cond f (cond o (laid.answered 2 0 (clearedOf t)) (cond b (laid.answered 2 (badPlace cs) (clearedOf t)) (fromLaid t l))) (laid.answered 1 0 t)
+  abbrev based : Bool → Bool → Bool → Laid → laid.BaseAfter
+  based f o b l = cond f (cond o (laid.baseAfter 2 0 (clearedOf t)) (cond b (laid.baseAfter 2 (badPlace cs) (clearedOf t)) (fromLaid t l)))
+      (laid.baseAfter 1 0 t)
 
-  pub base-untouched : baseOf t cs .number ≡ 1 → baseOf t cs ≡ laid.answered 1 0 t
+  pub base-untouched : baseOf t cs .number ≡ 1 → baseOf t cs ≡ laid.baseAfter 1 0 t
   unfolding baseOf
   base-untouched = go (fitsLength (length t)) (unpaired cs) (ltb (badPlace cs) (centresIn cs)) (laidOf t cs)
     where
-      go : (f o b : Bool) (l : Laid) → based f o b l .number ≡ 1 → based f o b l ≡ laid.answered 1 0 t
+      go : (f o b : Bool) (l : Laid) → based f o b l .number ≡ 1 → based f o b l ≡ laid.baseAfter 1 0 t
       go false o b l e = refl
       go true true b l e = absurd (omega arith)
       go true false true l e = absurd (omega arith)
@@ -143,8 +144,8 @@ module _ (t : List ℕ) (cs : List ℤ) where
 abbrev pub Late : ℕ → Type 0
 Late n = (n ≡ 8) ⊎ ((n ≡ 11) ⊎ (n ≡ 12))
 
-pub data Ending (t s f : List ℕ) (o : read.Outcome) : Type 0 where
-  unfit : o ≡ read.outcome 1 0 t s → Ending t s f o
+pub data Ending (t s f : List ℕ) (o : read.TablesAfter) : Type 0 where
+  unfit : o ≡ read.tablesAfter 1 0 t s → Ending t s f o
   on-line : (n i : ℕ) → 8 ≤ n → n ≤ 10 → FaultAt f (begin (clearedOf t)) n i → o ≡ read.refused n i t s → Ending t s f o
   after-lines : (n : ℕ) → Late n → o ≡ read.refused n 0 t s → Ending t s f o
   done : (u : List ℕ) → o ≡ read.accepted u s → Ending t s f o
@@ -172,7 +173,7 @@ module _ (t s f : List ℕ) where
       judged u true = done u refl
       judged u false = after-lines 11 (inr (inl refl)) refl
 
-      go : (b : Bool) (x : Lines) → readLines f (clearedOf t) ≡ x → Ending t s f (cond b (endFull t s x) (read.outcome 1 0 t s))
+      go : (b : Bool) (x : Lines) → readLines f (clearedOf t) ≡ x → Ending t s f (cond b (endFull t s x) (read.tablesAfter 1 0 t s))
       go false x e = unfit refl
       go true (Fault n i) e = faulty n i e
       go true (Read rs u) e = judged u (isGrown u)
@@ -193,16 +194,16 @@ module _ (t s f : List ℕ) where
           after-lines n (met-late n (met-number (metIn rs) u n (restore-first rs u n e) z)) refl
       restored rs u (With w) e = judged w (isGrown w) (someOf (redundant w) rs)
 
-      go : (b : Bool) (x : Lines) → readLines f (clearedOf t) ≡ x → Ending t s f (cond b (endReduced t s x) (read.outcome 1 0 t s))
+      go : (b : Bool) (x : Lines) → readLines f (clearedOf t) ≡ x → Ending t s f (cond b (endReduced t s x) (read.tablesAfter 1 0 t s))
       go false x e = unfit refl
       go true (Fault n i) e = faulty n i e
       go true (Read rs u) e = restored rs u (restoreAll rs (With u)) refl
 
-module _ (t s f : List ℕ) (o : read.Outcome) where
-  number-is : (x : read.Outcome) → o ≡ x → o .number ≡ x .number
-  number-is x e = ap (λ (y : read.Outcome). y .number) e
+module _ (t s f : List ℕ) (o : read.TablesAfter) where
+  number-is : (x : read.TablesAfter) → o ≡ x → o .number ≡ x .number
+  number-is x e = ap (λ (y : read.TablesAfter). y .number) e
 
-  pub read-untouched : Ending t s f o → o .number ≡ 1 → o ≡ read.outcome 1 0 t s
+  pub read-untouched : Ending t s f o → o .number ≡ 1 → o ≡ read.tablesAfter 1 0 t s
   read-untouched (unfit e) h = e
   read-untouched (on-line n i l m w e) h = let k : o .number ≡ n = number-is (read.refused n i t s) e in absurd (omega arith)
   read-untouched (after-lines n l e) h =
@@ -210,16 +211,16 @@ module _ (t s f : List ℕ) (o : read.Outcome) where
   read-untouched (done u e) h = let k : o .number ≡ 0 = number-is (read.accepted u s) e in absurd (omega arith)
 
   pub read-cleared : Ending t s f o → o .number ≢ 0 → o .number ≢ 1 → o .table ≡ clearedOf t
-  read-cleared (unfit e) z h = absurd (h (number-is (read.outcome 1 0 t s) e))
-  read-cleared (on-line n i l m w e) z h = ap (λ (x : read.Outcome). x .table) e
-  read-cleared (after-lines n l e) z h = ap (λ (x : read.Outcome). x .table) e
+  read-cleared (unfit e) z h = absurd (h (number-is (read.tablesAfter 1 0 t s) e))
+  read-cleared (on-line n i l m w e) z h = ap (λ (x : read.TablesAfter). x .table) e
+  read-cleared (after-lines n l e) z h = ap (λ (x : read.TablesAfter). x .table) e
   read-cleared (done u e) z h = absurd (z (number-is (read.accepted u s) e))
 
   pub scratch-cleared : Ending t s f o → o .number ≢ 1 → o .scratch ≡ clearedOf s
-  scratch-cleared (unfit e) h = absurd (h (number-is (read.outcome 1 0 t s) e))
-  scratch-cleared (on-line n i l m w e) h = ap (λ (x : read.Outcome). x .scratch) e
-  scratch-cleared (after-lines n l e) h = ap (λ (x : read.Outcome). x .scratch) e
-  scratch-cleared (done u e) h = ap (λ (x : read.Outcome). x .scratch) e
+  scratch-cleared (unfit e) h = absurd (h (number-is (read.tablesAfter 1 0 t s) e))
+  scratch-cleared (on-line n i l m w e) h = ap (λ (x : read.TablesAfter). x .scratch) e
+  scratch-cleared (after-lines n l e) h = ap (λ (x : read.TablesAfter). x .scratch) e
+  scratch-cleared (done u e) h = ap (λ (x : read.TablesAfter). x .scratch) e
 
 -- ---- the census
 module _ (number : ℕ) (text out : List ℕ) where

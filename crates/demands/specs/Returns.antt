@@ -20,20 +20,20 @@ use Rattle.table.specs.Order.{InOrder, inOrderOf}
 use Rattle.table.specs.MapLaws.{order-test}
 use Rattle.table.specs.Entries.{lookUp, recordsOf}
 use Rattle.mesh.specs.Grown.{Grown}
-use Rattle.writers.specs.Files.{Outcome, outcome, writeOf, putOf, writeReducedOf, reducedFile}
+use Rattle.writers.specs.Files.{OutputAfter, outputAfter, writeOf, putOf, writeReducedOf, reducedFile}
 use Rattle.readers.specs.Readers.{lengthsFit, readReducedOf}
 use Rattle.archive.specs.Returns.{Returns}
 pub use Rattle.archive.specs.Reduced.{reduced-one, reduced-returns, reduced-accepted, reduced-count, kept-twelve, twelve-kept}
 pub use Rattle.archive.specs.Full.{full-one, full-returns, full-accepted, full-count}
 
 -- what a writer leaves: as many bytes of its output as it tells
-abbrev pub writtenBy : Outcome → List ℕ
+abbrev pub writtenBy : OutputAfter → List ℕ
 writtenBy o = take (o .bytes) (o .out)
 
 -- it is the file, where the output was long enough
 module _ (file t out : List ℕ) where
-  abbrev ended : Bool → Bool → Outcome
-  ended o s = cond o (cond s (outcome 13 0 out) (outcome 0 (length file) (file ++ drop (length file) out))) (outcome 1 0 out)
+  abbrev ended : Bool → Bool → OutputAfter
+  ended o s = cond o (cond s (outputAfter 13 0 out) (outputAfter 0 (length file) (file ++ drop (length file) out))) (outputAfter 1 0 out)
 
   written-file : writeOf file t out .number ≡ 0 → writtenBy (writeOf file t out) ≡ file
   unfolding writeOf putOf

@@ -2,14 +2,16 @@
 ghost use mathlib.Core.Path.{_≡_};
 ghost use Prim.Native.Nat.{_≤_};
 ghost use lib.ListN.{length};
-ghost use Rattle.writers.specs.Files.{outcome, writeFullOf, writeReducedOf};
+ghost use Rattle.writers.specs.Files.{outputAfter, writeFullOf, writeReducedOf};
 ghost use Rattle.readers.specs.Readers as reader;
+ghost use Rattle.counts.specs.Count.{countOf};
 ghost use Rattle.census_text.specs.Census.{put, result, censusOf, textOf, readInputOf};
+use counts::COUNTS;
 
 // Writes the full file, or 1, 13; written: its bytes, 0 if refused.
 #[no_mangle]
 pub extern "C" fn fb_write_full(table: &[u8], out: &mut [u8], written: &mut u64) -> u8
-    ensures { λ r. ⌜ outcome r (now (written .exit)) (now (out .exit)) ≡ writeFullOf (now (table .entry)) (now (out .entry)) ⌝ }
+    ensures { λ r. ⌜ outputAfter r (now (written .exit)) (now (out .exit)) ≡ writeFullOf (now (table .entry)) (now (out .entry)) ⌝ }
 {
     let file = writers::write_full(table, out);
     *written = file.bytes;
@@ -19,7 +21,7 @@ pub extern "C" fn fb_write_full(table: &[u8], out: &mut [u8], written: &mut u64)
 // Writes the reduced file, or 1, 13; written: its bytes, 0 if refused.
 #[no_mangle]
 pub extern "C" fn fb_write_reduced(table: &[u8], out: &mut [u8], written: &mut u64) -> u8
-    ensures { λ r. ⌜ outcome r (now (written .exit)) (now (out .exit)) ≡ writeReducedOf (now (table .entry)) (now (out .entry)) ⌝ }
+    ensures { λ r. ⌜ outputAfter r (now (written .exit)) (now (out .exit)) ≡ writeReducedOf (now (table .entry)) (now (out .entry)) ⌝ }
 {
     let file = writers::write_reduced(table, out);
     *written = file.bytes;
@@ -35,7 +37,7 @@ pub extern "C" fn fb_read_full(
     line: &mut u64,
 ) -> u8
     ensures { λ r. ⌜
-        reader.outcome r (now (line .exit)) (now (table .exit)) (now (scratch .exit))
+        reader.tablesAfter r (now (line .exit)) (now (table .exit)) (now (scratch .exit))
         ≡ reader.readFullOf (now (table .entry)) (now (scratch .entry)) (now (file .entry))
         ⌝ }
 {
@@ -53,7 +55,7 @@ pub extern "C" fn fb_read_reduced(
     line: &mut u64,
 ) -> u8
     ensures { λ r. ⌜
-        reader.outcome r (now (line .exit)) (now (table .exit)) (now (scratch .exit))
+        reader.tablesAfter r (now (line .exit)) (now (table .exit)) (now (scratch .exit))
         ≡ reader.readReducedOf (now (table .entry)) (now (scratch .entry)) (now (file .entry))
         ⌝ }
 {
@@ -80,4 +82,13 @@ pub extern "C" fn fb_census(
     let census = census_text::census(input, table, scratch, out);
     *written = census.written;
     census.number
+}
+
+// The census's numbers of a table, V E F d0 d3 d4 d5 d6; or 1, and all zeros.
+#[no_mangle]
+pub extern "C" fn fb_counts(table: &[u8], numbers: &mut [u32; COUNTS]) -> u8
+    ensures { λ r. ⌜ r ≡ countOf (now (table .entry)) .number ⌝ }
+    ensures { λ _. ⌜ now (numbers .exit) ≡ countOf (now (table .entry)) .counted ⌝ }
+{
+    counts::count(table, numbers)
 }

@@ -1,12 +1,12 @@
 // The calls that make and change a table.
 ghost use mathlib.Core.Path.{_≡_};
-ghost use Rattle.base.specs.Base.{answered, baseOf};
+ghost use Rattle.base.specs.Base.{baseAfter, baseOf};
 ghost use Rattle.mesh.specs.Subdivide.{subdivideOf, subdivideAllOf};
 
 // Lays hexagons into a cleared table, or 1, 2, 8; place: the first bad centre, else 0.
 #[no_mangle]
 pub extern "C" fn fb_base(table: &mut [u8], centres: &[i32], place: &mut u64) -> u8
-    ensures { λ r. ⌜ answered r (now (place .exit)) (now (table .exit)) ≡ baseOf (now (table .entry)) (now (centres .entry)) ⌝ }
+    ensures { λ r. ⌜ baseAfter r (now (place .exit)) (now (table .exit)) ≡ baseOf (now (table .entry)) (now (centres .entry)) ⌝ }
 {
     let based = base::base(table, centres);
     *place = based.place as u64;

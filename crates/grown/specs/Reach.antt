@@ -41,9 +41,9 @@ base-free t cs z = go (base-end t cs)
   where
     go : BaseEnd t cs → freeSlots (baseOf t cs .bytes) + pointsIn cs (centresIn cs) ≡ slotsOf t
     go (refused a b c) = absurd (omega arith)
-    go (short a e) = let n : baseOf t cs .number ≡ 8 = ap (λ (x : call.Answered). x .number) e in absurd (omega arith)
+    go (short a e) = let n : baseOf t cs .number ≡ 8 = ap (λ (x : call.BaseAfter). x .number) e in absurd (omega arith)
     go (done u g h e) =
-        let f : freeSlots (baseOf t cs .bytes) ≡ freeSlots u = ap (λ (x : call.Answered). freeSlots (x .bytes)) e in
+        let f : freeSlots (baseOf t cs .bytes) ≡ freeSlots u = ap (λ (x : call.BaseAfter). freeSlots (x .bytes)) e in
         omega (arith, h .count, h .wide, records-count u)
 
 module _ (t : List ℕ) (o : InOrder t) where

@@ -28,7 +28,7 @@ use Rattle.table.specs.Order.{InOrder}
 use Rattle.table.specs.Slots.{freeSlots}
 use Rattle.table.specs.declared.entries.Looked.{Looked}
 use Rattle.table.specs.declared.entries.Looked.the-variants.{Absent, Held}
-use Rattle.mesh.specs.Subdivide.{fitsAt, adjacentFits, newFits, subdivided, Outcome, subdivideVertex, subdivideOf}
+use Rattle.mesh.specs.Subdivide.{fitsAt, adjacentFits, newFits, subdivided, MeshAfter, subdivideVertex, subdivideOf}
 use Rattle.mesh.specs.SubdivideLaws.{old, subdivided-order, subdivided-free, subdivided-centre, subdivided-new, subdivided-old, subdivided-rest}
 use Rattle.mesh.specs.CallLaws.{vertex-0, vertex-8, call-vertex}
 use Rattle.mesh.specs.CaseLaws.{refused, made, Subdivision, subdivision}
@@ -81,9 +81,9 @@ pub accepted : (t : List ℕ) (a b : ℤ) (m : ℕ) → subdivideOf t a b m .num
 accepted t a b m z = go (subdivision t a b m)
   where
     go : Subdivision t a b m → Accepted t a b m
-    go (refused x n e) = absurd (n (ap (λ (o : Outcome). o .number) e ∙ z))
+    go (refused x n e) = absurd (n (ap (λ (o : MeshAfter). o .number) e ∙ z))
     go (made v o l w e) =
-        let s : subdivided t v ≡ subdivideOf t a b m .bytes = ap (λ (o : Outcome). o .bytes) e in
+        let s : subdivided t v ≡ subdivideOf t a b m .bytes = ap (λ (o : MeshAfter). o .bytes) e in
         record {
           vertex = v;
           order = w .ready .order;
@@ -122,8 +122,8 @@ module _ (t : List ℕ) (o : InOrder t) (a b : ℤ) (m : ℕ) (v : Record)
   fresh : upto 6 (newFits t v) ≡ true
   fresh = each-upto (newFits t v) 6 (λ j h. ap (λ (l : Looked). not (isHeld l)) (sheet-absent (lookUp t (newOf v j .at)) (w .free j h)))
 
-  ends : {x : Outcome} → x ≡ subdivideVertex t v → x .number ≡ subdivideOf t a b m .number
-  ends h = ap (λ (x : Outcome). x .number) (h ∙ call-vertex t a b m (order-test t o) v e)
+  ends : {x : MeshAfter} → x ≡ subdivideVertex t v → x .number ≡ subdivideOf t a b m .number
+  ends h = ap (λ (x : MeshAfter). x .number) (h ∙ call-vertex t a b m (order-test t o) v e)
 
   pub vertex-accepted : 6 ≤ freeSlots t → subdivideOf t a b m .number ≡ 0
   vertex-accepted room = sym (ends (vertex-0 t v six not-top shallow fits fresh room))

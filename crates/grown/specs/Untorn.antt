@@ -30,7 +30,7 @@ use Rattle.table.specs.declared.entries.Looked.the-variants.{Absent, Held}
 use Rattle.base.specs.Base.{baseOf}
 use Rattle.mesh.specs.CallLaws.{vertex-4, vertex-5, call-3, call-vertex}
 use Rattle.mesh.specs.Grown.{Reached, laid, Grown}
-use Rattle.mesh.specs.Subdivide.{Outcome, subdivideOf}
+use Rattle.mesh.specs.Subdivide.{MeshAfter, subdivideOf}
 use Rattle.queries.specs.Queries.{adjacentsThere, neighboursAt, queryLooked, neighboursOf}
 use Rattle.queries.specs.QueryLaws.{neighbours-looked}
 use Rattle.local.specs.Sheet.{asOption, sheetOf}
@@ -55,8 +55,8 @@ module _ (t : List ℕ) (o : InOrder t) (g : GrownSheet (sheetOf t)) (a b : ℤ)
   sheet-end : End t a b m
   sheet-end = looked (lookUp t (normalOf a b m)) refl
     where
-      number : {x : Outcome} → x ≡ subdivideOf t a b m → subdivideOf t a b m .number ≡ x .number
-      number h = ap (λ (x : Outcome). x .number) (sym h)
+      number : {x : MeshAfter} → x ≡ subdivideOf t a b m → subdivideOf t a b m .number ≡ x .number
+      number h = ap (λ (x : MeshAfter). x .number) (sym h)
 
       room : (v : Record) → lookUp t (normalOf a b m) ≡ Held v → v .d ≡ 6 → v .n .0 < 12 → Dec (freeSlots t < 6) → End t a b m
       room v e six low (yes f) = short v e six low f (vertex-short t o a b m v e six low (grown-whole (sheetOf t) g v (own v e) six) f)

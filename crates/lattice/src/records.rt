@@ -82,17 +82,17 @@ fn is_normal(a: i32, b: i32, m: u8) -> bool
     !both3(a, b)
 }
 
-// How many orientations a degree has: none where no star has it.
+// How many orientations the degrees 0, 1, .. 6 have, four bits each from the lowest on: 4, 12, 12, 2 those of 3, 4, 5, 6.
+const ORIENTATIONS: u32 = 0x2cc4000;
+
+// How many orientations a degree has: none where no star has it. No branch on the degree, which cannot be foreseen.
 fn orientations(d: u8) -> u8
     ensures { λ r. ⌜ r ≡ orientationsOf d ⌝ }
 {
-    match d {
-        3 => 4,
-        4 => 12,
-        5 => 12,
-        6 => 2,
-        _ => 0,
+    if 6 < d {
+        return 0;
     }
+    ((ORIENTATIONS >> (4 * d)) % 16) as u8
 }
 
 // Degree, orientation and level go together.

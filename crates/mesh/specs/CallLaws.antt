@@ -31,7 +31,7 @@ use Rattle.table.specs.declared.entries.Looked.{Looked}
 use Rattle.table.specs.declared.entries.Looked.the-variants.{Absent, Held}
 use Rattle.mesh.specs.SubdivideLaws.{Ready, Intact, old}
 use Rattle.mesh.specs.WriteLaws.{Standing}
-use Rattle.mesh.specs.Subdivide.{adjacentFits, newFits, torn, tooDeep, subdivided, Outcome, outcome, subdivideVertex, subdivideLooked}
+use Rattle.mesh.specs.Subdivide.{adjacentFits, newFits, torn, tooDeep, subdivided, MeshAfter, meshAfter, subdivideVertex, subdivideLooked}
 use Rattle.mesh.specs.Subdivide.{subdivideOf, renewedTo, enteredTo}
 
 module _ (t : List ℕ) (v : Record) where
@@ -62,20 +62,20 @@ module _ (t : List ℕ) (v : Record) where
       }
 
   -- ---- the outcome
-  pub vertex-4 : (v .d ≡ 6 → ⊥) → outcome 4 t ≡ subdivideVertex t v
+  pub vertex-4 : (v .d ≡ 6 → ⊥) → meshAfter 4 t ≡ subdivideVertex t v
   vertex-4 h = rw (ne-eqb (v .d) 6 h)
 
   module _ (six : v .d ≡ 6) where
-    pub vertex-5 : v .n .0 ≡ 12 → outcome 5 t ≡ subdivideVertex t v
+    pub vertex-5 : v .n .0 ≡ 12 → meshAfter 5 t ≡ subdivideVertex t v
     vertex-5 h = rw (eq-eqb (v .d) 6 six, eq-eqb (v .n .0) 12 h)
 
     module _ (low : v .n .0 ≡ 12 → ⊥) where
-      pub vertex-6 : upto 6 (λ j. leb (newOf v j .at .m .0) 6) ≡ false → outcome 6 t ≡ subdivideVertex t v
+      pub vertex-6 : upto 6 (λ j. leb (newOf v j .at .m .0) 6) ≡ false → meshAfter 6 t ≡ subdivideVertex t v
       unfolding tooDeep
       vertex-6 h = rw (eq-eqb (v .d) 6 six, ne-eqb (v .n .0) 12 low, h)
 
       module _ (shallow : upto 6 (λ j. leb (newOf v j .at .m .0) 6) ≡ true) where
-        past : subdivideVertex t v ≡ cond (torn t v) (outcome 7 t) (cond (ltb (freeSlots t) 6) (outcome 8 t) (outcome 0 (subdivided t v)))
+        past : subdivideVertex t v ≡ cond (torn t v) (meshAfter 7 t) (cond (ltb (freeSlots t) 6) (meshAfter 8 t) (meshAfter 0 (subdivided t v)))
         unfolding tooDeep
         past = rw (eq-eqb (v .d) 6 six, ne-eqb (v .n .0) 12 low, shallow)
 
@@ -83,9 +83,9 @@ module _ (t : List ℕ) (v : Record) where
         unfolding torn
         torn-old h = ap (λ (b : Bool). not (b && upto 6 (newFits t v))) h
 
-        pub vertex-7-old : upto 6 (adjacentFits t v) ≡ false → outcome 7 t ≡ subdivideVertex t v
+        pub vertex-7-old : upto 6 (adjacentFits t v) ≡ false → meshAfter 7 t ≡ subdivideVertex t v
         vertex-7-old h =
-            sym (past ∙ ap (λ (b : Bool). cond b (outcome 7 t) (cond (ltb (freeSlots t) 6) (outcome 8 t) (outcome 0 (subdivided t v)))) (torn-old h))
+            sym (past ∙ ap (λ (b : Bool). cond b (meshAfter 7 t) (cond (ltb (freeSlots t) 6) (meshAfter 8 t) (meshAfter 0 (subdivided t v)))) (torn-old h))
 
         module _ (old : upto 6 (adjacentFits t v) ≡ true) where
           torn-is : (b : Bool) → upto 6 (newFits t v) ≡ b → torn t v ≡ not b
@@ -93,30 +93,30 @@ module _ (t : List ℕ) (v : Record) where
           torn-is b h = λ i. not (old i && h i)
 
           after : (b : Bool) → upto 6 (newFits t v) ≡ b
-              → subdivideVertex t v ≡ cond (not b) (outcome 7 t) (cond (ltb (freeSlots t) 6) (outcome 8 t) (outcome 0 (subdivided t v)))
-          after b h = past ∙ ap (λ (x : Bool). cond x (outcome 7 t) (cond (ltb (freeSlots t) 6) (outcome 8 t) (outcome 0 (subdivided t v)))) (torn-is b h)
+              → subdivideVertex t v ≡ cond (not b) (meshAfter 7 t) (cond (ltb (freeSlots t) 6) (meshAfter 8 t) (meshAfter 0 (subdivided t v)))
+          after b h = past ∙ ap (λ (x : Bool). cond x (meshAfter 7 t) (cond (ltb (freeSlots t) 6) (meshAfter 8 t) (meshAfter 0 (subdivided t v)))) (torn-is b h)
 
-          pub vertex-7-new : upto 6 (newFits t v) ≡ false → outcome 7 t ≡ subdivideVertex t v
+          pub vertex-7-new : upto 6 (newFits t v) ≡ false → meshAfter 7 t ≡ subdivideVertex t v
           vertex-7-new h = sym (after false h)
 
           module _ (new : upto 6 (newFits t v) ≡ true) where
-            pub vertex-8 : freeSlots t < 6 → outcome 8 t ≡ subdivideVertex t v
-            vertex-8 h = sym (after true new ∙ ap (λ (x : Bool). cond x (outcome 8 t) (outcome 0 (subdivided t v))) (lt-ltb (freeSlots t) 6 h))
+            pub vertex-8 : freeSlots t < 6 → meshAfter 8 t ≡ subdivideVertex t v
+            vertex-8 h = sym (after true new ∙ ap (λ (x : Bool). cond x (meshAfter 8 t) (meshAfter 0 (subdivided t v))) (lt-ltb (freeSlots t) 6 h))
 
-            pub vertex-0 : 6 ≤ freeSlots t → outcome 0 (subdivided t v) ≡ subdivideVertex t v
-            vertex-0 h = sym (after true new ∙ ap (λ (x : Bool). cond x (outcome 8 t) (outcome 0 (subdivided t v))) (le-ltb (freeSlots t) 6 h))
+            pub vertex-0 : 6 ≤ freeSlots t → meshAfter 0 (subdivided t v) ≡ subdivideVertex t v
+            vertex-0 h = sym (after true new ∙ ap (λ (x : Bool). cond x (meshAfter 8 t) (meshAfter 0 (subdivided t v))) (le-ltb (freeSlots t) 6 h))
 
 -- ---- the call
 module _ (t : List ℕ) (a b : ℤ) (m : ℕ) where
-  pub call-1 : inOrderOf t ≡ false → outcome 1 t ≡ subdivideOf t a b m
+  pub call-1 : inOrderOf t ≡ false → meshAfter 1 t ≡ subdivideOf t a b m
   unfolding subdivideOf
-  call-1 h = ap (λ (x : Bool). cond x (subdivideLooked t (lookUp t (normalOf a b m))) (outcome 1 t)) (sym h)
+  call-1 h = ap (λ (x : Bool). cond x (subdivideLooked t (lookUp t (normalOf a b m))) (meshAfter 1 t)) (sym h)
 
   call-looked : inOrderOf t ≡ true → (l : Looked) → lookUp t (normalOf a b m) ≡ l → subdivideLooked t l ≡ subdivideOf t a b m
   unfolding subdivideOf
-  call-looked h l e = ap (subdivideLooked t) (sym e) ∙ ap (λ (x : Bool). cond x (subdivideLooked t (lookUp t (normalOf a b m))) (outcome 1 t)) (sym h)
+  call-looked h l e = ap (subdivideLooked t) (sym e) ∙ ap (λ (x : Bool). cond x (subdivideLooked t (lookUp t (normalOf a b m))) (meshAfter 1 t)) (sym h)
 
-  pub call-3 : inOrderOf t ≡ true → lookUp t (normalOf a b m) ≡ Absent → outcome 3 t ≡ subdivideOf t a b m
+  pub call-3 : inOrderOf t ≡ true → lookUp t (normalOf a b m) ≡ Absent → meshAfter 3 t ≡ subdivideOf t a b m
   call-3 h e = call-looked h Absent e
 
   pub call-vertex : inOrderOf t ≡ true → (v : Record) → lookUp t (normalOf a b m) ≡ Held v → subdivideVertex t v ≡ subdivideOf t a b m
@@ -127,8 +127,8 @@ module _ (t : List ℕ) (a b : ℤ) (m : ℕ) where
       let o = test-order t h in
       record { order = o; held = ap (lookUp t) (lookup-point t o (normalOf a b m) v e) ∙ e }
 
-pub outcome-parts : {x y : Outcome} → x ≡ y → (x .number ≡ y .number) × (x .bytes ≡ y .bytes)
-outcome-parts e = (ap (λ (o : Outcome). o .number) e, ap (λ (o : Outcome). o .bytes) e)
+pub after-parts : {x y : MeshAfter} → x ≡ y → (x .number ≡ y .number) × (x .bytes ≡ y .bytes)
+after-parts e = (ap (λ (o : MeshAfter). o .number) e, ap (λ (o : MeshAfter). o .bytes) e)
 
 pub subdivided-is : (t : List ℕ) (v : Record) → enteredTo (renewedTo (replaceOf t (centreOf v)) v 6) (centreOf v) 6 ≡ subdivided t v
 unfolding subdivided

@@ -29,21 +29,21 @@ use Rattle.mesh.specs.SubdivideLaws.{Ready, Intact, subdivided-order, su
 use Rattle.mesh.specs.WriteLaws.{subdivided-length}
 use Rattle.mesh.specs.CallLaws.{standing-ready, ready-whole, vertex-4, vertex-5, vertex-6, vertex-7-old, vertex-7-new, vertex-8, vertex-0}
 use Rattle.mesh.specs.CallLaws.{call-1, call-3, call-vertex, call-standing}
-use Rattle.mesh.specs.Subdivide.{adjacentFits, newFits, subdivided, Outcome, outcome, subdivideVertex, subdivideOf}
+use Rattle.mesh.specs.Subdivide.{adjacentFits, newFits, subdivided, MeshAfter, meshAfter, subdivideVertex, subdivideOf}
 use Rattle.laws.specs.Triples.{triplesIn, isByte}
 use Rattle.mesh.specs.Subdivide.{subdivideTriple, subdivideFrom, subdivideAllOf, Many}
 
 pub data Subdivision (t : List ℕ) (a b : ℤ) (m : ℕ) : Type 0 where
   -- some other number than 0, and the table as it was
-  refused : (x : ℕ) → (x ≡ 0 → ⊥) → outcome x t ≡ subdivideOf t a b m → Subdivision t a b m
+  refused : (x : ℕ) → (x ≡ 0 → ⊥) → meshAfter x t ≡ subdivideOf t a b m → Subdivision t a b m
   -- 0, of a table in order and a vertex in it, which is whole
-  made : (v : Record) → inOrderOf t ≡ true → lookUp t (normalOf a b m) ≡ Held v → Intact t v → outcome 0 (subdivided t v) ≡ subdivideOf t a b m
+  made : (v : Record) → inOrderOf t ≡ true → lookUp t (normalOf a b m) ≡ Held v → Intact t v → meshAfter 0 (subdivided t v) ≡ subdivideOf t a b m
       → Subdivision t a b m
 
 module _ (t : List ℕ) (a b : ℤ) (m : ℕ) where
   -- past 4 and 5
   module _ (h : inOrderOf t ≡ true) (v : Record) (e : lookUp t (normalOf a b m) ≡ Held v) (six : v .d ≡ 6) (low : v .n .0 ≡ 12 → ⊥) where
-    is : {x : Outcome} → x ≡ subdivideVertex t v → x ≡ subdivideOf t a b m
+    is : {x : MeshAfter} → x ≡ subdivideVertex t v → x ≡ subdivideOf t a b m
     is p = p ∙ call-vertex t a b m h v e
 
     r : Ready t v
@@ -78,8 +78,8 @@ module _ (t : List ℕ) (a b : ℤ) (m : ℕ) where
 
 -- ---- a triple of a list
 pub data Triple (t : List ℕ) (ps : List ℤ) (i : ℕ) : Type 0 where
-  refused : (x : ℕ) → (x ≡ 0 → ⊥) → outcome x t ≡ subdivideTriple t ps i → Triple t ps i
-  made : (v : Record) → Intact t v → outcome 0 (subdivided t v) ≡ subdivideTriple t ps i → Triple t ps i
+  refused : (x : ℕ) → (x ≡ 0 → ⊥) → meshAfter x t ≡ subdivideTriple t ps i → Triple t ps i
+  made : (v : Record) → Intact t v → meshAfter 0 (subdivided t v) ≡ subdivideTriple t ps i → Triple t ps i
 
 module _ (t : List ℕ) (ps : List ℤ) (i : ℕ) where
   abbrev A : ℤ
@@ -91,13 +91,13 @@ module _ (t : List ℕ) (ps : List ℤ) (i : ℕ) where
   abbrev M : ℤ
   M = getD ps (3 * i + 2) (pos 0)
 
-  pub triple-3 : isByte M ≡ false → outcome 3 t ≡ subdivideTriple t ps i
+  pub triple-3 : isByte M ≡ false → meshAfter 3 t ≡ subdivideTriple t ps i
   unfolding subdivideTriple
-  triple-3 h = ap (λ (x : Bool). cond x (subdivideOf t A B (natAbs M)) (outcome 3 t)) (sym h)
+  triple-3 h = ap (λ (x : Bool). cond x (subdivideOf t A B (natAbs M)) (meshAfter 3 t)) (sym h)
 
   pub triple-one : isByte M ≡ true → subdivideOf t A B (natAbs M) ≡ subdivideTriple t ps i
   unfolding subdivideTriple
-  triple-one h = ap (λ (x : Bool). cond x (subdivideOf t A B (natAbs M)) (outcome 3 t)) (sym h)
+  triple-one h = ap (λ (x : Bool). cond x (subdivideOf t A B (natAbs M)) (meshAfter 3 t)) (sym h)
 
   pub triple : Triple t ps i
   triple = go (isByte M) refl (subdivision t A B (natAbs M))
@@ -117,9 +117,9 @@ module _ (t : List ℕ) (ps : List ℤ) (i : ℕ) where
   triple-kept z = go triple
     where
       go : Triple t ps i → Kept
-      go (refused x n e) = absurd (n (ap (λ (o : Outcome). o .number) e ∙ z))
+      go (refused x n e) = absurd (n (ap (λ (o : MeshAfter). o .number) e ∙ z))
       go (made v w e) =
-          let b = ap (λ (o : Outcome). o .bytes) e in
+          let b = ap (λ (o : MeshAfter). o .bytes) e in
           record {
             order = ap inOrderOf (sym b) ∙ order-test (subdivided t v) (subdivided-order t v w);
             free = subst (λ (u : List ℕ). freeSlots u + 6 ≡ freeSlots t) b (subdivided-free t v w);
@@ -130,8 +130,8 @@ module _ (t : List ℕ) (ps : List ℤ) (i : ℕ) where
   triple-refused n = go triple
     where
       go : Triple t ps i → subdivideTriple t ps i .bytes ≡ t
-      go (refused x k e) = sym (ap (λ (o : Outcome). o .bytes) e)
-      go (made v w e) = absurd (n (sym (ap (λ (o : Outcome). o .number) e)))
+      go (refused x k e) = sym (ap (λ (o : MeshAfter). o .bytes) e)
+      go (made v w e) = absurd (n (sym (ap (λ (o : MeshAfter). o .number) e)))
 
 -- ---- the list
 pub many-end : (t : List ℕ) (ps : List ℤ) (i : ℕ) → record { number = 0; done = i; bytes = t } ≡ subdivideFrom t ps i 0

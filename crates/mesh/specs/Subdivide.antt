@@ -1,5 +1,5 @@
 -- Document 01, "Subdivision of v": when it is refused and what the table holds after. What the promises cite: `subdivideOf`, `subdivideAllOf`.
--- `adjacentFits`, `newFits`, `torn`, `tooDeep` the conditions of 7 and 6 · `renewedTo`, `enteredTo`, `subdivided` the table after · `Outcome` number
+-- `adjacentFits`, `newFits`, `torn`, `tooDeep` the conditions of 7 and 6 · `renewedTo`, `enteredTo`, `subdivided` the table after · `MeshAfter` number
 -- and table · `Many` the same of a list.
 -- Record by record the rules are the lattice's: Subdivision. Assumes nothing.
 use mathlib.Core.Bool.{Bool, false, cond, _&&_, not}
@@ -65,30 +65,30 @@ unfoldable pub subdivided : List ℕ → Record → List ℕ
 subdivided t v = enteredTo (renewedTo (replaceOf t (centreOf v)) v 6) (centreOf v) 6
 
 -- ---- the call
-pub record Outcome : Type 0 where
+pub record MeshAfter : Type 0 where
   pub number : ℕ
   pub bytes : List ℕ
 
-abbrev pub outcome : ℕ → List ℕ → Outcome
-outcome n t = record { number = n; bytes = t }
+abbrev pub meshAfter : ℕ → List ℕ → MeshAfter
+meshAfter n t = record { number = n; bytes = t }
 
 -- "Order: subdivision 1, 3, 4, 5, 6, 7, 8 (fewer than six free)": from 4 on, of the record at the point
-abbrev pub subdivideVertex : List ℕ → Record → Outcome
+abbrev pub subdivideVertex : List ℕ → Record → MeshAfter
 subdivideVertex t v =
-    unless (eqb (v .d) 6) (outcome 4 t)
-    (cond (eqb (v .n .0) 12) (outcome 5 t)
-    (cond (tooDeep v) (outcome 6 t)
-    (cond (torn t v) (outcome 7 t)
-    (cond (ltb (freeSlots t) 6) (outcome 8 t)
-    (outcome 0 (subdivided t v))))))
+    unless (eqb (v .d) 6) (meshAfter 4 t)
+    (cond (eqb (v .n .0) 12) (meshAfter 5 t)
+    (cond (tooDeep v) (meshAfter 6 t)
+    (cond (torn t v) (meshAfter 7 t)
+    (cond (ltb (freeSlots t) 6) (meshAfter 8 t)
+    (meshAfter 0 (subdivided t v))))))
 
-abbrev pub subdivideLooked : List ℕ → Looked → Outcome
-subdivideLooked t Absent = outcome 3 t
+abbrev pub subdivideLooked : List ℕ → Looked → MeshAfter
+subdivideLooked t Absent = meshAfter 3 t
 subdivideLooked t (Held v) = subdivideVertex t v
 
 -- "Every point in a request is normalised before it is looked up"
-unfoldable pub subdivideOf : List ℕ → ℤ → ℤ → ℕ → Outcome
-subdivideOf t a b m = unless (inOrderOf t) (outcome 1 t) (subdivideLooked t (lookUp t (normalOf a b m)))
+unfoldable pub subdivideOf : List ℕ → ℤ → ℤ → ℕ → MeshAfter
+subdivideOf t a b m = unless (inOrderOf t) (meshAfter 1 t) (subdivideLooked t (lookUp t (normalOf a b m)))
 
 -- ---- many at once, ours: one in-order test, then each point subdivided in turn as `subdivide` would
 pub record Many : Type 0 where
@@ -97,9 +97,9 @@ pub record Many : Type 0 where
   pub bytes : List ℕ
 
 -- triple i, as `subdivide` answers it; 3 where its m is not in 0..255
-unfoldable pub subdivideTriple : List ℕ → List ℤ → ℕ → Outcome
+unfoldable pub subdivideTriple : List ℕ → List ℤ → ℕ → MeshAfter
 subdivideTriple t ps i =
-    unless (isByte (getD ps (3 * i + 2) (pos 0))) (outcome 3 t)
+    unless (isByte (getD ps (3 * i + 2) (pos 0))) (meshAfter 3 t)
     (subdivideOf t (getD ps (3 * i) (pos 0)) (getD ps (3 * i + 1) (pos 0)) (natAbs (getD ps (3 * i + 2) (pos 0))))
 
 -- it stops at the first refusal and says how many were made; those before stand: from triple i on, of which so many are left

@@ -1,5 +1,5 @@
 -- The writes of a subdivision as the code makes them: what each asks for, and where the loops stand.
--- `Standing` a vertex as it is found · `Renewable`, `whole-renewable` the tables while old adjacent vertices are written · `Low`, `renewSlot`,
+-- `Standing` a vertex as it is found · `Renewable`, `whole-renewable` the tables while old adjacent vertices are written · `ByteLevel`, `renewSlot`,
 -- `renew-found`, `renew-gone` one of them, by the search for it · `renewed-more`, `entered-more` a loop's one step · `renewed-table`,
 -- `entered-table`, `subdivided-length` the lengths.
 -- Assumes nothing.
@@ -41,8 +41,8 @@ pub whole-renewable : {t : List ℕ} {v : Record} → Intact t v → Renewable (
 whole-renewable {t} {v} w = record { inner = ready-inner (w .ready); six = w .ready .six; order = λ j h. renewed t v w j h .order }
 
 -- a slot whose vertex, if it has one, has a level that can rise
-abbrev pub Low : List ℕ → ℕ → Type 0
-Low t i = (u : Record) → slotAt t i ≡ Holds u → u .n .0 < 255
+abbrev pub ByteLevel : List ℕ → ℕ → Type 0
+ByteLevel t i = (u : Record) → slotAt t i ≡ Holds u → u .n .0 < 255
 
 -- the slot i after its vertex's rule
 abbrev pub renewHeld : List ℕ → ℕ → ℕ → Slot → List ℕ
@@ -66,7 +66,7 @@ six-low {v} i s = let o = i .turn in let l : v .k < 2 = rw s at o in omega arith
 -- ---- an old adjacent vertex as the search for it finds it
 module _ (t : List ℕ) (o : InOrder t) (p : Point) where
   -- its record can rise
-  pub found-low : (i : ℕ) → findOf t p ≡ found.At i → Low t i
+  pub found-low : (i : ℕ) → findOf t p ≡ found.At i → ByteLevel t i
   found-low i e u h = let l = valid-level u (of-true (o .valid i u (at-held t (o .fits) p i e .below) h)) in omega arith
 
   module _ (v : Record) (j : ℕ) (q : p ≡ adjacentAt v j) where

@@ -9,7 +9,7 @@ ghost use Rattle.table.specs.Slots.{slotWidth, Table};
 ghost use Rattle.table.specs.Order.{InOrder};
 ghost use Rattle.mesh.specs.Subdivide.{renewOf, renewedTo, enteredTo, subdivided};
 ghost use Rattle.mesh.specs.SubdivideLaws.{Intact};
-ghost use Rattle.mesh.specs.WriteLaws.{Renewable, Low, renewSlot};
+ghost use Rattle.mesh.specs.WriteLaws.{Renewable, ByteLevel, renewSlot};
 ghost use Rattle.mesh.specs.Points.{pointsOf};
 use lattice::Point;
 use lattice::Record;
@@ -26,7 +26,7 @@ use table::write_slot;
 
 // The vertex in slot i after its rule, whether or not there is one.
 fn renew_slot(t: &mut [u8], i: usize, back: u8)
-    requires { ⌜ (slotWidth * i + slotWidth ≤ length (now t)) × ((back < 12) × Low (now t) i) ⌝ }
+    requires { ⌜ (slotWidth * i + slotWidth ≤ length (now t)) × ((back < 12) × ByteLevel (now t) i) ⌝ }
     ensures { λ _. ⌜ now (t .exit) ≡ renewSlot (now (t .entry)) i back ⌝ }
 {
     let s = read_slot(t, i);

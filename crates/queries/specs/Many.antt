@@ -32,22 +32,22 @@ unfoldable pub answersTo : (ℕ → Answer) → ℕ → List ℤ
 answersTo f zero = []
 answersTo f (suc k) = answersTo f k ++ answerRow (f k)
 
-pub record Answered : Type 0 where
+pub record AnswersAfter : Type 0 where
   pub number : ℕ
   pub answers : List ℤ
 
-abbrev pub answered : ℕ → List ℤ → Answered
-answered n l = record { number = n; answers = l }
+abbrev pub answersAfter : ℕ → List ℤ → AnswersAfter
+answersAfter n l = record { number = n; answers = l }
 
 -- 1: the table is not in order; 13: too little room; nothing is written then. Numbers past the answers stay
-unfoldable pub allOf : (ℤ → ℤ → ℕ → Answer) → List ℕ → List ℤ → List ℤ → Answered
+unfoldable pub allOf : (ℤ → ℤ → ℕ → Answer) → List ℕ → List ℤ → List ℤ → AnswersAfter
 allOf query t ps out =
-    unless (inOrderOf t) (answered 1 out)
-    (unless (leb (answerWidth * triplesIn ps) (length out)) (answered 13 out)
-    (answered 0 (answersTo (tripleOf query ps) (triplesIn ps) ++ drop (answerWidth * triplesIn ps) out)))
+    unless (inOrderOf t) (answersAfter 1 out)
+    (unless (leb (answerWidth * triplesIn ps) (length out)) (answersAfter 13 out)
+    (answersAfter 0 (answersTo (tripleOf query ps) (triplesIn ps) ++ drop (answerWidth * triplesIn ps) out)))
 
-abbrev pub neighboursAllOf : List ℕ → List ℤ → List ℤ → Answered
+abbrev pub neighboursAllOf : List ℕ → List ℤ → List ℤ → AnswersAfter
 neighboursAllOf t ps out = allOf (neighboursOf t) t ps out
 
-abbrev pub facesAllOf : List ℕ → List ℤ → List ℤ → Answered
+abbrev pub facesAllOf : List ℕ → List ℤ → List ℤ → AnswersAfter
 facesAllOf t ps out = allOf (facesOf t) t ps out

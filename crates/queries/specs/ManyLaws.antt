@@ -1,6 +1,6 @@
 -- Many answers as the code writes them: `triple-3`, `triple-one` the ways of one point · `answer-put` an answer's numbers, its row copied ·
 -- `query-twenty`, `triple-twenty` an answer has twenty numbers, `answersIn`, `answers-start`, `answers-room`, `answers-more`, `answers-at` the answers
--- so far · `all-1`, `all-13`, `all-0` the ways to an outcome, `answered-parts` what equal ones share · `all-answer` each answer stands at its place.
+-- so far · `all-1`, `all-13`, `all-0` the ways to an outcome, `after-parts` what equal ones share · `all-answer` each answer stands at its place.
 -- Assumes nothing.
 use mathlib.Core.Path.{_≡_, refl, sym, ap, _∙_}
 use mathlib.Core.Bool.{Bool, true, false, cond, _&&_}
@@ -28,7 +28,7 @@ use Rattle.lattice.specs.AnswerRows.{pointsNumbers, answerNumbers}
 use Rattle.queries.specs.declared.answers.Query.{Query}
 use Rattle.queries.specs.declared.answers.Query.the-variants.{Neighbours, Faces}
 use Rattle.laws.specs.Triples.{triplesIn, isByte}
-use Rattle.queries.specs.Many.{tripleOf, answerWidth, answerRow, answersTo, Answered, answered, allOf}
+use Rattle.queries.specs.Many.{tripleOf, answerWidth, answerRow, answersTo, AnswersAfter, answersAfter, allOf}
 
 -- ---- one point
 module _ (query : ℤ → ℤ → ℕ → Answer) (ps : List ℤ) (i : ℕ) where
@@ -154,23 +154,23 @@ module _ (f : ℕ → Answer) (long : (i : ℕ) → length (answerRow (f i)) ≡
 
 -- ---- the outcome
 module _ (query : ℤ → ℤ → ℕ → Answer) (t : List ℕ) (ps out : List ℤ) where
-  abbrev all : Bool → Bool → Answered
+  abbrev all : Bool → Bool → AnswersAfter
   all ordered room =
-      unless ordered (answered 1 out)
-      (unless room (answered 13 out)
-      (answered 0 (answersIn (tripleOf query ps) out (triplesIn ps))))
+      unless ordered (answersAfter 1 out)
+      (unless room (answersAfter 13 out)
+      (answersAfter 0 (answersIn (tripleOf query ps) out (triplesIn ps))))
 
-  pub all-1 : inOrderOf t ≡ false → answered 1 out ≡ allOf query t ps out
+  pub all-1 : inOrderOf t ≡ false → answersAfter 1 out ≡ allOf query t ps out
   unfolding allOf
   all-1 h = ap (λ (o : Bool). all o (leb (answerWidth * triplesIn ps) (length out))) (sym h)
 
-  pub all-13 : inOrderOf t ≡ true → length out < answerWidth * triplesIn ps → answered 13 out ≡ allOf query t ps out
+  pub all-13 : inOrderOf t ≡ true → length out < answerWidth * triplesIn ps → answersAfter 13 out ≡ allOf query t ps out
   unfolding allOf
   all-13 h l = (λ k. all (sym h k) (sym (lt-leb (answerWidth * triplesIn ps) (length out) l) k))
 
   pub all-0 :
       inOrderOf t ≡ true → answerWidth * triplesIn ps ≤ length out
-      → answered 0 (answersIn (tripleOf query ps) out (triplesIn ps)) ≡ allOf query t ps out
+      → answersAfter 0 (answersIn (tripleOf query ps) out (triplesIn ps)) ≡ allOf query t ps out
   unfolding allOf
   all-0 h l = (λ k. all (sym h k) (sym (le-leb (answerWidth * triplesIn ps) (length out) l) k))
 
@@ -186,5 +186,5 @@ module _ (query : ℤ → ℤ → ℕ → Answer) (t : List ℕ) (ps out : List 
       go true false z = absurd (omega (arith, z))
       go true true z = answers-at (tripleOf query ps) (triple-twenty query long ps) (triplesIn ps) i h (drop (answerWidth * triplesIn ps) out)
 
-pub answered-parts : {x y : Answered} → x ≡ y → (x .number ≡ y .number) × (x .answers ≡ y .answers)
-answered-parts e = (ap (λ (r : Answered). r .number) e, ap (λ (r : Answered). r .answers) e)
+pub after-parts : {x y : AnswersAfter} → x ≡ y → (x .number ≡ y .number) × (x .answers ≡ y .answers)
+after-parts e = (ap (λ (r : AnswersAfter). r .number) e, ap (λ (r : AnswersAfter). r .answers) e)

@@ -15,7 +15,7 @@ use Rattle.lattice.specs.declared.records.Record.{Record}
 use Rattle.table.specs.Slots.{Table, fitsLength, slotsOf, clearedOf}
 use Rattle.table.specs.MapLaws.{table-of}
 use Rattle.table.specs.SlotLaws.{table-test, test-table, slots-table, no-slots}
-use Rattle.readers.specs.Readers.{Lines, Read, Fault, readLines, outcome, refused, lengthsFit, endFull, endReduced, readFullOf, readReducedOf}
+use Rattle.readers.specs.Readers.{Lines, Read, Fault, readLines, tablesAfter, refused, lengthsFit, endFull, endReduced, readFullOf, readReducedOf}
 use Rattle.readers.specs.ReadLaws.{Lined, read-lines}
 use Rattle.readers.specs.LineSteps.{EndsAs, ends-read, ends-fault}
 
@@ -83,32 +83,32 @@ module _ (t s f : List ℕ) where
 
   -- ---- both calls by their lines
 
-  pub full-unfit : lengthsFit t s ≡ false → readFullOf t s f ≡ outcome 1 0 t s
+  pub full-unfit : lengthsFit t s ≡ false → readFullOf t s f ≡ tablesAfter 1 0 t s
   unfolding readFullOf
-  full-unfit e = ap (λ (b : Bool). cond b (endFull t s (readLines f (clearedOf t))) (outcome 1 0 t s)) e
+  full-unfit e = ap (λ (b : Bool). cond b (endFull t s (readLines f (clearedOf t))) (tablesAfter 1 0 t s)) e
 
-  reduced-unfit : lengthsFit t s ≡ false → readReducedOf t s f ≡ outcome 1 0 t s
+  reduced-unfit : lengthsFit t s ≡ false → readReducedOf t s f ≡ tablesAfter 1 0 t s
   unfolding readReducedOf
-  reduced-unfit e = ap (λ (b : Bool). cond b (endReduced t s (readLines f (clearedOf t))) (outcome 1 0 t s)) e
+  reduced-unfit e = ap (λ (b : Bool). cond b (endReduced t s (readLines f (clearedOf t))) (tablesAfter 1 0 t s)) e
 
   pub full-lines : lengthsFit t s ≡ true → (x : Lines) → readLines f (clearedOf t) ≡ x → endFull t s x ≡ readFullOf t s f
   unfolding readFullOf
-  full-lines fits x e = sym (λ i. cond (fits i) (endFull t s (e i)) (outcome 1 0 t s))
+  full-lines fits x e = sym (λ i. cond (fits i) (endFull t s (e i)) (tablesAfter 1 0 t s))
 
   pub reduced-lines : lengthsFit t s ≡ true → (x : Lines) → readLines f (clearedOf t) ≡ x → endReduced t s x ≡ readReducedOf t s f
   unfolding readReducedOf
-  reduced-lines fits x e = sym (λ i. cond (fits i) (endReduced t s (e i)) (outcome 1 0 t s))
+  reduced-lines fits x e = sym (λ i. cond (fits i) (endReduced t s (e i)) (tablesAfter 1 0 t s))
 
   module _ {number line : ℕ} {t′ s′ : List ℕ} where
     -- refused here, both calls answer so
-    pub fault-full : Begun t s f number line t′ s′ → (number ≡ 0 → ⊥) → outcome number line t′ s′ ≡ readFullOf t s f
-    fault-full (short a b c d e) z = (λ i. outcome (a i) (b i) (d i) (e i)) ∙ sym (full-unfit c)
-    fault-full (fault a b c d e) z = (λ i. outcome number line (d i) (e i)) ∙ full-lines b (Fault number line) c
+    pub fault-full : Begun t s f number line t′ s′ → (number ≡ 0 → ⊥) → tablesAfter number line t′ s′ ≡ readFullOf t s f
+    fault-full (short a b c d e) z = (λ i. tablesAfter (a i) (b i) (d i) (e i)) ∙ sym (full-unfit c)
+    fault-full (fault a b c d e) z = (λ i. tablesAfter number line (d i) (e i)) ∙ full-lines b (Fault number line) c
     fault-full (filled a b c d rs e w) z = absurd (z a)
 
-    pub fault-reduced : Begun t s f number line t′ s′ → (number ≡ 0 → ⊥) → outcome number line t′ s′ ≡ readReducedOf t s f
-    fault-reduced (short a b c d e) z = (λ i. outcome (a i) (b i) (d i) (e i)) ∙ sym (reduced-unfit c)
-    fault-reduced (fault a b c d e) z = (λ i. outcome number line (d i) (e i)) ∙ reduced-lines b (Fault number line) c
+    pub fault-reduced : Begun t s f number line t′ s′ → (number ≡ 0 → ⊥) → tablesAfter number line t′ s′ ≡ readReducedOf t s f
+    fault-reduced (short a b c d e) z = (λ i. tablesAfter (a i) (b i) (d i) (e i)) ∙ sym (reduced-unfit c)
+    fault-reduced (fault a b c d e) z = (λ i. tablesAfter number line (d i) (e i)) ∙ reduced-lines b (Fault number line) c
     fault-reduced (filled a b c d rs e w) z = absurd (z a)
 
   -- the table holds the records of the file

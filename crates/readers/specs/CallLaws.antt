@@ -15,7 +15,7 @@ use Rattle.table.specs.Order.{InOrder}
 use Rattle.writers.specs.Files.{redundant}
 use Rattle.local.specs.Sheet.{passesAll}
 use Rattle.grown.specs.Grown.{grown-passes}
-use Rattle.readers.specs.Readers.{Read, Outcome, refused, accepted, readFullOf, Restored, With, Stopped, restoreAll, endRestored, readReducedOf}
+use Rattle.readers.specs.Readers.{Read, TablesAfter, refused, accepted, readFullOf, Restored, With, Stopped, restoreAll, endRestored, readReducedOf}
 use Rattle.readers.specs.Additions.{Adds, adds-as, adds-slots}
 use Rattle.readers.specs.ReadLaws.{Lined}
 use Rattle.readers.specs.RestoreLaws.{RestoredOf, restore-all}
@@ -34,7 +34,7 @@ module _ (t s f : List ℕ) {number line : ℕ} (u : List ℕ) {s′ : List ℕ}
 -- ---- past the lines of a reduced file
 
 -- a number, and a table where it is 0, as the end of a call
-abbrev pub closedBy : List ℕ → List ℕ → ℕ → List ℕ → Outcome
+abbrev pub closedBy : List ℕ → List ℕ → ℕ → List ℕ → TablesAfter
 closedBy t s number u = cond (eqb number 0) (accepted u s) (refused number 0 t s)
 
 -- so the call ends that restores records rs in table v, whatever tables t and s it was lent

@@ -1,5 +1,5 @@
 -- Document 01, "Files" and "Numbers given back": what the readers do. What the promises cite: `readFullOf`, `readReducedOf`.
--- `Lines`, `readLines` the lines of a file entered, or refused · `Restored`, `restoreAll` what a reduced file leaves out, entered · `Outcome` number,
+-- `Lines`, `readLines` the lines of a file entered, or refused · `Restored`, `restoreAll` what a reduced file leaves out, entered · `TablesAfter` number,
 -- line, table and scratch.
 -- Assumes nothing.
 use mathlib.Core.Bool.{Bool, true, false, cond, _&&_}
@@ -94,44 +94,44 @@ restoreAll [] x = x
 restoreAll (v ∷ vs) x = restoreAll vs (restoreStar v x)
 
 -- ---- the calls
-pub record Outcome : Type 0 where
+pub record TablesAfter : Type 0 where
   pub number : ℕ
   pub line : ℕ
   pub table : List ℕ
   pub scratch : List ℕ
 
-abbrev pub outcome : ℕ → ℕ → List ℕ → List ℕ → Outcome
-outcome number line t s = record { number = number; line = line; table = t; scratch = s }
+abbrev pub tablesAfter : ℕ → ℕ → List ℕ → List ℕ → TablesAfter
+tablesAfter number line t s = record { number = number; line = line; table = t; scratch = s }
 
 -- "Refused .. readers, past the length test, leave the table all 255."
-abbrev pub refused : ℕ → ℕ → List ℕ → List ℕ → Outcome
-refused number line t s = outcome number line (clearedOf t) (clearedOf s)
+abbrev pub refused : ℕ → ℕ → List ℕ → List ℕ → TablesAfter
+refused number line t s = tablesAfter number line (clearedOf t) (clearedOf s)
 
 -- u is read; "otherwise scratch ends all 255"
-abbrev pub accepted : List ℕ → List ℕ → Outcome
-accepted u s = outcome 0 0 u (clearedOf s)
+abbrev pub accepted : List ℕ → List ℕ → TablesAfter
+accepted u s = tablesAfter 0 0 u (clearedOf s)
 
 -- "A reader is lent a table and a scratch table of equal length. Lengths that don't fit are refused with both untouched"
 abbrev pub lengthsFit : List ℕ → List ℕ → Bool
 lengthsFit t s = fitsLength (length t) && eqb (length s) (length t)
 
 -- "then 11"
-abbrev pub endFull : List ℕ → List ℕ → Lines → Outcome
+abbrev pub endFull : List ℕ → List ℕ → Lines → TablesAfter
 endFull t s (Fault number line) = refused number line t s
 endFull t s (Read rs u) = unless (isGrown u) (refused 11 0 t s) (accepted u s)
 
-unfoldable pub readFullOf : List ℕ → List ℕ → List ℕ → Outcome
-readFullOf t s f = unless (lengthsFit t s) (outcome 1 0 t s) (endFull t s (readLines f (clearedOf t)))
+unfoldable pub readFullOf : List ℕ → List ℕ → List ℕ → TablesAfter
+readFullOf t s f = unless (lengthsFit t s) (tablesAfter 1 0 t s) (endFull t s (readLines f (clearedOf t)))
 
 -- "12: grown, but a redundant record was kept in a reduced file": one of the file's records rs is redundant in the table with all of them
-abbrev pub endRestored : List ℕ → List ℕ → List Record → Restored → Outcome
+abbrev pub endRestored : List ℕ → List ℕ → List Record → Restored → TablesAfter
 endRestored t s rs (Stopped number) = refused number 0 t s
 endRestored t s rs (With u) = unless (isGrown u) (refused 11 0 t s) (cond (someOf (redundant u) rs) (refused 12 0 t s) (accepted u s))
 
 -- "then restoring ..; then 11, 12"
-abbrev pub endReduced : List ℕ → List ℕ → Lines → Outcome
+abbrev pub endReduced : List ℕ → List ℕ → Lines → TablesAfter
 endReduced t s (Fault number line) = refused number line t s
 endReduced t s (Read rs u) = endRestored t s rs (restoreAll rs (With u))
 
-unfoldable pub readReducedOf : List ℕ → List ℕ → List ℕ → Outcome
-readReducedOf t s f = unless (lengthsFit t s) (outcome 1 0 t s) (endReduced t s (readLines f (clearedOf t)))
+unfoldable pub readReducedOf : List ℕ → List ℕ → List ℕ → TablesAfter
+readReducedOf t s f = unless (lengthsFit t s) (tablesAfter 1 0 t s) (endReduced t s (readLines f (clearedOf t)))

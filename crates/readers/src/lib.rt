@@ -10,7 +10,7 @@ mod redundant;
 mod restore;
 
 ghost use mathlib.Core.Path.{_≡_};
-ghost use Rattle.readers.specs.Readers.{outcome, readFullOf, readReducedOf};
+ghost use Rattle.readers.specs.Readers.{tablesAfter, readFullOf, readReducedOf};
 use crate::begin::begin;
 use crate::begin::refuse;
 use crate::complete::complete;
@@ -25,7 +25,7 @@ use table::slots_of;
 // the table where it is refused.
 // Linear in the table's slots and in the file, as long as the searches are short.
 pub fn read_full(table: &mut [u8], scratch: &mut [u8], file: &[u8]) -> ReadBack
-    ensures { λ r. ⌜ outcome (r .number) (r .line) (now (table .exit)) (now (scratch .exit))
+    ensures { λ r. ⌜ tablesAfter (r .number) (r .line) (now (table .exit)) (now (scratch .exit))
         ≡ readFullOf (now (table .entry)) (now (scratch .entry)) (now (file .entry)) ⌝ }
 {
     let read = begin(table, scratch, file);
@@ -42,7 +42,7 @@ pub fn read_full(table: &mut [u8], scratch: &mut [u8], file: &[u8]) -> ReadBack
 
 // Reads a reduced file in the same way: what it leaves out is restored, and a redundant record that it kept is refused with 12.
 pub fn read_reduced(table: &mut [u8], scratch: &mut [u8], file: &[u8]) -> ReadBack
-    ensures { λ r. ⌜ outcome (r .number) (r .line) (now (table .exit)) (now (scratch .exit))
+    ensures { λ r. ⌜ tablesAfter (r .number) (r .line) (now (table .exit)) (now (scratch .exit))
         ≡ readReducedOf (now (table .entry)) (now (scratch .entry)) (now (file .entry)) ⌝ }
 {
     let read = begin(table, scratch, file);

@@ -14,21 +14,21 @@ use Rattle.table.specs.declared.slots.Slot.{Slot}
 use Rattle.table.specs.declared.slots.Slot.the-variants.{Free, Holds}
 use Rattle.text.specs.Line.{lines}
 use Rattle.marks.specs.Marks.{markedAt, marked-none}
-use Rattle.writers.specs.Files.{sorted, fullFile, outcome, putOf, writeOf}
+use Rattle.writers.specs.Files.{sorted, fullFile, outputAfter, putOf, writeOf}
 use Rattle.writers.specs.Kept.{markBytes, keptOf, keptAt, standing}
 use Rattle.writers.specs.LeftLaws.{fileOf}
 
-pub out-is : {n n′ b b′ : ℕ} (o : List ℕ) → n ≡ n′ → b ≡ b′ → outcome n b o ≡ outcome n′ b′ o
-out-is o e f = λ i. outcome (e i) (f i) o
+pub out-is : {n n′ b b′ : ℕ} (o : List ℕ) → n ≡ n′ → b ≡ b′ → outputAfter n b o ≡ outputAfter n′ b′ o
+out-is o e f = λ i. outputAfter (e i) (f i) o
 
 module _ (file t o : List ℕ) where
-  pub write-disorder : inOrderOf t ≡ false → outcome 1 0 o ≡ writeOf file t o
+  pub write-disorder : inOrderOf t ≡ false → outputAfter 1 0 o ≡ writeOf file t o
   unfolding writeOf
-  write-disorder e = ap (λ (b : Bool). cond b (putOf file o) (outcome 1 0 o)) (sym e)
+  write-disorder e = ap (λ (b : Bool). cond b (putOf file o) (outputAfter 1 0 o)) (sym e)
 
   pub write-order : inOrderOf t ≡ true → putOf file o ≡ writeOf file t o
   unfolding writeOf
-  write-order e = ap (λ (b : Bool). cond b (putOf file o) (outcome 1 0 o)) (sym e)
+  write-order e = ap (λ (b : Bool). cond b (putOf file o) (outputAfter 1 0 o)) (sym e)
 
 -- ---- nothing marked
 

@@ -17,7 +17,7 @@ use Rattle.table.specs.Order.{placedAt, allPlaced, inOrderOf}
 use Rattle.table.specs.Entries.{enterOf, recordsBelow, recordsOf}
 use Rattle.text.specs.Decimal.{digitsBy, digits}
 use Rattle.text.specs.Line.{pointText, starText, lineOf, lines}
-use Rattle.writers.specs.Files.{sorted, redundant, leaveOut, outcome, putOf, writeOf, writeFullOf, writeReducedOf}
+use Rattle.writers.specs.Files.{sorted, redundant, leaveOut, outputAfter, putOf, writeOf, writeFullOf, writeReducedOf}
 
 -- [a, b, 0], of degree d and orientation k, at level 0
 vertex : ℤ → ℤ → ℕ → ℕ → Record
@@ -57,15 +57,15 @@ file =
     ∷ []
 
 -- "and its reduced file is the same"; two bytes past the file stay
-hexagon-written : (writeFullOf one (replicate 90 7) ≡ outcome 0 88 (file ++ (7 ∷ 7 ∷ []))) ×
-    (writeReducedOf one (replicate 90 7) ≡ outcome 0 88 (file ++ (7 ∷ 7 ∷ [])))
+hexagon-written : (writeFullOf one (replicate 90 7) ≡ outputAfter 0 88 (file ++ (7 ∷ 7 ∷ []))) ×
+    (writeReducedOf one (replicate 90 7) ≡ outputAfter 0 88 (file ++ (7 ∷ 7 ∷ [])))
 unfolding vertex entered empty hexagon one file earlier redundant leaveOut putOf writeOf insertBy sortBy wordAt normalOf turns slotsIn freeAt recordAt
     slotAt recordBytes putSlot homeOf samePoint searchFrom findOf placedAt allPlaced inOrderOf enterOf recordsBelow digitsBy digits pointText starText
     lineOf lines
 hexagon-written = (refl, refl)
 
 -- refused: an output one byte short, and a table that is not in order
-refused : (writeFullOf one (replicate 87 7) ≡ outcome 13 0 (replicate 87 7)) × (writeReducedOf (255 ∷ one) [] ≡ outcome 1 0 [])
+refused : (writeFullOf one (replicate 87 7) ≡ outputAfter 13 0 (replicate 87 7)) × (writeReducedOf (255 ∷ one) [] ≡ outputAfter 1 0 [])
 unfolding vertex entered empty hexagon one earlier redundant leaveOut putOf writeOf insertBy sortBy wordAt normalOf turns slotsIn freeAt recordAt slotAt
     recordBytes putSlot homeOf samePoint searchFrom findOf placedAt allPlaced inOrderOf enterOf recordsBelow digitsBy digits pointText starText lineOf lines
 refused = (refl, refl)

@@ -1,6 +1,6 @@
 -- Document 01, "Files": the full and the reduced file of a table, and what the writers do. What the promises cite: `writeFullOf`, `writeReducedOf`.
 -- `before` the order of lines, `sorted` records in it · `fullFile` · `redundant` the records that the reduced file leaves out, `reducedFile` ·
--- `Outcome`, `writeOf` a file written, or refused.
+-- `OutputAfter`, `writeOf` a file written, or refused.
 -- Assumes nothing.
 use mathlib.Core.Bool.{Bool, cond, _&&_, _||_}
 use mathlib.Core.List.{List, [], _∷_, _++_}
@@ -52,25 +52,25 @@ reducedFile t = lines (sorted (leaveOut (redundant t) (recordsOf t)))
 -- ---- the calls
 
 -- "Writers give the bytes written": the number, how many bytes, and the output after
-pub record Outcome : Type 0 where
+pub record OutputAfter : Type 0 where
   pub number : ℕ
   pub bytes : ℕ
   pub out : List ℕ
 
-abbrev pub outcome : ℕ → ℕ → List ℕ → Outcome
-outcome n b o = record { number = n; bytes = b; out = o }
+abbrev pub outputAfter : ℕ → ℕ → List ℕ → OutputAfter
+outputAfter n b o = record { number = n; bytes = b; out = o }
 
 -- "output shorter than the file"; "Writers leave output past the file as found."
-unfoldable pub putOf : List ℕ → List ℕ → Outcome
-putOf file out = cond (ltb (length out) (length file)) (outcome 13 0 out) (outcome 0 (length file) (file ++ drop (length file) out))
+unfoldable pub putOf : List ℕ → List ℕ → OutputAfter
+putOf file out = cond (ltb (length out) (length file)) (outputAfter 13 0 out) (outputAfter 0 (length file) (file ++ drop (length file) out))
 
 -- "Writers 1, 13", "0 if refused", "Refused .. writers change no lent byte."
-unfoldable pub writeOf : List ℕ → List ℕ → List ℕ → Outcome
+unfoldable pub writeOf : List ℕ → List ℕ → List ℕ → OutputAfter
 unfolding putOf
-writeOf file t out = unless (inOrderOf t) (outcome 1 0 out) (putOf file out)
+writeOf file t out = unless (inOrderOf t) (outputAfter 1 0 out) (putOf file out)
 
-abbrev pub writeFullOf : List ℕ → List ℕ → Outcome
+abbrev pub writeFullOf : List ℕ → List ℕ → OutputAfter
 writeFullOf t out = writeOf (fullFile t) t out
 
-abbrev pub writeReducedOf : List ℕ → List ℕ → Outcome
+abbrev pub writeReducedOf : List ℕ → List ℕ → OutputAfter
 writeReducedOf t out = writeOf (reducedFile t) t out

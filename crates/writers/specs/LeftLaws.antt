@@ -1,5 +1,5 @@
 -- Lines written from the last back, while the keys of those still to come stand sorted at the output's beginning.
--- `fileOf` the file of what is kept · `Ready` the keys stand there, no line does · `Left` k keys are left, the lines of the others stand from `at` on:
+-- `fileOf` the file of what is kept · `Keyed` the keys stand there, no line does · `Left` k keys are left, the lines of the others stand from `at` on:
 -- `left-start`, `left-top` the next key is the last of those left, `left-step`, `left-end`.
 -- Assumes nothing.
 use mathlib.Core.Path.{_≡_, sym, ap, _∙_, subst}
@@ -23,7 +23,7 @@ use Rattle.sorting.specs.SortLaws.{sort-length, mem-sort, at-mem}
 use Rattle.sorting.specs.Tally.{nth}
 use Rattle.sorting.specs.Keys.{key-before}
 use Rattle.sorting.specs.KeyLaws.{firsts-length, firsts-at}
-use Rattle.writers.specs.Files.{before, sorted, outcome, putOf}
+use Rattle.writers.specs.Files.{before, sorted, outputAfter, putOf}
 use Rattle.writers.specs.Kept.{places, keptAt, standing, keysBelow, recordKeyed}
 use Rattle.writers.specs.KeptLaws.{keys-sorted, keys-inside, keys-length, lines-sorted, kept-part, Filled}
 
@@ -38,7 +38,7 @@ keysOf t m = keysBelow (keptAt t m) (slotsOf t)
 abbrev pub ordered : List ℕ → List ℕ → List ℕ
 ordered t m = sortBy ltb (keysOf t m)
 
-pub record Ready (t m o : List ℕ) (k total : ℕ) : Type 0 where
+pub record Keyed (t m o : List ℕ) (k total : ℕ) : Type 0 where
   pub keys : keysIn o k ≡ ordered t m
   pub long : total ≡ length (fileOf t m)
   pub room : total ≤ length o
@@ -63,7 +63,7 @@ module _ (t : List ℕ) (in-order : InOrder t) (m : List ℕ) where
   ordered-inside k l =
       keys-inside t in-order (keptAt t m) (kept-part t m) (nth (ordered t m) k) (mem-sort ltb (keysOf t m) (nth (ordered t m) k) (at-mem 0 (ordered t m) k l))
 
-  pub left-start : (o : List ℕ) (k total : ℕ) → Ready t m o k total → Left t (ordered t m) (drop total o) o k total
+  pub left-start : (o : List ℕ) (k total : ℕ) → Keyed t m o k total → Left t (ordered t m) (drop total o) o k total
   unfolding lines
   left-start o k total r =
       let e : k ≡ length (ordered t m) = sym (firsts-length (keyIn o) k) ∙ ap length (r .keys) in
@@ -170,17 +170,17 @@ pub keys-all : (t m : List ℕ) (n : ℕ) → n ≡ slotsOf t → shortest * len
 keys-all t m n e = subst (λ (x : ℕ). shortest * length (keysBelow (keptAt t m) x) ≤ length (fileOf t m)) (sym e) (keys-fit t m)
 
 module _ (t m o : List ℕ) (total : ℕ) (long : total ≡ length (fileOf t m)) where
-  pub put-short : length o < total → outcome 13 0 o ≡ putOf (fileOf t m) o
+  pub put-short : length o < total → outputAfter 13 0 o ≡ putOf (fileOf t m) o
   unfolding putOf
   put-short h =
-      ap (λ (b : Bool). cond b (outcome 13 0 o) (outcome 0 (length (fileOf t m)) (fileOf t m ++ drop (length (fileOf t m)) o)))
+      ap (λ (b : Bool). cond b (outputAfter 13 0 o) (outputAfter 0 (length (fileOf t m)) (fileOf t m ++ drop (length (fileOf t m)) o)))
       (sym (lt-ltb (length o) (length (fileOf t m)) (omega arith)))
 
-  pub put-done : (o′ : List ℕ) → total ≤ length o → o′ ≡ fileOf t m ++ drop total o → outcome 0 total o′ ≡ putOf (fileOf t m) o
+  pub put-done : (o′ : List ℕ) → total ≤ length o → o′ ≡ fileOf t m ++ drop total o → outputAfter 0 total o′ ≡ putOf (fileOf t m) o
   unfolding putOf
   put-done o′ h e =
-      (λ i. outcome 0 (long i) (e i)) ∙ ap (λ (n : ℕ). outcome 0 (length (fileOf t m)) (fileOf t m ++ drop n o)) long
-      ∙ ap (λ (b : Bool). cond b (outcome 13 0 o) (outcome 0 (length (fileOf t m)) (fileOf t m ++ drop (length (fileOf t m)) o)))
+      (λ i. outputAfter 0 (long i) (e i)) ∙ ap (λ (n : ℕ). outputAfter 0 (length (fileOf t m)) (fileOf t m ++ drop n o)) long
+      ∙ ap (λ (b : Bool). cond b (outputAfter 13 0 o) (outputAfter 0 (length (fileOf t m)) (fileOf t m ++ drop (length (fileOf t m)) o)))
       (sym (le-ltb (length o) (length (fileOf t m)) (omega arith)))
 
   module _ (o₁ o₂ : List ℕ) (k : ℕ) (room : total ≤ length o) (f : Filled o (keysOf t m) o₁ k) (s : Sorts o₁ k o₂) where
@@ -190,7 +190,7 @@ module _ (t m o : List ℕ) (total : ℕ) (long : total ≡ length (fileOf t m))
         ext-getD 0 (keysIn o₁ k) (keysOf t m) (n ∙ f .count)
         (λ i l. let h : i < k = omega arith in firsts-at (keyIn o₁) k i h ∙ f .keys i (omega (arith, f .count)))
 
-    pub ready : Ready t m o₂ k total
+    pub ready : Keyed t m o₂ k total
     ready = record { keys = s .keys ∙ ap (sortBy ltb) filled-keys; long = long; room = omega (arith, s .long, f .long) }
 
     pub ready-past : drop total o₂ ≡ drop total o

@@ -5,7 +5,7 @@
 ghost use mathlib.Core.Path.{_≡_};
 ghost use Rattle.table.specs.Order.{InOrder};
 ghost use Rattle.table.specs.Slots.{slotsOf};
-ghost use Rattle.writers.specs.Files.{outcome, putOf, writeFullOf, writeReducedOf};
+ghost use Rattle.writers.specs.Files.{outputAfter, putOf, writeFullOf, writeReducedOf};
 ghost use Rattle.writers.specs.LeftLaws.{fileOf};
 
 mod kept;
@@ -40,7 +40,7 @@ fn answer(number: u8, bytes: u64) -> Written
 // Writes the file of the records that are not marked.
 fn write_kept(table: &[u8], marks: &[u8; MARK_BYTES], n: usize, out: &mut [u8]) -> Written
     requires { ⌜ InOrder (now table) × (n ≡ slotsOf (now table)) ⌝ }
-    ensures { λ r. ⌜ outcome (r .number) (r .bytes) (now (out .exit)) ≡ putOf (fileOf (now (table .entry)) (now (marks .entry))) (now (out .entry)) ⌝ }
+    ensures { λ r. ⌜ outputAfter (r .number) (r .bytes) (now (out .exit)) ≡ putOf (fileOf (now (table .entry)) (now (marks .entry))) (now (out .entry)) ⌝ }
 {
     let total = file_length(table, marks, n);
     if out.len() < total {
@@ -55,7 +55,7 @@ fn write_kept(table: &[u8], marks: &[u8; MARK_BYTES], n: usize, out: &mut [u8]) 
 // Writes the full file of a table: every record, in the order of lines. Refused with 1 or 13, no byte is changed; bytes past the file never are.
 // In time n log n for n slots, as long as the searches are short, with no memory but the output and 8 KiB of stack.
 pub fn write_full(table: &[u8], out: &mut [u8]) -> Written
-    ensures { λ r. ⌜ outcome (r .number) (r .bytes) (now (out .exit)) ≡ writeFullOf (now (table .entry)) (now (out .entry)) ⌝ }
+    ensures { λ r. ⌜ outputAfter (r .number) (r .bytes) (now (out .exit)) ≡ writeFullOf (now (table .entry)) (now (out .entry)) ⌝ }
 {
     if !in_order(table) {
         return answer(NOT_IN_ORDER, 0);
@@ -67,7 +67,7 @@ pub fn write_full(table: &[u8], out: &mut [u8]) -> Written
 
 // Writes the reduced file of a table: every record but those of degree 3 that some vertex of degree 6 names. As `write_full` in all else.
 pub fn write_reduced(table: &[u8], out: &mut [u8]) -> Written
-    ensures { λ r. ⌜ outcome (r .number) (r .bytes) (now (out .exit)) ≡ writeReducedOf (now (table .entry)) (now (out .entry)) ⌝ }
+    ensures { λ r. ⌜ outputAfter (r .number) (r .bytes) (now (out .exit)) ≡ writeReducedOf (now (table .entry)) (now (out .entry)) ⌝ }
 {
     if !in_order(table) {
         return answer(NOT_IN_ORDER, 0);

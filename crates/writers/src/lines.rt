@@ -6,7 +6,7 @@ ghost use lib.ListN.{length, drop};
 ghost use Rattle.table.specs.Slots.{slotWidth};
 ghost use Rattle.table.specs.Order.{InOrder};
 ghost use Rattle.writers.specs.Kept.{places, recordKeyed};
-ghost use Rattle.writers.specs.LeftLaws.{Ready, fileOf};
+ghost use Rattle.writers.specs.LeftLaws.{Keyed, fileOf};
 use crate::keys::PLACES;
 use lattice::Record;
 use lattice::blank;
@@ -29,8 +29,8 @@ fn record_keyed(table: &[u8], v: u64) -> Record
 
 // Writes the lines of k keys, which are sorted, whatever marks m left them; total is how long the lines are.
 pub fn write_lines(table: &[u8], out: &mut [u8], k: usize, total: usize)
-    requires { ⌜ InOrder (now table) × ((m : List ℕ) × Ready (now table) m (now out) k total) ⌝ }
-    ensures { λ _. ⌜ ((m : List ℕ) → Ready (now (table .entry)) m (now (out .entry)) k total → now (out .exit)
+    requires { ⌜ InOrder (now table) × ((m : List ℕ) × Keyed (now table) m (now out) k total) ⌝ }
+    ensures { λ _. ⌜ ((m : List ℕ) → Keyed (now (table .entry)) m (now (out .entry)) k total → now (out .exit)
         ≡ fileOf (now (table .entry)) m ++ drop total (now (out .entry))) ⌝ }
 {
     let mut left = k;

@@ -7,9 +7,11 @@ ghost use Rattle.table.specs.Slots.{Table, slotsOf, slotAt};
 ghost use Rattle.table.specs.Search.{findOf};
 ghost use Rattle.table.specs.Order.{InOrder, isAt};
 ghost use Rattle.writers.specs.Named.{starFinds, slotFinds, tableFinds};
+use lattice::ANSWER_NUMBERS;
 use lattice::Point;
 use lattice::Record;
-use lattice::adjacent_of;
+use lattice::point_at;
+use lattice::ring;
 use marks::mark;
 use table::Found;
 use table::Slot;
@@ -37,9 +39,11 @@ fn mark_star(table: &[u8], v: Record, n: usize, marks: &mut [u8; MARK_BYTES])
     requires { ⌜ Inner v × (v .d ≡ 6) ⌝ }
     ensures { λ _. ⌜ Marks (now (marks .entry)) (starFinds (now (table .entry)) v 6) (now (marks .exit)) ⌝ }
 {
+    let mut row = [0; ANSWER_NUMBERS];
+    ring(&mut row, v);
     let mut j: u8 = 0;
     while j < 6 {
-        mark_point(table, adjacent_of(v, j), n, marks);
+        mark_point(table, point_at(&row, v, j), n, marks);
         j += 1;
     }
 }

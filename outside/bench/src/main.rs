@@ -59,6 +59,7 @@ fn main() {
     subdivision(&mut bench, &levels);
     queries(&mut bench, table);
     many(&mut bench, table);
+    counts(&mut bench, table);
     files(&mut bench, table);
     census(&mut bench);
     bench.print();
@@ -75,9 +76,15 @@ fn main() {
     }
 }
 
+/// Record i of a list that goes through degrees, all their orientations, depths and levels.
+fn star_in_turn(i: i32) -> [i32; 6] {
+    let (d, orientations) = [(3, 4), (4, 12), (5, 12), (6, 2)][i as usize % 4];
+    let k = i / 4 % orientations;
+    [i % 251, -(i % 97), i % 7, d, k, k % 2 + 2 * (i / 48 % 6)]
+}
+
 fn stars(bench: &mut Bench) {
-    let list: Vec<[i32; 6]> =
-        (0..10_000).map(|i| [i % 251, -(i % 97), i % 7, [3, 4, 5, 6][i as usize % 4], i % 2, i % 2 + 2 * (i % 6)]).collect();
+    let list: Vec<[i32; 6]> = (0..10_000).map(star_in_turn).collect();
     let all = |star: &dyn Fn(i32, i32, u8, u8, u8, u8) -> i32| -> i32 {
         list.iter().map(|r| star(r[0], r[1], r[2] as u8, r[3] as u8, r[4] as u8, r[5] as u8)).fold(0, i32::wrapping_add)
     };
@@ -219,6 +226,13 @@ fn many(bench: &mut Bench, table: &[u8]) {
         );
         assert!(answers == other);
     }
+}
+
+/// Edges and faces of a sheet, which here is not known to be grown.
+fn counts(bench: &mut Bench, table: &[u8]) {
+    assert_eq!(library::counts(table), plain::counts(table));
+    let task = Task { name: "counts", unit: "vertex", units: count(table) };
+    bench.run(task, &mut || clock::time(|| library::counts(table)), &mut || clock::time(|| plain::counts(table)), None);
 }
 
 type Write = fn(&[u8], &mut [u8]) -> (u8, u64);

@@ -3,7 +3,6 @@
 
 mod commands;
 mod counted;
-mod counts;
 mod draw;
 mod files;
 mod lists;

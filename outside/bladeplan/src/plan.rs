@@ -1,11 +1,10 @@
-//! A plan loaded: the table that a reader or a base gave, and its records in file order; all neighbours, all faces, the counts.
+//! A plan loaded: the table that a reader or a base gave, and its records in file order; all faces, the counts.
 
-use crate::counts::Counts;
 use crate::files;
 use crate::place::Place;
 use crate::sizes;
 use crate::trouble::{Outcome, Trouble};
-use flaskbloom::{normalise, Point, Record, Refusal, RefusedAt, Table};
+use flaskbloom::{normalise, Counts, Point, Record, Refusal, RefusedAt, Table};
 use std::ffi::OsStr;
 
 /// The longest line that a reader passes.
@@ -78,12 +77,6 @@ impl Plan {
         self.place(p).map(|at| self.records[at])
     }
 
-    /// The neighbours of every vertex, in file order, each in star order; none at the rim.
-    pub fn neighbours_all(&self) -> Outcome<Vec<Vec<Point>>> {
-        let answers = self.table.neighbours_all(&self.points()).map_err(|refusal| self.refused(refusal))?;
-        self.answered(answers.into_iter().map(|answer| answer.map(|list| list.to_vec())))
-    }
-
     /// The faces round every vertex, in file order, each counter-clockwise from it; none at the rim. A face stands at each of its inner
     /// corners: `faces` has it once.
     pub fn faces_all(&self) -> Outcome<Vec<Vec<Face>>> {
@@ -118,7 +111,7 @@ impl Plan {
 
     /// V, E, F and the vertices by degree.
     pub fn counts(&self) -> Outcome<Counts> {
-        Counts::of(self)
+        self.table.counts().map_err(|refusal| self.refused(refusal))
     }
 
     /// The full file.

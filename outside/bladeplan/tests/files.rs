@@ -35,9 +35,29 @@ fn a_write_that_fails_half_way_leaves_the_old_file() {
 fn a_run_that_is_killed_in_a_write_leaves_the_old_file() {
     let desk = with_a_long_plan("killed");
     assert_ne!(desk.shell(LIMITED).status, 0);
-    assert_eq!(desk.get("kept"), "the old file\n");
+    assert_eq!((desk.get("kept").as_str(), desk.files().len()), ("the old file\n", 4));
     assert_eq!(desk.run("restore plan.full -o kept -q").status, 0);
     assert_eq!(desk.get("kept"), desk.get("plan.full"));
+    assert_eq!(desk.files(), ["centres.txt", "kept", "plan.full"], "what it left is cleared away by the next");
+}
+
+/// Only what a killed run left goes: not what another run is writing, nor what merely has such a name.
+#[test]
+fn what_another_run_is_writing_stays() {
+    let desk = Desk::with_plan("writing");
+    let others = [".bladeplan-", ".bladeplan-1", ".bladeplan-1-", ".bladeplan-1-x", ".bladeplan-2-0"];
+    others.iter().for_each(|name| desk.put(name, "another's"));
+    fs::create_dir(desk.place.join(".bladeplan-3-0")).expect("a directory");
+    symlink("plan.full", desk.place.join(".bladeplan-4-0")).expect("a link");
+    let before = desk.files();
+    let writing = fs::File::open(desk.place.join(".bladeplan-2-0")).expect("the file");
+    writing.lock().expect("locked");
+    desk.good("reduce plan.full -o plan.full -q");
+    assert_eq!(desk.files(), before);
+    drop(writing);
+    desk.good("restore plan.full -o plan.full -q");
+    let after: Vec<String> = before.into_iter().filter(|name| name != ".bladeplan-2-0").collect();
+    assert_eq!(desk.files(), after);
 }
 
 #[test]

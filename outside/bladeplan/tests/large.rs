@@ -54,6 +54,24 @@ fn with_another_star(base: &str, points: &[String]) -> usize {
     points.iter().flat_map(around).filter(|point| inner.contains(point)).collect::<HashSet<_>>().len()
 }
 
+/// The census, past what the census program takes: every vertex and, three a hexagon and six more a subdivision, every face.
+#[test]
+fn counted() {
+    let desk = Desk::new("counted");
+    desk.put("centres.txt", rhombus(HALF));
+    desk.good("lay centres.txt -o base.full");
+    desk.good("subdivide base.full 1,0 4,0 3,0,1 -o plan.full");
+    desk.good("reduce plan.full -o plan.reduced");
+    let census = desk.good("census plan.full");
+    assert_eq!(desk.good("census plan.reduced"), census);
+    let numbers: Vec<usize> = census.lines().nth(1).expect("numbers").split('\t').map(|field| field.parse().expect("a number")).collect();
+    let (vertices, faces) = (desk.get("plan.full").lines().count(), 3 * centres(HALF).count() + 6 * 3);
+    assert!(vertices > 64_000);
+    assert_eq!((numbers[0], numbers[2], numbers[3..].iter().sum()), (vertices, faces, vertices));
+    let told = format!(": {vertices} vertices, {} edges, {faces} faces\n", numbers[1]);
+    assert!(desk.good("check plan.reduced").ends_with(&told));
+}
+
 #[test]
 fn one_vertex_more() {
     let desk = Desk::new("larger");

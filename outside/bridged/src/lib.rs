@@ -3,7 +3,7 @@
 //! It runs on any machine that the kit runs on, under the kit's emulator where that is no x86-64. The bridge lends the bytes between
 //! guards, on a stack of 128 KiB; it says how much of that was used.
 
-use differential::caller::{Caller, Points};
+use differential::caller::{Caller, Numbers, Points};
 use std::io::{Read, Write};
 use std::process::{Child, ChildStdin, ChildStdout, Command, Stdio};
 use std::sync::Mutex;
@@ -26,6 +26,7 @@ enum Call {
     Census,
     NeighboursAll,
     FacesAll,
+    Counts,
     StackUsed,
 }
 
@@ -214,5 +215,9 @@ impl Caller for Library {
     }
     fn census(&self, input: &[u8], table: &mut [u8], scratch: &mut [u8], out: &mut [u8]) -> (u8, u64) {
         self.ask(Call::Census, NO_FIELDS, &mut [table, scratch, out], &[input]).value()
+    }
+    fn counts(&self, table: &[u8]) -> (u8, Numbers) {
+        let answer = self.ask(Call::Counts, NO_FIELDS, &mut [], &[table]);
+        (answer.number, std::array::from_fn(|i| answer.points[i] as u32))
     }
 }

@@ -1,8 +1,9 @@
-//! The calls of the C interface as a trait: each gives its number and its value (points, place, line, count or bytes written).
+//! The calls of the C interface as a trait: each gives its number and its value (points, place, line, count, bytes written or counts).
 
 use mesher::slips::{self, Slip};
 
 pub type Points = [i32; 19];
+pub type Numbers = [u32; 8];
 
 pub trait Caller: Sync {
     fn normalise(&self, a: i32, b: i32, m: u8) -> (u8, [i32; 3]);
@@ -19,6 +20,7 @@ pub trait Caller: Sync {
     fn read_full(&self, table: &mut [u8], scratch: &mut [u8], file: &[u8]) -> (u8, u64);
     fn read_reduced(&self, table: &mut [u8], scratch: &mut [u8], file: &[u8]) -> (u8, u64);
     fn census(&self, input: &[u8], table: &mut [u8], scratch: &mut [u8], out: &mut [u8]) -> (u8, u64);
+    fn counts(&self, table: &[u8]) -> (u8, Numbers);
 }
 
 thread_local! {
@@ -93,6 +95,9 @@ impl Caller for Mesher {
     fn census(&self, input: &[u8], table: &mut [u8], scratch: &mut [u8], out: &mut [u8]) -> (u8, u64) {
         told(mesher::census(input, table, scratch, out))
     }
+    fn counts(&self, table: &[u8]) -> (u8, Numbers) {
+        told(mesher::counts(table))
+    }
 }
 
 /// The mesher with one deliberate mistake.
@@ -141,6 +146,9 @@ impl Caller for Slipped {
     fn census(&self, input: &[u8], table: &mut [u8], scratch: &mut [u8], out: &mut [u8]) -> (u8, u64) {
         slips::with(self.0, || Mesher.census(input, table, scratch, out))
     }
+    fn counts(&self, table: &[u8]) -> (u8, Numbers) {
+        slips::with(self.0, || Mesher.counts(table))
+    }
 }
 
 /// The plain fast one.
@@ -188,5 +196,8 @@ impl Caller for Plain {
     }
     fn census(&self, input: &[u8], table: &mut [u8], scratch: &mut [u8], out: &mut [u8]) -> (u8, u64) {
         plain::census(input, table, scratch, out)
+    }
+    fn counts(&self, table: &[u8]) -> (u8, Numbers) {
+        plain::counts(table)
     }
 }

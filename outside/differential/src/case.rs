@@ -20,6 +20,7 @@ pub enum Case {
     ReadFull { table: Vec<u8>, scratch: Vec<u8>, file: Vec<u8> },
     ReadReduced { table: Vec<u8>, scratch: Vec<u8>, file: Vec<u8> },
     Census { input: Vec<u8>, table: Vec<u8>, scratch: Vec<u8>, out: Vec<u8> },
+    Counts { table: Vec<u8> },
 }
 
 #[derive(PartialEq, Eq, Clone, Debug)]
@@ -97,6 +98,7 @@ impl Case {
             Case::ReadFull { .. } => "read_full",
             Case::ReadReduced { .. } => "read_reduced",
             Case::Census { .. } => "census",
+            Case::Counts { .. } => "counts",
         }
     }
 
@@ -157,6 +159,11 @@ impl Case {
                 let given = count(caller.census(input.get(), table.get(), scratch.get(), out.get()));
                 (given, vec![input, table, scratch, out])
             }
+            Case::Counts { table } => {
+                let mut table = Lent::new(table);
+                let (number, counts) = caller.counts(table.get());
+                ((number, counts.iter().map(|v| *v as i64).collect()), vec![table])
+            }
         };
         Outcome { number, value, lent: lent.into_iter().map(Lent::back).collect() }
     }
@@ -199,6 +206,7 @@ impl std::fmt::Display for Case {
             Case::Census { input, table, scratch, out } => {
                 write!(f, "table {}, scratch {}, output {}, input {}", table.len(), scratch.len(), out.len(), shown(input))
             }
+            Case::Counts { table } => write!(f, "{}", shown(table)),
         }
     }
 }

@@ -36,6 +36,10 @@ const MALFORMED: [&str; 8] = [
     "a line without its line feed",
 ];
 
+/// What is counted besides a grown mesh.
+const COUNTED: [&str; 4] =
+    ["done, an empty table", "done, an adjacent is absent", "done, a corner with no opposite", "done, not a grown mesh"];
+
 type Key = (&'static str, u8, &'static str);
 
 #[derive(Default)]
@@ -91,7 +95,7 @@ pub fn expected() -> Vec<Key> {
     let one_of_many = ["neighbours_all, one", "faces_all, one"];
     let writers = ["write_full", "write_reduced"];
     let readers = ["read_full", "read_reduced", "census"];
-    let of_a_table = [subdividing, queries, many, writers].concat();
+    let of_a_table = [&[subdividing, queries, many, writers].concat()[..], &["counts"]].concat();
     let of_a_point = [subdividing, queries, one_of_many].concat();
     let all = [&["normalise", "star", "base"][..], &of_a_table, &one_of_many, &readers].concat();
     let not_in_order = [&FAULTS[..], &NOT_IN_ORDER].concat();
@@ -114,6 +118,7 @@ pub fn expected() -> Vec<Key> {
         keys(&[queries, one_of_many].concat(), 7, &["an adjacent is absent"]),
         keys(&["faces", "faces_all, one"], 7, &["a corner with no opposite"]),
         keys(&many, 0, &["done, numbers past the last triple"]),
+        keys(&["counts"], 0, &COUNTED),
         keys(&many, 13, &["too little room for the answers"]),
         keys(&["write_full", "write_reduced", "census"], 13, &["output shorter than the file"]),
         keys(&readers, 1, &["length doesn't fit", "scratch of another length"]),

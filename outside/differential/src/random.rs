@@ -211,6 +211,15 @@ impl Cases {
         }
     }
 
+    /// Among the tables also empty ones.
+    fn counts(&mut self) -> Case {
+        let (mut table, _) = self.table();
+        if self.rng.once_in(20) {
+            table.fill(255);
+        }
+        Case::Counts { table }
+    }
+
     fn census(&mut self) -> Case {
         let made = self.file(false);
         let (mut table, mut scratch) = self.lengths(&made);
@@ -262,7 +271,8 @@ impl Iterator for Cases {
             }
             55..=56 => self.query_all(false),
             57..=58 => self.query_all(true),
-            59..=68 => {
+            59..=60 => self.counts(),
+            61..=68 => {
                 let (table, records) = self.table();
                 Case::Faces { table, point: request(&mut self.rng, &records, false) }
             }

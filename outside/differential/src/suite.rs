@@ -147,7 +147,7 @@ pub fn single_edits(caller: &dyn Caller) {
     assert!(grown_after > 0);
 }
 
-/// Meshes that are nearly grown, as files: number 11 where only the whole tells.
+/// Meshes that are nearly grown, as files: number 11 where only the whole tells; and counted, which asks for none.
 pub fn nearly_grown_files(caller: &dyn Caller) {
     let mut rng = Rng::new(seed() ^ 0x11a);
     let mut accepted = 0;
@@ -157,6 +157,8 @@ pub fn nearly_grown_files(caller: &dyn Caller) {
         for _ in 0..10 {
             let list = nearly_grown(&mut rng, &mesh);
             accepted += readers(caller, &list);
+            let table = laid(&mut rng, &list, list.len() + 16);
+            assert_eq!(same(caller, &Case::Counts { table }), 0);
         }
     }
     assert!(accepted > 1_000);
@@ -205,6 +207,7 @@ pub fn single_bytes(caller: &dyn Caller) {
             same(caller, &Case::Faces { table: table.clone(), point });
             let points = vec![point.0[0], point.0[1], point.1 as i32, 1, 0, 0];
             same(caller, &Case::FacesAll { table: table.clone(), points, answers: vec![3; 41] });
+            same(caller, &Case::Counts { table: table.clone() });
             same(caller, &Case::WriteReduced { table, out: vec![3; 400] });
         }
     }
@@ -317,6 +320,9 @@ pub fn large_meshes(caller: &dyn Caller) {
             same(caller, &Case::Faces { table: table.clone(), point: ([v.a, v.b], v.m) });
             same(caller, &Case::WriteFull { table: damaged(&mut rng, &table), out: vec![5; 26 * slots] });
         }
+        assert_eq!(same(caller, &Case::Counts { table: table.clone() }), 0);
+        let rent = torn(&mut rng, &list);
+        assert_eq!(same(caller, &Case::Counts { table: laid(&mut rng, &rent, rent.len() + 9) }), 0);
         let mut out = vec![5; 26 * slots];
         same(caller, &Case::WriteFull { table: table.clone(), out: out.clone() });
         same(caller, &Case::WriteReduced { table: table.clone(), out: out.clone() });
@@ -360,6 +366,7 @@ pub fn crowded_tables(caller: &dyn Caller) {
                     same(caller, &Case::Subdivide { table: damaged(&mut rng, &table), point: ([p.a, p.b], p.m) });
                 }
             }
+            assert_eq!(same(caller, &Case::Counts { table: table.clone() }), 0);
             same(caller, &Case::WriteReduced { table: table.clone(), out: vec![5; 26 * slots] });
             let (lent, scratch) = (vec![5; slots * SLOT], vec![6; slots * SLOT]);
             same(caller, &Case::ReadReduced { table: lent, scratch, file: file(&list, false).into_bytes() });
@@ -398,6 +405,7 @@ pub fn small_stack(caller: &dyn Caller) {
     let (points, answers) = (vec![1, 0, 0, 3, 0, 1], vec![0; 40]);
     run(Case::NeighboursAll { table: table.clone(), points: points.clone(), answers: answers.clone() });
     run(Case::FacesAll { table: table.clone(), points, answers });
+    assert_eq!(run(Case::Counts { table: table.clone() }).number, 0);
     let full = run(Case::WriteFull { table: table.clone(), out: out.clone() });
     let reduced = run(Case::WriteReduced { table, out });
     let text = |written: Outcome| written.lent[1][..written.value[0] as usize].to_vec();

@@ -13,7 +13,8 @@
 //!
 //! `Table` owns its slots; `Refusal` is document 01's numbers; `normalise` and `star` need no mesh; `census` is the program's text.
 //! Every call but `normalise`, `star` and the reading of fields first tests the whole table, in time linear in its slots: to subdivide
-//! many points use `subdivide_all`, which tests it once; to ask of many, `neighbours_all`, `opposites_all` and `faces_all`.
+//! many points use `subdivide_all`, which tests it once; to ask of many, `neighbours_all`, `opposites_all` and `faces_all`. `Table::counts` has
+//! the census's numbers of a table of any size.
 
 pub mod raw;
 pub mod slices;
@@ -149,6 +150,16 @@ impl std::ops::Deref for Points {
     fn deref(&self) -> &[Point] {
         &self.list[..self.count]
     }
+}
+
+/// How many vertices, edges and faces a mesh has.
+#[derive(Clone, Copy, PartialEq, Eq, Hash, Debug)]
+pub struct Counts {
+    pub vertices: usize,
+    pub edges: usize,
+    pub faces: usize,
+    /// Vertices of degree 0, 3, 4, 5, 6.
+    pub degrees: [usize; 5],
 }
 
 /// What a query answers: the points, or why not.
@@ -300,6 +311,14 @@ impl Table {
         let mut out = vec![0; ANSWER * list.len()];
         Refusal::of(call(&self.bytes, &flat(list), &mut out))?;
         Ok(out.chunks_exact(ANSWER).map(|a| points((a[0] as u8, std::array::from_fn(|i| a[i + 1])))).collect())
+    }
+
+    /// The census's numbers, whatever the table's size; refused is only a table that is not in order.
+    pub fn counts(&self) -> Result<Counts, Refusal> {
+        let (number, numbers) = slices::counts(&self.bytes);
+        Refusal::of(number)?;
+        let [vertices, edges, faces, d0, d3, d4, d5, d6] = numbers.map(|count| count as usize);
+        Ok(Counts { vertices, edges, faces, degrees: [d0, d3, d4, d5, d6] })
     }
 
     /// The full file.

@@ -8,14 +8,7 @@ extern "C" {
     pub fn fb_subdivide_all(table: *mut u8, table_len: usize, points: *const i32, count: usize, done: *mut u64) -> u8;
     pub fn fb_neighbours(table: *const u8, table_len: usize, a: i32, b: i32, m: u8, points: *mut i32) -> u8;
     pub fn fb_faces(table: *const u8, table_len: usize, a: i32, b: i32, m: u8, points: *mut i32) -> u8;
-    pub fn fb_neighbours_all(
-        table: *const u8,
-        table_len: usize,
-        points: *const i32,
-        count: usize,
-        answers: *mut i32,
-        room: usize,
-    ) -> u8;
+    pub fn fb_neighbours_all(table: *const u8, table_len: usize, points: *const i32, count: usize, answers: *mut i32, room: usize) -> u8;
     pub fn fb_faces_all(table: *const u8, table_len: usize, points: *const i32, count: usize, answers: *mut i32, room: usize) -> u8;
     pub fn fb_write_full(table: *const u8, table_len: usize, out: *mut u8, out_len: usize, written: *mut u64) -> u8;
     pub fn fb_write_reduced(table: *const u8, table_len: usize, out: *mut u8, out_len: usize, written: *mut u64) -> u8;
@@ -48,4 +41,5 @@ extern "C" {
         out_len: usize,
         written: *mut u64,
     ) -> u8;
+    pub fn fb_counts(table: *const u8, table_len: usize, numbers: *mut u32) -> u8;
 }

@@ -4,10 +4,13 @@ use crate::raw;
 
 /// A count and six points as a, b, m.
 pub type Points = [i32; 19];
+/// V, E, F, and the vertices of degree 0, 3, 4, 5, 6.
+pub type Numbers = [u32; 8];
 
 /// What out-parameters hold before a call: nothing that a call gives, so one left unset is seen.
 const UNSET: u64 = u64::MAX;
 const NO_POINTS: Points = [i32::MIN; 19];
+const NO_NUMBERS: Numbers = [u32::MAX; 8];
 
 pub fn normalise(a: i32, b: i32, m: u8) -> (u8, [i32; 3]) {
     let mut point = [i32::MIN; 3];
@@ -81,4 +84,9 @@ pub fn census(input: &[u8], table: &mut [u8], scratch: &mut [u8], out: &mut [u8]
     let number =
         unsafe { raw::fb_census(input.as_ptr(), input.len(), t, table.len(), s, scratch.len(), out.as_mut_ptr(), out.len(), &mut written) };
     (number, written)
+}
+
+pub fn counts(table: &[u8]) -> (u8, Numbers) {
+    let mut numbers = NO_NUMBERS;
+    (unsafe { raw::fb_counts(table.as_ptr(), table.len(), numbers.as_mut_ptr()) }, numbers)
 }

@@ -37,6 +37,16 @@ fn three_hexagons() {
 }
 
 #[test]
+fn counting() {
+    let mut sheet = three();
+    assert_eq!(sheet.counts(), Ok(Counts { vertices: 16, edges: 12, faces: 9, degrees: [12, 3, 0, 0, 1] }));
+    sheet.subdivide_all(&[Point::new(1, 0, 0); 2]).unwrap();
+    assert_eq!(sheet.counts(), Ok(Counts { vertices: 28, edges: 36, faces: 21, degrees: [12, 6, 9, 0, 1] }));
+    assert_eq!(Table::from_bytes(vec![255; 192]).counts(), Ok(Counts { vertices: 0, edges: 0, faces: 0, degrees: [0; 5] }));
+    assert_eq!(Table::from_bytes(vec![1; 192]).counts(), Err(Refusal::NotInOrder));
+}
+
+#[test]
 fn subdividing() {
     let mut sheet = three();
     assert_eq!(sheet.subdivide(Point::new(0, 0, 0)), Err(Refusal::NotDegreeSix));

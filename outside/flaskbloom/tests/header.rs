@@ -26,6 +26,7 @@ fn in_rust(c: &str) -> String {
     let kind = match *plain[0] {
         "uint8_t" => "u8",
         "int32_t" => "i32",
+        "uint32_t" => "u32",
         "uint64_t" => "u64",
         "size_t" => "usize",
         other => panic!("an unknown type: {other}"),
@@ -56,7 +57,7 @@ fn header() -> Vec<(String, Vec<String>)> {
 #[test]
 fn raw_is_the_header() {
     let raw = include_str!("../src/raw.rs");
-    assert_eq!(header().len(), 14);
+    assert_eq!(header().len(), 15);
     assert_eq!(functions(raw.split_once("extern").expect("the block").1, ";"), header());
 }
 

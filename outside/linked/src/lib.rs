@@ -1,6 +1,6 @@
 //! The library as a caller of the differential tests: the C calls on slices, nothing added.
 
-use differential::caller::{Caller, Points};
+use differential::caller::{Caller, Numbers, Points};
 use flaskbloom::slices;
 
 pub struct Library;
@@ -47,5 +47,8 @@ impl Caller for Library {
     }
     fn census(&self, input: &[u8], table: &mut [u8], scratch: &mut [u8], out: &mut [u8]) -> (u8, u64) {
         slices::census(input, table, scratch, out)
+    }
+    fn counts(&self, table: &[u8]) -> (u8, Numbers) {
+        slices::counts(table)
     }
 }

@@ -1,6 +1,6 @@
 //! Document 01's calls, with every answer and every lent byte; the C interface's names without `fb_`.
 //!
-//! An `Answer` has the number, why in words ("done" for 0), and the value: points, place, line, or bytes written.
+//! An `Answer` has the number, why in words ("done" for 0), and the value: points, place, line, bytes written, or counts.
 
 use crate::lines;
 use crate::mesh::{bad_centre, base as base_records, Mesh, Refused};
@@ -408,4 +408,36 @@ fn counted(table: &[u8]) -> String {
     let slots = Slots::of(table).expect("a reader leaves a table in order");
     let counts = Mesh::of(slots.records()).census().map(|count| count.to_string());
     format!("V\tE\tF\td0\td3\td4\td5\td6\n{}\n", counts.join("\t"))
+}
+
+/// V, E, F, and the records of degree 0, 3, 4, 5, 6.
+pub type Numbers = [u32; 8];
+const NO_NUMBERS: Numbers = [0; 8];
+
+/// The census's numbers of any table in order.
+pub fn counts(table: &[u8]) -> Answer<Numbers> {
+    let mesh = match opened(table) {
+        Ok((_, mesh)) => mesh,
+        Err(Refused(number, why)) => return refused(number, why, NO_NUMBERS),
+    };
+    let why = what_was_counted(&mesh);
+    if made(Slip::CountsOfGrown) && why != "done" {
+        return refused(11, why, NO_NUMBERS);
+    }
+    Answer { number: 0, why, value: mesh.census().map(|count| count as u32) }
+}
+
+/// What was counted, in words.
+fn what_was_counted(mesh: &Mesh) -> &'static str {
+    if mesh.is_empty() {
+        "done, an empty table"
+    } else if mesh.records().any(|v| mesh.neighbours(v).is_err()) {
+        "done, an adjacent is absent"
+    } else if mesh.records().any(|v| mesh.opposites(v).is_err()) {
+        "done, a corner with no opposite"
+    } else if !mesh.is_grown() {
+        "done, not a grown mesh"
+    } else {
+        "done"
+    }
 }

@@ -3,7 +3,7 @@
 use crate::record::{Record, DEEPEST, HIGHEST};
 use crate::slips::{made, Slip};
 use crate::spot::{edge, Point, Spot};
-use crate::star::star;
+use crate::star::{star, Corner};
 use std::collections::{HashMap, HashSet};
 
 /// A refusal: document 01's number, and why in words.
@@ -105,19 +105,21 @@ impl Mesh {
         }
     }
 
-    /// "The opposite is the first one if that is in the table, else the second", for each corner of an internal v.
+    /// "The opposite is the first one if that is in the table, else the second"
+    fn opposite(&self, corner: &Corner) -> Option<Spot> {
+        let mut choice = vec![Some(corner.first), corner.second];
+        if made(Slip::FartherOpposite) {
+            choice.reverse();
+        }
+        choice.into_iter().flatten().find(|s| self.has(*s))
+    }
+
+    /// The opposite of each corner of an internal v.
     pub fn opposites(&self, v: &Record) -> Result<Vec<Spot>, Refused> {
         self.neighbours(v)?;
         let mut chosen = Vec::new();
         for corner in star(v) {
-            let mut choice = vec![Some(corner.first), corner.second];
-            if made(Slip::FartherOpposite) {
-                choice.reverse();
-            }
-            match choice.into_iter().flatten().find(|s| self.has(*s)) {
-                Some(opposite) => chosen.push(opposite),
-                None => return Err(Refused(7, "a corner with no opposite")),
-            }
+            chosen.push(self.opposite(&corner).ok_or(Refused(7, "a corner with no opposite"))?);
         }
         Ok(chosen)
     }
@@ -172,25 +174,21 @@ impl Mesh {
         named
     }
 
-    /// V, E, F, and the records of degree 0, 3, 4, 5, 6, of a mesh whose faces are all there.
+    /// V, E, F, and the records of degree 0, 3, 4, 5, 6.
     pub fn census(&self) -> [usize; 8] {
         let (mut edges, mut faces) = (HashSet::new(), HashSet::new());
         let mut by_degree = [0; 7];
         for (&here, v) in &self.records {
             by_degree[v.d as usize] += 1;
-            let adjacent = self.neighbours(v).expect("a grown mesh");
-            let opposite = self.opposites(v).expect("a grown mesh");
-            for j in 0..v.d as usize {
-                let next = adjacent[(j + 1) % v.d as usize];
-                let (mut edge, mut face) = ([here, adjacent[j]], [here, adjacent[j], opposite[j], next]);
-                if !made(Slip::EdgeTwice) {
-                    edge.sort();
+            let corners = star(v);
+            for (corner, next) in corners.iter().zip(corners.iter().cycle().skip(1)) {
+                let there = corner.adjacent;
+                if self.has(there) || !made(Slip::AbsentUnpaired) {
+                    edges.insert(if made(Slip::EdgeTwice) { [here, there] } else { [here.min(there), here.max(there)] });
                 }
-                if !made(Slip::FaceTwice) {
-                    face.sort();
+                if self.has(there) || !made(Slip::AbsentUnfaced) {
+                    faces.extend(self.opposite(corner).map(|far| from_least([here, there, far, next.adjacent])));
                 }
-                edges.insert(edge);
-                faces.insert(face);
             }
         }
         let [d0, _, _, d3, d4, d5, d6] = by_degree;
@@ -223,6 +221,15 @@ impl Mesh {
         }
         built == *self
     }
+}
+
+/// A face read from its least vertex on: the same in whichever vertex's star it was met.
+fn from_least(mut face: [Spot; 4]) -> [Spot; 4] {
+    let least = (0..4).min_by_key(|at| face[*at]).unwrap_or(0);
+    if !made(Slip::FaceTwice) {
+        face.rotate_left(least);
+    }
+    face
 }
 
 fn new_record(p: Point, k: u8, n: u8) -> Record {

@@ -46,9 +46,12 @@ pub enum Slip {
     LongInputByLine,
     RoomByAnswers,
     LastTripleForgotten,
+    AbsentUnpaired,
+    AbsentUnfaced,
+    CountsOfGrown,
 }
 
-pub const ALL: [Slip; 41] = [
+pub const ALL: [Slip; 44] = [
     Slip::FartherOpposite,
     Slip::PlusFourTwice,
     Slip::NewNotNormalised,
@@ -90,6 +93,9 @@ pub const ALL: [Slip; 41] = [
     Slip::LongInputByLine,
     Slip::RoomByAnswers,
     Slip::LastTripleForgotten,
+    Slip::AbsentUnpaired,
+    Slip::AbsentUnfaced,
+    Slip::CountsOfGrown,
 ];
 
 thread_local! {

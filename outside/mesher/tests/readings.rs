@@ -286,3 +286,23 @@ fn subdividing_a_list() {
     assert_eq!(subdivide_all(&mut table, &[]).number, 0);
     assert_eq!(subdivide_all(&mut table[1..], &[]).number, 1);
 }
+
+#[test]
+fn counting_any_table() {
+    // a pair counts though the adjacent point is absent; a corner has a face as soon as its opposite is there
+    let mut table = vec![255; 16 * 12];
+    assert_eq!(counts(&table).value, [0; 8]);
+    place(&mut table, &[Record { a: 1, b: 0, m: 0, d: 6, k: 0, n: 0 }]);
+    assert_eq!(counts(&table).value, [1, 6, 0, 0, 0, 0, 0, 1]);
+    place(&mut table, &[Record { a: 2, b: 1, m: 0, d: 0, k: 0, n: 0 }]);
+    assert_eq!(counts(&table).value, [2, 6, 1, 1, 0, 0, 0, 1]);
+    // a pair that both its vertices name is one; so is a pair that only one of them names
+    for (k, edges, faces) in [(2, 8, 1), (0, 9, 3)] {
+        let mut table = table.clone();
+        place(&mut table, &[Record { a: 2, b: 0, m: 0, d: 3, k, n: 0 }]);
+        assert_eq!(counts(&table).value, [3, edges, faces, 1, 1, 0, 0, 1]);
+    }
+    let answer = counts(&table[..180]);
+    assert_eq!((answer.number, answer.value), (1, [0; 8]));
+    assert_eq!(counts(&based(64, &THREE)).value, [16, 12, 9, 12, 3, 0, 0, 1]);
+}

@@ -2,7 +2,7 @@
 //! sort_unstable, one pass for number 11. What the library's speed is measured against, and a third opinion in the tests.
 //!
 //! `lattice` points and stars; `table` slots; `mesh` base, subdivision, queries; `files` writers, readers; `grown` the local check;
-//! `counts` the census.
+//! `counts` a table's numbers, the census.
 
 pub mod counts;
 pub mod files;
@@ -11,10 +11,12 @@ pub mod lattice;
 pub mod mesh;
 pub mod table;
 
-pub use counts::census;
+pub use counts::{census, counts};
 pub use files::{read_full, read_reduced, write_full, write_reduced};
 pub use lattice::{normalise, star};
 pub use mesh::{base, faces, faces_all, neighbours, neighbours_all, subdivide, subdivide_all};
 
 /// A count and six points as a, b, m.
 pub type Points = [i32; 19];
+/// V, E, F, and the vertices of degree 0, 3, 4, 5, 6.
+pub type Numbers = [u32; 8];

@@ -12,7 +12,7 @@ use Rattle.table.specs.MapLaws.{clear-table}
 use Rattle.table.specs.Slots.{Table, fitsLength, clearedOf}
 use Rattle.base.proofs.base.Statement.{statement}
 use Rattle.base.specs.Marks.{markBytes, laidBy}
-use Rattle.base.specs.Base.{centresIn, badPlace, Room, layAll, laidOf, fromLaid, unpaired, answered, baseOf}
+use Rattle.base.specs.Base.{centresIn, badPlace, Room, layAll, laidOf, fromLaid, unpaired, baseAfter, baseOf}
 use Rattle.base.specs.LayLaws.{base-unfit, base-unpaired, base-bad, base-laid, laid-is, list-empty, list-odd, list-even}
 use Rattle.base.specs.MarkLaws.{marks-none}
 use Rattle.base.proofs.base.Tie as tie
@@ -85,20 +85,20 @@ returns : tie.Need-returns
 returns c =
     let k = c .before .before in
     let a = k .before .before .before .args in
-    (λ i. answered (c .answer .ensures .0 i) (c .answer .ensures .1 i) (a .table .now))
+    (λ i. baseAfter (c .answer .ensures .0 i) (c .answer .ensures .1 i) (a .table .now))
     ∙ base-unfit (a .table .now) (a .centres .now) (no-slots (a .table .now) (sym (k .slots-of .ensures) ∙ c .before .if1 .taken))
 
 returns-2 : tie.Need-returns-2
 returns-2 c =
     let k = c .before .before in
-    (λ i. answered (c .answer2 .ensures .0 i) (c .answer2 .ensures .1 i) (cleared k i))
+    (λ i. baseAfter (c .answer2 .ensures .0 i) (c .answer2 .ensures .1 i) (cleared k i))
     ∙ base-unpaired (t (e k)) (cs (e k)) (fit (e k)) (list-empty (cs (e k)) (c .before .if2 .taken))
 
 returns-3 : tie.Need-returns-3
 returns-3 c =
     let o = c .before in
     let k = o .before .before in
-    (λ i. answered (c .answer3 .ensures .0 i) (c .answer3 .ensures .1 i) (cleared k i))
+    (λ i. baseAfter (c .answer3 .ensures .0 i) (c .answer3 .ensures .1 i) (cleared k i))
     ∙ base-unpaired (t (e k)) (cs (e k)) (fit (e k)) (list-odd (cs (e k)) (o .before .if2 .left) (o .if3 .taken))
 
 first-bad-requires : tie.Need-first-bad-requires
@@ -108,7 +108,7 @@ returns-4 : tie.Need-returns-4
 returns-4 c =
     let b = c .before .before in
     let x = first b in
-    (λ i. answered (c .answer4 .ensures .0 i) ((c .answer4 .ensures .1 ∙ x) i) (cleared (k b) i))
+    (λ i. baseAfter (c .answer4 .ensures .0 i) ((c .answer4 .ensures .1 ∙ x) i) (cleared (k b) i))
     ∙ base-bad (t (e (k b))) (cs (e (k b))) (fit (e (k b))) (paired b) (omega (arith, c .before .if4 .taken))
 
 lay-all-requires : tie.Need-lay-all-requires
@@ -122,7 +122,7 @@ lay-all-requires c κs =
 returns-5 : tie.Need-returns-5
 returns-5 c =
     let a = c .before .before .before .before in
-    (λ i. answered (c .answer5 .ensures .0 i) (c .answer5 .ensures .1 i) (u a)) ∙ by-laid a true (c .before .if5 .taken)
+    (λ i. baseAfter (c .answer5 .ensures .0 i) (c .answer5 .ensures .1 i) (u a)) ∙ by-laid a true (c .before .if5 .taken)
 
 returns-6 : tie.Need-returns-6
 returns-6 c =
@@ -130,7 +130,7 @@ returns-6 c =
     let o = z .before .before in
     let a = o .before .before .before in
     let h : length (u a) ≡ length (t (e (k (b a)))) = omega (arith, a .lay-all .kept, k (b a) .before .before .clear .kept) in
-    (λ i. answered (c .answer6 .ensures .0 i) (c .answer6 .ensures .1 i) ((z .clear2 .ensures ∙ ap (λ (l : ℕ). replicate l 255) h) i))
+    (λ i. baseAfter (c .answer6 .ensures .0 i) (c .answer6 .ensures .1 i) ((z .clear2 .ensures ∙ ap (λ (l : ℕ). replicate l 255) h) i))
     ∙ by-laid a false (o .if5 .left)
 
 pub base-spec : {M : Type 1} → statement M

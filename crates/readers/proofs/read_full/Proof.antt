@@ -7,7 +7,7 @@ use Prim.Native.Nat.{ℕ}
 use native.Mathlib.Omega.{arith}
 use lib.ListN.{length, replicate}
 use Rattle.table.specs.Slots.{clearedOf}
-use Rattle.readers.specs.Readers.{outcome}
+use Rattle.readers.specs.Readers.{tablesAfter}
 use Rattle.readers.specs.BeginLaws.{fault-full, Filled, begun-filled}
 use Rattle.readers.specs.CallLaws.{full-judged}
 use Rattle.readers.proofs.read_full.Statement.{statement}
@@ -47,7 +47,7 @@ returns-2 c =
     let g = c .before in
     let e = g .before .before .before .before in
     let a = s e .args in
-    (λ i. outcome (e .if1 .left i) (filled e .first i) (u e) (filled e .scratch i))
+    (λ i. tablesAfter (e .if1 .left i) (filled e .first i) (u e) (filled e .scratch i))
     ∙ full-judged (a .table .now) (a .scratch .now) (a .file .now) (u e) (filled e) true (sym (g .all-pass .ensures) ∙ c .if2 .taken)
 
 returns-3 : tie.Need-returns-3
@@ -58,7 +58,7 @@ returns-3 c =
     let e = g .before .before .before .before in
     let a = s e .args in
     let h = r .refuse .ensures in
-    (λ i. outcome (h .0 .0 i) (h .0 .1 i) ((h .1 ∙ cleared e) i) (filled e .scratch i))
+    (λ i. tablesAfter (h .0 .0 i) (h .0 .1 i) ((h .1 ∙ cleared e) i) (filled e .scratch i))
     ∙ full-judged (a .table .now) (a .scratch .now) (a .file .now) (u e) (filled e) false (sym (g .all-pass .ensures) ∙ z .if2 .left)
 
 pub read-full-spec : {M : Type 1} → statement M

@@ -6,7 +6,7 @@ use Prim.Native.Nat.{ℕ}
 use native.Mathlib.Omega.{arith}
 use lib.ListN.{length, replicate}
 use Rattle.table.specs.Slots.{clearedOf}
-use Rattle.readers.specs.Readers.{outcome}
+use Rattle.readers.specs.Readers.{tablesAfter}
 use Rattle.readers.specs.BeginLaws.{fault-reduced, Filled, begun-filled}
 use Rattle.readers.specs.CallLaws.{lined-again, reduced-refused, reduced-read}
 use Rattle.readers.proofs.read_reduced.Statement.{statement}
@@ -60,7 +60,7 @@ returns-2 c =
     let m = z .before .before .before in
     let a = s (e m) .args in
     let h = r .refuse .ensures in
-    (λ i. outcome (h .0 .0 i) (h .0 .1 i) ((h .1 ∙ cleared m) i) (filled (e m) .scratch i))
+    (λ i. tablesAfter (h .0 .0 i) (h .0 .1 i) ((h .1 ∙ cleared m) i) (filled (e m) .scratch i))
     ∙ reduced-refused (a .table .now) (a .scratch .now) (a .file .now) (u (e m)) (filled (e m)) (m .complete .result) (v m) (m .complete .ensures)
     (z .if2 .taken)
 
@@ -68,7 +68,7 @@ returns-3 : tie.Need-returns-3
 returns-3 c =
     let m = c .before .before .before in
     let a = s (e m) .args in
-    (λ i. outcome (e m .if1 .left i) (filled (e m) .first i) (v m) (filled (e m) .scratch i))
+    (λ i. tablesAfter (e m .if1 .left i) (filled (e m) .first i) (v m) (filled (e m) .scratch i))
     ∙ reduced-read (a .table .now) (a .scratch .now) (a .file .now) (u (e m)) (filled (e m)) (m .complete .result) (v m) (m .complete .ensures) (c .if2 .left)
 
 pub read-reduced-spec : {M : Type 1} → statement M

@@ -6,7 +6,7 @@ use native.Mathlib.Omega.{arith}
 use lib.ListN.{length}
 use borrow.Author.Needs.{needs}
 use Rattle.writers.specs.KeptLaws.{Filled}
-use Rattle.writers.specs.LeftLaws.{fileOf, keysOf, Ready, filled-all, counted-all, keys-all, keys-fit, put-short, put-done, ready, ready-past}
+use Rattle.writers.specs.LeftLaws.{fileOf, keysOf, Keyed, filled-all, counted-all, keys-all, keys-fit, put-short, put-done, ready, ready-past}
 use Rattle.writers.specs.CallLaws.{out-is}
 use Rattle.writers.proofs.write_kept.Statement.{statement}
 use Rattle.writers.proofs.write_kept.Tie as tie
@@ -64,7 +64,7 @@ module _ (c : tie.After-sort) where
   abbrev w : tie.After-put-keys
   w = c .before .before .before .before
 
-  stand : Ready (t (f w)) (m (f w)) (c .sort .last .0) (w .put-keys .result) (f w .file-length .result)
+  stand : Keyed (t (f w)) (m (f w)) (c .sort .last .0) (w .put-keys .result) (f w .file-length .result)
   stand = ready (t (f w)) (m (f w)) (o (f w)) (f w .file-length .result) (long (f w)) _ _ (w .put-keys .result) (room w) (filled w) (c .sort .ensures)
 
 write-lines-requires : tie.Need-write-lines-requires

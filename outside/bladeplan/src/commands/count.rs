@@ -4,6 +4,7 @@ use crate::files;
 use crate::plan::{Kind, Plan};
 use crate::trouble::{told, Outcome};
 use crate::words::{Command, Words};
+use flaskbloom::Counts;
 
 pub const CENSUS: Command = Command {
     name: "census",
@@ -41,7 +42,13 @@ example:
 
 fn census(words: &Words) -> Outcome<()> {
     let counts = Plan::load(&words.plain[0])?.counts()?;
-    files::write(words.output(), counts.text().as_bytes())
+    files::write(words.output(), text(&counts).as_bytes())
+}
+
+/// The census program's two lines.
+fn text(counts: &Counts) -> String {
+    let ([d0, d3, d4, d5, d6], Counts { vertices, edges, faces, .. }) = (counts.degrees, counts);
+    format!("V\tE\tF\td0\td3\td4\td5\td6\n{vertices}\t{edges}\t{faces}\t{d0}\t{d3}\t{d4}\t{d5}\t{d6}\n")
 }
 
 fn check(words: &Words) -> Outcome<()> {

@@ -97,7 +97,7 @@ fn before(older: &Older, width: f64) -> Block {
     rows.push(row(Symbol::Mark(ANY, State::Changed), "with another star", older.count(State::Changed)));
     rows.push(row(Symbol::Mark(ANY, State::Same), "as they were", older.count(State::Same)));
     rows.push(row(Symbol::None, "vertices gone", older.gone));
-    Block { heading: format!("Older plan, {}", many(older.plan.records().len(), "vertex", "vertices")), rows }
+    Block { heading: format!("Older plan, {}", many(older.vertices, "vertex", "vertices")), rows }
 }
 
 fn found(findings: &Findings, width: f64) -> Block {

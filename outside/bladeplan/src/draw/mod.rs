@@ -18,12 +18,12 @@ mod pieces;
 mod svg;
 mod text;
 
-use crate::counts::Counts;
 use crate::files;
 use crate::plan::Plan;
 use crate::trouble::{Outcome, Trouble};
 use crate::words::{Command, Words};
 use findings::Joined;
+use flaskbloom::Counts;
 use geometry::Bounds;
 use layers::Layer;
 use marks::Marks;
@@ -147,7 +147,7 @@ fn load(plan: &Plan, path: &OsStr) -> Outcome<Findings> {
 
 /// What came in and what went out.
 fn told(drawing: &Drawing, marks: &[Marks]) -> Vec<String> {
-    let (vertices, drawn) = (drawing.plan.records().len(), marks.iter().map(Marks::count).sum::<usize>());
+    let (vertices, drawn) = (drawing.counts.vertices, marks.iter().map(Marks::count).sum::<usize>());
     let mut lines = vec![format!("{}: {vertices} vertices in, {drawn} drawn", drawing.plan.name)];
     lines.extend(drawing.findings.as_ref().map(|f| {
         let (count, at, lost) = (f.joined.count(), f.joined.at.len(), f.joined.lost.len());

@@ -20,6 +20,7 @@ pub struct Older {
     /// As the sheet shows it.
     pub name: String,
     pub plan: Plan,
+    pub vertices: usize,
     pub faces: Vec<Face>,
     /// Of each vertex of the new plan, in file order.
     states: Vec<State>,
@@ -31,7 +32,7 @@ pub struct Older {
 
 impl Older {
     pub fn under(plan: &Plan, plan_faces: &[Face], older: Plan, name: String) -> Outcome<Older> {
-        let faces = older.faces()?;
+        let (vertices, faces) = (older.counts()?.vertices, older.faces()?);
         let old: HashSet<_> = faces.iter().map(corners).collect();
         let states: Vec<State> = plan
             .records()
@@ -44,7 +45,7 @@ impl Older {
             .collect();
         let gone = older.records().iter().filter(|record| plan.place(record.point).is_none()).count();
         let new_faces = plan_faces.iter().map(|face| !old.contains(&corners(face))).collect();
-        Ok(Older { name, plan: older, faces, states, new_faces, gone })
+        Ok(Older { name, plan: older, vertices, faces, states, new_faces, gone })
     }
 
     pub fn state(&self, vertex: usize) -> State {

@@ -10,7 +10,7 @@ use Rattle.table.specs.OrderLaws.{test-order}
 use Rattle.table.specs.Order.{inOrderOf}
 use Rattle.table.specs.Slots.{Table}
 use Rattle.mesh.proofs.calls.subdivide.Statement.{statement}
-use Rattle.mesh.specs.CallLaws.{call-1, outcome-parts}
+use Rattle.mesh.specs.CallLaws.{call-1, after-parts}
 use Rattle.mesh.specs.Subdivide.{subdivideOf}
 use Rattle.mesh.proofs.calls.subdivide.Tie as tie
 
@@ -35,7 +35,7 @@ returns : tie.Need-returns
 returns c =
     let k = c .before .before in
     let a = start k .args in
-    outcome-parts (call-1 (a .table .now) (a .a) (a .b) (a .m) (ordered k false (not-true _ (c .if1 .taken))))
+    after-parts (call-1 (a .table .now) (a .a) (a .b) (a .m) (ordered k false (not-true _ (c .if1 .taken))))
 
 slots-of-requires : tie.Need-slots-of-requires
 slots-of-requires c κs = search needs
@@ -64,7 +64,7 @@ returns-2 c =
     let t = s .args .table .now in
     let same : subdivideOf t _ _ (s .args .m) ≡ subdivideOf t (s .args .a) (s .args .b) (s .args .m) =
     λ i. subdivideOf t (toZ-ofZ (s .fits .a) i) (toZ-ofZ (s .fits .b) i) (s .args .m) in
-    let p = outcome-parts same in
+    let p = after-parts same in
     (w .subdivide-ordered .ensures .0 ∙ p .0, w .subdivide-ordered .ensures .1 ∙ p .1)
 
 pub subdivide-spec : {M : Type 1} → statement M

@@ -5,7 +5,7 @@ use mir.Facts.{toZ-ofZ}
 use Rattle.lattice.specs.Points.{normalOf}
 use Rattle.table.specs.Entries.{lookUp}
 use Rattle.mesh.proofs.calls.subdivide_ordered.Statement.{statement}
-use Rattle.mesh.specs.CallLaws.{call-3, call-vertex, call-standing, outcome-parts}
+use Rattle.mesh.specs.CallLaws.{call-3, call-vertex, call-standing, after-parts}
 use Rattle.mesh.proofs.calls.subdivide_ordered.Tie as tie
 
 look-up-request-requires : tie.Need-look-up-request-requires
@@ -42,7 +42,7 @@ returns c =
     let l = c .before .before in
     let s = l .before .before .before in
     let a = s .args in
-    outcome-parts (call-3 (a .t .now) (a .a) (a .b) (a .m) (s .pre .1 .0) (sym (looked l) ∙ c .enum-told .given .1))
+    after-parts (call-3 (a .t .now) (a .a) (a .b) (a .m) (s .pre .1 .0) (sym (looked l) ∙ c .enum-told .given .1))
 
 same-length-2 : tie.Need-same-length-2
 same-length-2 c = search needs
@@ -54,7 +54,7 @@ returns-2 c =
     let l = k .before .before in
     let s = l .before .before .before in
     let a = s .args in
-    let p = outcome-parts (call-vertex (a .t .now) (a .a) (a .b) (a .m) (s .pre .1 .0) (k .l .given .0 .0) (sym (looked l) ∙ k .l .given .1)) in
+    let p = after-parts (call-vertex (a .t .now) (a .a) (a .b) (a .m) (s .pre .1 .0) (k .l .given .0 .0) (sym (looked l) ∙ k .l .given .1)) in
     (w .subdivide-vertex .ensures .0 ∙ p .0, w .subdivide-vertex .ensures .1 ∙ p .1)
 
 pub subdivide-ordered-spec : {M : Type 1} → statement M

@@ -14,7 +14,7 @@ use Rattle.laws.specs.Linear.{same}
 use Rattle.mesh.proofs.calls.subdivide_triple.Statement.{statement}
 use Rattle.laws.specs.Triples.{below-byte, above-byte, Byte, within-byte}
 use Rattle.mesh.specs.CaseLaws.{triple-3, triple-one}
-use Rattle.mesh.specs.CallLaws.{outcome-parts}
+use Rattle.mesh.specs.CallLaws.{after-parts}
 use Rattle.mesh.specs.Subdivide.{subdivideOf}
 use Rattle.mesh.proofs.calls.subdivide_triple.Tie as tie
 
@@ -61,14 +61,14 @@ read c = toZ-ofZ (record { sfits = c .m .given })
 returns : tie.Need-returns
 returns c =
     let s = c .before .before .before .before .before .args in
-    outcome-parts (triple-3 (s .t .now) (s .points .now) (s .i)
+    after-parts (triple-3 (s .t .now) (s .points .now) (s .i)
     (below-byte (M (c .before)) (ap (λ (z : ℤ). ltZ z (pos 0)) (sym (read (c .before))) ∙ c .if1 .taken)))
 
 returns-2 : tie.Need-returns-2
 returns-2 c =
     let k = c .before .before in
     let s = k .before .before .before .before .args in
-    outcome-parts (triple-3 (s .t .now) (s .points .now) (s .i) (above-byte (M k) (ap (λ (z : ℤ). ltZ (pos 255) z) (sym (read k)) ∙ c .if2 .taken)))
+    after-parts (triple-3 (s .t .now) (s .points .now) (s .i) (above-byte (M k) (ap (λ (z : ℤ). ltZ (pos 255) z) (sym (read k)) ∙ c .if2 .taken)))
 
 byte : (c : tie.Else2) → Byte (M (c .before .before))
 byte c =
@@ -98,7 +98,7 @@ returns-3 c =
     let fa : SFits w32 (getD (s .points .now) (3 * s .i) (pos 0)) = record { sfits = k .before .before .a .given } in
     let fb : SFits w32 (getD (s .points .now) (3 * s .i + 1) (pos 0)) = record { sfits = k .before .b .given } in
     let same = (λ i. subdivideOf t (toZ-ofZ fa i) (toZ-ofZ fb i) (natAbs (read k i))) ∙ triple-one t (s .points .now) (s .i) (byte e .is) in
-    let p = outcome-parts same in
+    let p = after-parts same in
     (w .subdivide-ordered .ensures .0 ∙ p .0, w .subdivide-ordered .ensures .1 ∙ p .1)
 
 pub subdivide-triple-spec : {M : Type 1} → statement M

@@ -18,7 +18,7 @@ use Rattle.table.specs.MapLaws.{room}
 use Rattle.mesh.proofs.calls.subdivide_vertex.Statement.{statement}
 use Rattle.mesh.specs.SubdivideLaws.{Ready, Intact}
 use Rattle.mesh.specs.WriteLaws.{ready-inner, ready-turn}
-use Rattle.mesh.specs.CallLaws.{standing-ready, centre-inner, vertex-4, vertex-5, outcome-parts, vertex-6, vertex-7-old, vertex-7-new, vertex-8}
+use Rattle.mesh.specs.CallLaws.{standing-ready, centre-inner, vertex-4, vertex-5, after-parts, vertex-6, vertex-7-old, vertex-7-new, vertex-8}
 use Rattle.mesh.specs.CallLaws.{ready-whole, vertex-0}
 use Rattle.mesh.specs.Subdivide.{newFits}
 use Rattle.mesh.specs.Points.{pointsOf, pointAt}
@@ -35,10 +35,10 @@ inside c =
     (centre-inner (s .args .t .now) (s .args .v) (ready (c .before)), c .before .before .if1 .left)
 
 returns : tie.Need-returns
-returns c = let s = c .before .before in outcome-parts (vertex-4 (s .args .t .now) (s .args .v) (c .if1 .taken))
+returns c = let s = c .before .before in after-parts (vertex-4 (s .args .t .now) (s .args .v) (c .if1 .taken))
 
 returns-2 : tie.Need-returns-2
-returns-2 c = let s = c .before .before .before in outcome-parts (vertex-5 (s .args .t .now) (s .args .v) (c .before .if1 .left) (c .if2 .taken))
+returns-2 c = let s = c .before .before .before in after-parts (vertex-5 (s .args .t .now) (s .args .v) (c .before .if1 .left) (c .if2 .taken))
 
 centre-requires : tie.Need-centre-requires
 centre-requires c κs = let r = ready c in let b = r .below in (ready-turn r, omega arith)
@@ -79,7 +79,7 @@ returns-3 c =
     let k = c .before in
     let e = deep-else k in
     let s = begun e in
-    outcome-parts (vertex-6 (s .args .t .now) (s .args .v) (e .before .if1 .left) (e .if2 .left) (sym (shallow k) ∙ not-true _ (c .if3 .taken)))
+    after-parts (vertex-6 (s .args .t .now) (s .args .v) (e .before .if1 .left) (e .if2 .left) (sym (shallow k) ∙ not-true _ (c .if3 .taken)))
 
 points-of2-requires : tie.Need-points-of-requires-2
 points-of2-requires c κs = let e = deep-else (c .before) in (ready-inner (ready e), e .before .if1 .left)
@@ -100,7 +100,7 @@ returns-4 c =
     let k = g .before in
     let e = deep-else k in
     let s = begun e in
-    outcome-parts (vertex-7-old (s .args .t .now) (s .args .v) (e .before .if1 .left) (e .if2 .left)
+    after-parts (vertex-7-old (s .args .t .now) (s .args .v) (e .before .if1 .left) (e .if2 .left)
     (sym (shallow k) ∙ not-false _ (g .if3 .left)) (sym (a .adjacents-fit .ensures) ∙ not-true _ (c .if4 .taken)))
 
 all-absent-requires : tie.Need-all-absent-requires
@@ -118,7 +118,7 @@ returns-5 c =
     let k = g .before in
     let e = deep-else k in
     let s = begun e in
-    outcome-parts (vertex-7-new (s .args .t .now) (s .args .v) (e .before .if1 .left) (e .if2 .left)
+    after-parts (vertex-7-new (s .args .t .now) (s .args .v) (e .before .if1 .left) (e .if2 .left)
     (sym (shallow k) ∙ not-false _ (g .if3 .left))
     (sym (a .adjacents-fit .ensures) ∙ not-false _ (h .if4 .left)) (sym (fresh b) ∙ not-true _ (c .if5 .taken)))
 
@@ -136,7 +136,7 @@ returns-6 c =
     let e = deep-else k in
     let s = begun e in
     let few : freeSlots (s .args .t .now) < 6 = subst (λ (n : ℕ). n < 6) (s .pre .1 .1) (c .if6 .taken) in
-    outcome-parts (vertex-8 (s .args .t .now) (s .args .v) (e .before .if1 .left) (e .if2 .left)
+    after-parts (vertex-8 (s .args .t .now) (s .args .v) (e .before .if1 .left) (e .if2 .left)
     (sym (shallow k) ∙ not-false _ (g .if3 .left))
     (sym (a .adjacents-fit .ensures) ∙ not-false _ (h .if4 .left)) (sym (fresh b) ∙ not-false _ (f .if5 .left)) few)
 
@@ -174,7 +174,7 @@ returns-7 c =
     let w = c .before .before in
     let x = w .before .before in
     let k = fits-deep (a x) in
-    let p = outcome-parts
+    let p = after-parts
     (vertex-0 (t x) (v x) (e x .before .if1 .left) (e x .if2 .left) (sym (shallow k) ∙ not-false _ (a x .before .before .before .if3 .left))
     (sym (a x .adjacents-fit .ensures) ∙ not-false _ (b x .before .before .if4 .left)) (sym (fresh (b x)) ∙ not-false _ (x .before .if5 .left))
     (passed x .room)) in

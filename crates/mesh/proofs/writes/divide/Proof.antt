@@ -60,7 +60,8 @@ enter-all-requires c κs =
     let r = s .pre .1 .0 .ready in (
       subst (λ (u : List ℕ). Table u (s .args .n)) (sym (renewed-all x))
           (renewed-table (replaceOf t (centreOf v)) v 6 (s .args .n) (replace-table t (centreOf v) (s .args .n) (s .pre .0))),
-      subst (λ (y : Record). Inner y × ((y .d ≡ 6) × (s .args .new ≡ pointsOf y))) (sym (w .before .before .centre .ensures)) (centre-inner t v r, (r .six, s .pre .1 .1 .1)),
+      subst (λ (y : Record). Inner y × ((y .d ≡ 6) × (s .args .new ≡ pointsOf y))) (sym (w .before .before .centre .ensures))
+          (centre-inner t v r, (r .six, s .pre .1 .1 .1)),
     )
 
 same-length : tie.Need-same-length

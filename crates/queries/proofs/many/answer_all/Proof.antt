@@ -13,14 +13,14 @@ use Rattle.queries.specs.Queries.{queryOf}
 use Rattle.queries.specs.Asked.{answerAt}
 use Rattle.laws.specs.Triples.{triplesIn}
 use Rattle.queries.specs.Many.{answerWidth}
-use Rattle.queries.specs.ManyLaws.{all-1, all-13, all-0, answered-parts}
+use Rattle.queries.specs.ManyLaws.{all-1, all-13, all-0, after-parts}
 use Rattle.queries.proofs.many.answer_all.Statement.{statement}
 use Rattle.queries.proofs.many.answer_all.Tie as tie
 
 returns : tie.Need-returns
 returns c =
     let a = c .before .before .before .args in
-    answered-parts
+    after-parts
     (all-1 (queryOf (answerAt (a .q) (a .t .now)) (a .t .now)) (a .t .now) (a .points .now) (a .answers .now)
     (sym (c .before .in-order .ensures) ∙ not-true _ (c .if1 .taken)))
 
@@ -36,7 +36,7 @@ returns-2 : tie.Need-returns-2
 returns-2 c =
     let e = c .before in
     let a = start e .args in
-    answered-parts
+    after-parts
     (all-13 (queryOf (answerAt (a .q) (a .t .now)) (a .t .now)) (a .t .now) (a .points .now) (a .answers .now) (ordered e) (omega (arith, c .if2 .taken)))
 
 -- past the second there is room
@@ -56,7 +56,7 @@ returns-3 c =
     let e = w .before .before .before in
     let a = start (e .before) .args in
     let q = queryOf (answerAt (a .q) (a .t .now)) (a .t .now) in
-    let p = answered-parts (all-0 q (a .t .now) (a .points .now) (a .answers .now) (ordered (e .before)) (room e)) in
+    let p = after-parts (all-0 q (a .t .now) (a .points .now) (a .answers .now) (ordered (e .before)) (room e)) in
     (p .0, w .answer-each .ensures ∙ p .1)
 
 pub answer-all-spec : {M : Type 1} → statement M

@@ -12,13 +12,13 @@ use Rattle.text.specs.Line.{lineOf}
 use Rattle.table.specs.Slots.{slotWidth}
 use Rattle.sorting.specs.Tally.{nth}
 use Rattle.writers.specs.Kept.{places, recordKeyed}
-use Rattle.writers.specs.LeftLaws.{ordered, Ready, Left, ordered-file, ordered-inside, left-start, left-room, left-top, left-place, left-step, left-end}
+use Rattle.writers.specs.LeftLaws.{ordered, Keyed, Left, ordered-file, ordered-inside, left-start, left-room, left-top, left-place, left-step, left-end}
 use Rattle.writers.proofs.lines.write_lines.Statement.{statement}
 use Rattle.writers.proofs.lines.write_lines.Tie as tie
 
 abbrev Inv-loop : tie.InvT-loop
 Inv-loop table out₀ k total left₀ at₀ out left at =
-    (length out ≡ length out₀) × ((m : List ℕ) → Ready table m out₀ k total → Left table (ordered table m) (drop total out₀) out left at)
+    (length out ≡ length out₀) × ((m : List ℕ) → Keyed table m out₀ k total → Left table (ordered table m) (drop total out₀) out left at)
 
 abbrev μ-loop : tie.MeasureT-loop
 μ-loop table out₀ k total left₀ at₀ out left at = left
@@ -55,7 +55,7 @@ module _ (c : tie.After-key Inv-loop μ-loop) where
   abbrev rest : List ℕ
   rest = drop (s .args .total) (s .args .out .now)
 
-  module _ (m : List ℕ) (r : Ready t m (s .args .out .now) (s .args .k) (s .args .total)) where
+  module _ (m : List ℕ) (r : Keyed t m (s .args .out .now) (s .args .k) (s .args .total)) where
     one : Left t (ordered t m) rest (l .loop .out) (k + 1) (l .loop .at)
     one = let e : l .loop .left ≡ k + 1 = omega arith in subst (λ (x : ℕ). Left t (ordered t m) rest (l .loop .out) x (l .loop .at)) e (l .loop .inv .1 m r)
 
@@ -80,7 +80,7 @@ module _ (c : tie.After-record-keyed Inv-loop μ-loop) where
   abbrev p : tie.After-key Inv-loop μ-loop
   p = c .before
 
-  module _ (m : List ℕ) (r : Ready (t p) m (s p .args .out .now) (s p .args .k) (s p .args .total)) where
+  module _ (m : List ℕ) (r : Keyed (t p) m (s p .args .out .now) (s p .args .k) (s p .args .total)) where
     is : c .record-keyed .result ≡ rec p m r
     is = c .record-keyed .ensures ∙ ap (recordKeyed (t p)) (top p m r)
 

@@ -1,0 +1,33 @@
+-- `counts::count` meets its promise: by the order test. Assumes nothing.
+use mathlib.Core.Path.{_≡_, sym, ap, _∙_}
+use mathlib.Core.Bool.{Bool, true, false}
+use mathlib.Core.List.{List}
+use Prim.Native.Nat.{ℕ}
+use borrow.Author.Needs.{needs}
+use borrow.Author.Tests.{not-true, not-false}
+use Rattle.table.specs.Order.{inOrderOf}
+use Rattle.table.specs.OrderLaws.{test-order}
+use Rattle.counts.specs.Count.{CountsAfter}
+use Rattle.counts.specs.CountLaws.{count-1, count-0}
+use Rattle.counts.proofs.rows.count.Statement.{statement}
+use Rattle.counts.proofs.rows.count.Tie as tie
+
+returns : tie.Need-returns
+returns c =
+    let k = c .before .before in
+    let e = count-1 (k .before .before .args .table .now) (sym (k .in-order .ensures) ∙ not-true _ (c .before .if1 .taken)) in
+    (ap (λ (x : CountsAfter). x .number) (sym e), ap (λ (x : CountsAfter). x .counted) (sym e))
+
+counts-of-requires : tie.Need-counts-of-requires
+counts-of-requires c κs =
+    let k = c .before .before in (test-order _ (sym (k .in-order .ensures) ∙ not-false _ (c .before .if1 .left)), c .slots-of .ensures)
+
+returns-2 : tie.Need-returns-2
+returns-2 c =
+    let k = c .before .before .before .before in
+    let ordered = sym (k .in-order .ensures) ∙ not-false _ (c .before .before .before .if1 .left) in
+    let e = count-0 (k .before .before .args .table .now) ordered (c .before .counts-of .result) (c .before .counts-of .ensures) in
+    (ap (λ (x : CountsAfter). x .number) (sym e), ap (λ (x : CountsAfter). x .counted) (sym e))
+
+pub count-spec : {M : Type 1} → statement M
+count-spec = tie.close (tie.spec (λ c κs. search needs) returns (λ c κs. search needs) counts-of-requires returns-2)
