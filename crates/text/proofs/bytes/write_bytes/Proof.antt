@@ -1,12 +1,12 @@
--- `census_text::write_bytes` meets its promise. The invariant: the bytes so far are stored. Assumes nothing.
+-- `text::write_bytes` meets its promise. The invariant: the bytes so far are stored. Assumes nothing.
 use mathlib.Core.Path.{_≡_}
 use Prim.Native.Nat.{_-_}
 use native.Mathlib.Omega.{arith}
 use lib.ListN.{length}
 use borrow.Author.Needs.{needs}
-use Rattle.census_text.specs.TextLaws.{Copied, copied-start, copied-long, copied-more, copied-all}
-use Rattle.census_text.proofs.texts.write_bytes.Statement.{statement}
-use Rattle.census_text.proofs.texts.write_bytes.Tie as tie
+use Rattle.text.specs.Copy.{Copied, copied-start, copied-long, copied-more, copied-all}
+use Rattle.text.proofs.bytes.write_bytes.Statement.{statement}
+use Rattle.text.proofs.bytes.write_bytes.Tie as tie
 
 abbrev Inv-loop : tie.InvT-loop
 Inv-loop out₀ at bytes i₀ out i = Copied out₀ at bytes i out
