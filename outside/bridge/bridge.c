@@ -26,7 +26,7 @@ enum { STACK = 128 * 1024, PAGE = 4096, GUARDS = 64, GUARD = 0xa7, BUFFERS = 4, 
 
 enum call {
     NORMALISE, STAR, BASE, SUBDIVIDE, SUBDIVIDE_ALL, NEIGHBOURS, FACES,
-    WRITE_FULL, WRITE_REDUCED, READ_FULL, READ_REDUCED, CENSUS, NEIGHBOURS_ALL, FACES_ALL, COUNTS, STACK_USED
+    WRITE_FULL, WRITE_REDUCED, READ_FULL, READ_REDUCED, CENSUS, NEIGHBOURS_ALL, FACES_ALL, COUNTS, FINDINGS, STACK_USED
 };
 
 struct request {
@@ -39,7 +39,7 @@ struct request {
 struct answer {
     uint32_t number;      /* 0..255; 256 where a guard was broken */
     int32_t points[POINTS]; /* the first of them also the numbers of a table counted */
-    uint64_t value;
+    uint64_t value, second; /* of findings: the line, the bytes written */
 };
 
 static uint8_t *stack;
@@ -85,7 +85,7 @@ static uint64_t stack_used(void) {
     return STACK - untouched;
 }
 
-static uint8_t call(const struct request *r, uint8_t **p, int32_t *points, uint64_t *value) {
+static uint8_t call(const struct request *r, uint8_t **p, int32_t *points, uint64_t *value, uint64_t *second) {
     const uint64_t *n = r->len;
     switch (r->call) {
     case NORMALISE: return fb_normalise(r->a, r->b, r->m, points);
@@ -103,6 +103,7 @@ static uint8_t call(const struct request *r, uint8_t **p, int32_t *points, uint6
     case NEIGHBOURS_ALL: return fb_neighbours_all(p[0], n[0], (const int32_t *)p[1], n[1] / 4, (int32_t *)p[2], n[2] / 4);
     case FACES_ALL: return fb_faces_all(p[0], n[0], (const int32_t *)p[1], n[1] / 4, (int32_t *)p[2], n[2] / 4);
     case COUNTS: return fb_counts(p[0], n[0], (uint32_t *)points);
+    case FINDINGS: return fb_findings(p[0], n[0], p[1], n[1], p[2], n[2], value, second);
     case STACK_USED: *value = stack_used(); return 0;
     default: _exit(2);
     }
@@ -122,10 +123,11 @@ static void serve(const struct request *r) {
     }
     int32_t points[GUARDS + POINTS + GUARDS];
     memset(points, GUARD, sizeof points);
-    uint64_t value = ~0ul;
+    uint64_t value = ~0ul, second = ~0ul;
     struct answer *out = malloc(total);
-    out->number = call(r, p, points + GUARDS, &value);
+    out->number = call(r, p, points + GUARDS, &value, &second);
     out->value = value;
+    out->second = second;
     memcpy(out->points, points + GUARDS, sizeof out->points);
     int whole = guarded((uint8_t *)points, GUARDS * 4, POINTS * 4);
     uint8_t *at = (uint8_t *)(out + 1);

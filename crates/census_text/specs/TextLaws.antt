@@ -1,6 +1,6 @@
--- The texts of a census, part by part: `header-is` the bytes of the header, `refused-is` the line of a refusal · `Copied`, `copied-start`,
--- `copied-more`, `copied-all` bytes stored one by one · `Rowed`, `rowed-start`, `rowed-room`, `rowed-more`, `rowed-all` numbers written one by one ·
--- `Measured`, `measured-start`, `measured-more`, `measured-all` their width · `put-short`, `put-done` a text refused with 13, or written.
+-- The texts of a census, part by part: `header-is` the bytes of the header, `refused-is` the line of a refusal · `Rowed`, `rowed-start`,
+-- `rowed-room`, `rowed-more`, `rowed-all` numbers written one by one · `Measured`, `measured-start`, `measured-more`, `measured-all` their width ·
+-- `put-short`, `put-done` a text refused with 13, or written.
 -- Assumes nothing.
 use mathlib.Core.Path.{_≡_, refl, sym, ap, _∙_}
 use mathlib.Core.Bool.{Bool, cond}
@@ -10,9 +10,8 @@ use native.Mathlib.Omega.{arith}
 use native.Mathlib.Decide.{ℕ-discrete}
 use borrow.Author.Tests.{lt-ltb, le-ltb, eq-eqb, ne-eqb}
 use lib.Dec.{eqb}
-use lib.ListN.{length, getD, set, take, drop, length-append}
-use lib.Seq.{sets, sets-eq, length-sets, take-suc, take-length, length-take-le}
-use Rattle.laws.specs.Sets.{sets-append}
+use lib.ListN.{length, getD, drop, length-append}
+use lib.Seq.{sets, sets-eq, length-sets}
 use Rattle.laws.specs.Stores.{Wrote, wrote-then}
 use Rattle.text.specs.Decimal.{tab, feed, digitsBy, digits, ended}
 use Rattle.census_text.specs.Census.{tabbed, header, row, refusedText, put, putText}
@@ -26,38 +25,6 @@ header-is = refl
 pub refused-is : (number line : ℕ) → (114 ∷ 101 ∷ 102 ∷ 117 ∷ 115 ∷ 101 ∷ 100 ∷ 9 ∷ []) ++ row (number ∷ line ∷ []) ≡ refusedText number line
 unfolding tabbed
 refused-is number line = refl
-
--- ---- bytes stored one by one
-
--- the first i bytes of bs were stored at p of o, which left o′
-pub record Copied (o : List ℕ) (p : ℕ) (bs : List ℕ) (i : ℕ) (o′ : List ℕ) : Type 0 where
-  pub most : i ≤ length bs
-  pub bytes : o′ ≡ sets o p (take i bs)
-
-pub copied-start : (o : List ℕ) (p : ℕ) (bs : List ℕ) → Copied o p bs 0 o
-copied-start o p bs = record { most = omega arith; bytes = refl }
-
-pub copied-long : (o : List ℕ) (p : ℕ) (bs : List ℕ) (i : ℕ) (o′ : List ℕ) → Copied o p bs i o′ → length o′ ≡ length o
-copied-long o p bs i o′ c = ap length (c .bytes) ∙ length-sets o p (take i bs)
-
-pub copied-more : (o : List ℕ) (p : ℕ) (bs : List ℕ) (i : ℕ) (o′ : List ℕ) → Copied o p bs i o′ → i < length bs
-    → Copied o p bs (i + 1) (set o′ (p + i) (getD bs i 0))
-copied-more o p bs i o′ c h = record { most = omega arith; bytes = stored }
-  where
-    long : length (take i bs) ≡ i
-    long = length-take-le i bs (c .most)
-
-    stored : set o′ (p + i) (getD bs i 0) ≡ sets o p (take (i + 1) bs)
-    stored =
-        let e : i + 1 ≡ suc i = omega arith in
-        (λ z. set (c .bytes z) (p + sym long z) (getD bs i 0)) ∙ sets-append (take i bs) (getD bs i 0 ∷ []) o p
-        ∙ ap (sets o p) (sym (take-suc bs i 0 h) ∙ ap (λ (k : ℕ). take k bs) (sym e))
-
-pub copied-all : (o : List ℕ) (p : ℕ) (bs : List ℕ) (i : ℕ) (o′ : List ℕ) → Copied o p bs i o′ → length bs ≤ i → Wrote o p bs o′ (p + i)
-copied-all o p bs i o′ c h =
-    let m = c .most in
-    let e : i ≡ length bs = omega arith in
-    record { bytes = c .bytes ∙ ap (sets o p) (ap (λ (k : ℕ). take k bs) e ∙ take-length bs); past = ap (λ (k : ℕ). p + k) e }
 
 -- ---- a line of numbers, one by one
 

@@ -12,6 +12,7 @@ use lattice::SHORT;
 use text::FEED;
 use text::TAB;
 use text::width;
+use text::write_bytes;
 use text::write_number;
 
 // The number that a census gives back, and the bytes of its text, 0 where the output is shorter.
@@ -24,19 +25,6 @@ fn answer(number: u8, written: u64) -> Census
     ensures { λ r. ⌜ (r .number ≡ number) × (r .written ≡ written) ⌝ }
 {
     Census { number, written }
-}
-
-// Writes bytes at a position, and gives the position past them.
-fn write_bytes(out: &mut [u8], at: usize, bytes: &[u8]) -> usize
-    requires { ⌜ at + length (now bytes) ≤ length (now out) ⌝ }
-    ensures { λ r. ⌜ Wrote (now (out .entry)) at (now (bytes .entry)) (now (out .exit)) r ⌝ }
-{
-    let mut i = 0;
-    while i < bytes.len() {
-        out[at + i] = bytes[i];
-        i += 1;
-    }
-    at + i
 }
 
 // The byte after number i of n.

@@ -17,5 +17,7 @@ pub mod Order
 pub mod Files
 -- demand 3: what is written comes back, call by call
 pub mod Returns
+-- document 02's ticket 1: the findings list joined
+pub mod Findings
 -- the starred examples
 pub mod Starred

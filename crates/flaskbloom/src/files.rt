@@ -1,10 +1,11 @@
-// The calls that write a table's files and read them, and the census of one.
+// The calls that write a table's files and read them, count one, and join a list of findings with it.
 ghost use mathlib.Core.Path.{_≡_};
 ghost use Prim.Native.Nat.{_≤_};
 ghost use lib.ListN.{length};
 ghost use Rattle.writers.specs.Files.{outputAfter, writeFullOf, writeReducedOf};
 ghost use Rattle.readers.specs.Readers as reader;
 ghost use Rattle.counts.specs.Count.{countOf};
+ghost use Rattle.findings.specs.Findings.{joinAfter, joinOf};
 ghost use Rattle.census_text.specs.Census.{put, result, censusOf, textOf, readInputOf};
 use counts::COUNTS;
 
@@ -91,4 +92,23 @@ pub extern "C" fn fb_counts(table: &[u8], numbers: &mut [u32; COUNTS]) -> u8
     ensures { λ _. ⌜ now (numbers .exit) ≡ countOf (now (table .entry)) .counted ⌝ }
 {
     counts::count(table, numbers)
+}
+
+// Writes the findings list joined with the plan, or 1, 15, 13; line: the malformed line, else 0; written: its bytes, 0 if refused.
+#[no_mangle]
+pub extern "C" fn fb_findings(
+    table: &[u8],
+    list: &[u8],
+    out: &mut [u8],
+    line: &mut u64,
+    written: &mut u64,
+) -> u8
+    ensures { λ r. ⌜
+        joinAfter r (now (line .exit)) (now (written .exit)) (now (out .exit)) ≡ joinOf (now (table .entry)) (now (list .entry)) (now (out .entry))
+        ⌝ }
+{
+    let joined = findings::join(table, list, out);
+    *line = joined.line;
+    *written = joined.bytes;
+    joined.number
 }

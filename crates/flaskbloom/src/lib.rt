@@ -1,4 +1,4 @@
-// The C interface: document 01's calls and `subdivide_all` under the names of include/flaskbloom.h, thin over the crates that have them.
+// The C interface: the calls under the names of include/flaskbloom.h, thin over the crates that have them.
 //
 // A pointer and its length are a slice; point[3], points[19] and an out-parameter are a reference. Each promise settles the number that is
 // returned and every lent byte and number afterwards, by the definition that the call's own promise cites; no call has a `requires`.

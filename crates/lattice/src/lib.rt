@@ -13,6 +13,7 @@ mod rows;
 mod stars;
 mod updates;
 
+pub use numbers::BAD_FINDING;
 pub use numbers::BAD_LIST;
 pub use numbers::BOUNDARY;
 pub use numbers::DONE;

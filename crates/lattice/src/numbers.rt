@@ -1,4 +1,5 @@
-// The numbers that the calls give back, each by its name: document 01, "Numbers given back". The definitions that promises cite have the paper's numbers.
+// The numbers that the calls give back, each by its name: document 01, "Numbers given back", and document 02. The definitions that promises cite have
+// the papers' numbers.
 pub const DONE: u8 = 0;
 
 // Table not in order; for a base and the readers, only a length that doesn't fit.
@@ -40,3 +41,6 @@ pub const SHORT: u8 = 13;
 
 // Asked of degree 0.
 pub const BOUNDARY: u8 = 14;
+
+// A line of a findings list malformed: document 02, ticket 1.
+pub const BAD_FINDING: u8 = 15;

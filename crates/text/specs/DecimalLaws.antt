@@ -158,7 +158,7 @@ digits-some =
     (λ n h. omega (arith, ap length (digits-small n h)))
     (λ n h r. omega (arith, ap length (digits-more n h), length-append (digits (n / 10)) (digit (n % 10) ∷ [])))
 
-more-length : (n : ℕ) → 10 ≤ n → length (digits n) ≡ length (digits (n / 10)) + 1
+pub more-length : (n : ℕ) → 10 ≤ n → length (digits n) ≡ length (digits (n / 10)) + 1
 more-length n h = ap length (digits-more n h) ∙ length-append (digits (n / 10)) (digit (n % 10) ∷ [])
 
 digits-first : (n : ℕ) → 0 < n → 48 < getD (digits n) 0 0

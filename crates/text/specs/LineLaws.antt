@@ -69,7 +69,7 @@ star-write t p q x d k n hd hk hn s =
       number-write t (p + length td + length tk) near feed n q refl hn s₃,
     )
 
-stands-within : {t xs : List ℕ} {p q : ℕ} → Stands t p xs q → 0 < length xs → p < length t
+pub stands-within : {t xs : List ℕ} {p q : ℕ} → Stands t p xs q → 0 < length xs → p < length t
 stands-within {t} {xs} {p} {q} s h = omega (arith, ap length (s .here), length-drop p t, length-append xs (drop q t))
 
 pub spelled-write : (t : List ℕ) (p q : ℕ) (r : Record) → Near r → Stands t p (lineOf r) q → spelledAt t p ≡ Good r q

@@ -1,6 +1,6 @@
 -- How long lines are, by their fields.
--- `point-length`, `star-length`, `line-halves` a line's parts · `line-long` its six fields · `line-least`, `line-most` at least 12 bytes, and at most
--- 26 for a valid record · `lines-least` those of several.
+-- `point-length`, `star-length`, `line-halves` a line's parts · `point-long`, `star-long`, `line-long` by their fields · `point-least`,
+-- `line-least`, `line-most` a point's text has at least 6 bytes, a line at least 12, and at most 26 for a valid record · `lines-least` those of several.
 -- Assumes nothing.
 use mathlib.Core.Path.{_≡_}
 use mathlib.Core.Bool.{true}
@@ -33,22 +33,30 @@ pub line-halves : (r : Record) → length (lineOf r) ≡ length (pointText (r .a
 unfolding lineOf
 line-halves r = length-append (pointText (r .at)) (starText (r .d) (r .k) (r .n .0))
 
--- six fields, and a byte after each
-pub line-long : (r : Record) → length (lineOf r) ≡ length (numeral (r .at .a)) + length (numeral (r .at .b)) + length (digits (r .at .m .0)) +
-    (length (digits (r .d)) + length (digits (r .k)) + length (digits (r .n .0))) + 6
-line-long r =
+-- three fields each, and a byte after each
+pub point-long : (p : Point) → length (pointText p) ≡ length (numeral (p .a)) + length (numeral (p .b)) + length (digits (p .m .0)) + 3
+point-long p =
     omega (
       arith,
-      line-halves r,
-      point-length (r .at),
-      star-length (r .d) (r .k) (r .n .0),
-      length-append (numeral (r .at .a)) (tab ∷ []),
-      length-append (numeral (r .at .b)) (tab ∷ []),
-      length-append (digits (r .at .m .0)) (tab ∷ []),
-      length-append (digits (r .d)) (tab ∷ []),
-      length-append (digits (r .k)) (tab ∷ []),
-      length-append (digits (r .n .0)) (feed ∷ []),
+      point-length p,
+      length-append (numeral (p .a)) (tab ∷ []),
+      length-append (numeral (p .b)) (tab ∷ []),
+      length-append (digits (p .m .0)) (tab ∷ []),
     )
+
+pub star-long : (d k n : ℕ) → length (starText d k n) ≡ length (digits d) + length (digits k) + length (digits n) + 3
+star-long d k n =
+    omega (
+      arith,
+      star-length d k n,
+      length-append (digits d) (tab ∷ []),
+      length-append (digits k) (tab ∷ []),
+      length-append (digits n) (feed ∷ []),
+    )
+
+pub line-long : (r : Record) → length (lineOf r) ≡ length (numeral (r .at .a)) + length (numeral (r .at .b)) + length (digits (r .at .m .0)) +
+    (length (digits (r .d)) + length (digits (r .k)) + length (digits (r .n .0))) + 6
+line-long r = omega (arith, line-halves r, point-long (r .at), star-long (r .d) (r .k) (r .n .0))
 
 numeral-some : (z : ℤ) → 1 ≤ length (numeral z)
 numeral-some (pos n) = digits-some n
@@ -58,6 +66,9 @@ numeral-below : (w : ℕ) (z : ℤ) → 0 < w → natAbs z < 10 ^ w → length (
 numeral-below w (pos n) p h = omega (arith, width-below w n p h)
 numeral-below w (negsuc n) p h = omega (arith, width-below w (suc n) p h)
 
+pub point-least : (p : Point) → 6 ≤ length (pointText p)
+point-least p = omega (arith, point-long p, numeral-some (p .a), numeral-some (p .b), digits-some (p .m .0))
+
 -- the shortest line has six digits
 abbrev pub shortest : ℕ
 shortest = 12
@@ -66,10 +77,9 @@ pub line-least : (r : Record) → shortest ≤ length (lineOf r)
 line-least r =
     omega (
       arith,
-      line-long r,
-      numeral-some (r .at .a),
-      numeral-some (r .at .b),
-      digits-some (r .at .m .0),
+      line-halves r,
+      point-least (r .at),
+      star-long (r .d) (r .k) (r .n .0),
       digits-some (r .d),
       digits-some (r .k),
       digits-some (r .n .0),

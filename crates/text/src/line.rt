@@ -117,18 +117,23 @@ pub fn parse_line(t: &[u8], at: usize) -> Line
     }
 }
 
+// How many bytes a point's three fields have.
+pub fn point_length(p: Point) -> usize
+    ensures { λ w. ⌜ (w ≡ length (pointText p)) × (w ≤ 35) ⌝ }
+{
+    signed_width(p.a) + signed_width(p.b) + width(p.m.0 as u32) + 3
+}
+
 // How many bytes a record's line has.
 pub fn line_length(r: Record) -> usize
     ensures { λ w. ⌜ w ≡ length (lineOf r) ⌝ }
 {
-    let p = r.at;
-    let point = signed_width(p.a) + signed_width(p.b) + width(p.m.0 as u32);
     let star = width(r.d as u32) + width(r.k as u32) + width(r.n.0 as u32);
-    point + star + 6
+    point_length(r.at) + star + 3
 }
 
 // Writes a point's three fields before a position, from the last back, and gives the position of the first.
-fn point_back(out: &mut [u8], end: usize, p: Point) -> usize
+pub fn point_back(out: &mut [u8], end: usize, p: Point) -> usize
     requires { ⌜ (length (pointText p) ≤ end) × (end ≤ length (now out)) ⌝ }
     ensures { λ at. ⌜ Wrote (now (out .entry)) at (pointText p) (now (out .exit)) end ⌝ }
 {

@@ -62,6 +62,7 @@ fn main() {
     counts(&mut bench, table);
     files(&mut bench, table);
     census(&mut bench);
+    findings(&mut bench, table);
     bench.print();
     growth(&levels, &mut bench);
     if let Some(times) = words.openmesh {
@@ -278,6 +279,30 @@ fn census(bench: &mut Bench) {
         None,
     );
     assert_eq!(out, other.2);
+}
+
+/// 60,000 findings over the largest sheet, in no order: a tenth of them lost, a third spelled deeper than its point is.
+fn findings(bench: &mut Bench, table: &[u8]) {
+    let mut rng = Rng::new(3);
+    let points: Vec<Point> = records(table).map(|(p, _)| p).collect();
+    let mut list = String::new();
+    for i in 0..60_000 {
+        let p = *rng.pick(&points);
+        let (times, deeper) = if i % 3 == 0 { (3, 1) } else { (1, 0) };
+        let aside = if i % 10 == 0 { 7 } else { 0 };
+        list += &format!("{}\t{}\t{}\t{}\tpit, {} mm\n", i + 1, times * p.a, times * p.b + aside, p.m + deeper, i % 90);
+    }
+    let list = list.into_bytes();
+    let (mut out, mut other) = (vec![0; list.len()], vec![0; list.len()]);
+    let by_library = library::findings(table, &list, &mut out);
+    assert!(by_library.0 == 0 && by_library == plain::findings(table, &list, &mut other) && out == other);
+    let task = Task { name: "findings, 60,000 on the plan", unit: "finding", units: 60_000 };
+    bench.run(
+        task,
+        &mut || clock::time(|| assert_eq!(library::findings(table, &list, &mut out).0, 0)),
+        &mut || clock::time(|| assert_eq!(plain::findings(table, &list, &mut other).0, 0)),
+        None,
+    );
 }
 
 /// From about 500 to 50,000 vertices: the library's time per vertex at each size, in tables as full each time.

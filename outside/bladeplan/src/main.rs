@@ -5,6 +5,7 @@ mod commands;
 mod counted;
 mod draw;
 mod files;
+mod findings;
 mod lists;
 mod place;
 mod plan;

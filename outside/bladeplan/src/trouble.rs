@@ -8,8 +8,6 @@ use std::io;
 
 pub const USAGE: u8 = 64;
 pub const FILES: u8 = 74;
-/// The number that the user's paper has for a malformed line of findings.
-pub const FINDINGS: u8 = 15;
 
 pub type Outcome<T> = Result<T, Trouble>;
 
@@ -23,8 +21,6 @@ pub enum Trouble {
     Refused { place: Place, refusal: Refusal },
     /// No plan: what each of the two readers says of the file.
     NoPlan { name: String, full: RefusedAt, reduced: RefusedAt },
-    /// A line of a list of findings is none, counted from 1.
-    BadFinding { name: String, line: usize },
     /// Whoever read our standard output has gone: nothing is left to say.
     ClosedPipe,
 }
@@ -37,7 +33,6 @@ impl Trouble {
             Trouble::File { .. } | Trouble::ClosedPipe => FILES,
             Trouble::Refused { refusal, .. } => refusal.number(),
             Trouble::NoPlan { reduced, .. } => reduced.refusal.number(),
-            Trouble::BadFinding { .. } => FINDINGS,
         }
     }
 
@@ -65,9 +60,6 @@ impl fmt::Display for Trouble {
             }
             Trouble::NoPlan { name, full, reduced } => {
                 write!(f, "{name}: not a full file, {}; not a reduced file, {}", told(full.refusal), told(reduced.refusal))
-            }
-            Trouble::BadFinding { name, line } => {
-                write!(f, "{name}, line {line}: refused with {FINDINGS}: no finding, which is number, a, b, m and a note of at most 80 bytes, tabs between")
             }
             Trouble::ClosedPipe => f.write_str("the reader of the output has gone"),
         }
@@ -108,6 +100,7 @@ fn words(refusal: Refusal) -> &'static str {
         Refusal::RedundantKept => "a full file, or a mixture, where a reduced one belongs: it keeps a vertex that its neighbours imply",
         Refusal::OutputShort => "the output is shorter than the file, or has no room for all the answers; nothing was written",
         Refusal::DegreeZero => "asked of a vertex at the rim, which has no star",
+        Refusal::BadFinding => "that line is no finding: number, a, b, m and note, tabs between, each within its limits",
     }
 }
 
@@ -117,7 +110,7 @@ mod tests {
     use Refusal::*;
 
     const SOME: [Refusal; 7] = [NotInOrder, BadCentre, NoRecord, NotDegreeSix, LevelTwelve, TooDeep, Torn];
-    const OTHERS: [Refusal; 7] = [TooFewSlots, BadLine, NotAbove, NotGrown, RedundantKept, OutputShort, DegreeZero];
+    const OTHERS: [Refusal; 8] = [TooFewSlots, BadLine, NotAbove, NotGrown, RedundantKept, OutputShort, DegreeZero, BadFinding];
 
     #[test]
     fn the_words_are_the_readme_s() {

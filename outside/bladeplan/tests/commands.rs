@@ -148,6 +148,7 @@ fn plans_that_are_none() {
             desk.refused(command, status, &line);
         }
         desk.refused("compare bad plan.full", status, &line);
+        desk.refused("findings bad list.txt", status, &line);
         desk.refused("compare plan.full bad", status, &line);
     }
 }
@@ -163,6 +164,7 @@ fn plans_that_are_missing() {
         "census PLAN",
         "check PLAN",
         "compare PLAN plan.full",
+        "findings PLAN list.txt",
     ] {
         let words: Vec<&str> = command.split(' ').map(|word| if word == "PLAN" { "no such" } else { word }).collect();
         assert_eq!(desk.run_words(words, b""), Ran { status: 74, out: String::new(), err: format!("bladeplan: {MISSING}\n") });

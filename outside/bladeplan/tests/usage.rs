@@ -41,6 +41,9 @@ fn wrong_command_lines() {
         "-x",
         "compare plan.full",
         "compare - -",
+        "findings plan.full",
+        "findings - -",
+        "findings plan.full list.txt more",
         "subdivide plan.full",
         "subdivide - --list -",
         "subdivide plan.full 1",
@@ -101,7 +104,7 @@ fn any_words_and_any_bytes() {
     let plan = desk.get("plan.full").into_bytes();
     let mut numbers = Numbers(16);
     for _ in 0..400 {
-        let mut words = vec![OsString::from(COMMANDS[numbers.below(12)])];
+        let mut words = vec![OsString::from(COMMANDS[numbers.below(COMMANDS.len() - 1)])];
         for _ in 0..numbers.below(5) {
             words.push(match numbers.below(6) {
                 0 => OsString::from("-"),

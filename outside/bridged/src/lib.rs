@@ -27,6 +27,7 @@ enum Call {
     NeighboursAll,
     FacesAll,
     Counts,
+    Findings,
     StackUsed,
 }
 
@@ -39,10 +40,14 @@ struct Pipe {
 /// A bridge of its own.
 pub struct Library(Mutex<Pipe>);
 
+/// The bytes of an answer before its buffers.
+const HEAD: usize = 96;
+
 struct Answer {
     number: u8,
     points: Points,
     value: u64,
+    second: u64,
 }
 
 impl Library {
@@ -79,7 +84,7 @@ impl Library {
         let request = request(call, fields, &order, lent, constant);
         let mut pipe = self.0.lock().unwrap_or_else(|broken| broken.into_inner());
         let sent = pipe.to.as_mut().expect("open until dropped").write_all(&request);
-        let mut head = [0; 88];
+        let mut head = [0; HEAD];
         if sent.and_then(|_| pipe.from.read_exact(&mut head)).is_err() {
             panic!("the bridge ended in a call: {:?}", pipe.child.wait());
         }
@@ -135,7 +140,7 @@ enum Which {
 fn order(call: Call, lent: usize, constant: usize) -> Vec<Which> {
     let (lent, mut constant) = ((0..lent).map(Which::Lent), (0..constant).map(Which::Constant));
     let before = match call {
-        Call::NeighboursAll | Call::FacesAll => 2,
+        Call::NeighboursAll | Call::FacesAll | Call::Findings => 2,
         Call::WriteFull | Call::WriteReduced | Call::Census => 1,
         _ => 0,
     };
@@ -157,11 +162,11 @@ fn at(a: i32, b: i32, m: u8) -> Fields {
 
 impl Answer {
     /// bridge.c's struct.
-    fn of(head: &[u8; 88]) -> Answer {
+    fn of(head: &[u8; HEAD]) -> Answer {
         let word = |at: usize| i32::from_le_bytes(head[at..at + 4].try_into().expect("four bytes"));
         let number = u8::try_from(word(0)).expect("a byte outside of what was lent has changed");
-        let value = u64::from_le_bytes(head[80..].try_into().expect("eight bytes"));
-        Answer { number, points: std::array::from_fn(|i| word(4 + 4 * i)), value }
+        let long = |at: usize| u64::from_le_bytes(head[at..at + 8].try_into().expect("eight bytes"));
+        Answer { number, points: std::array::from_fn(|i| word(4 + 4 * i)), value: long(80), second: long(88) }
     }
 
     fn value(self) -> (u8, u64) {
@@ -219,5 +224,9 @@ impl Caller for Library {
     fn counts(&self, table: &[u8]) -> (u8, Numbers) {
         let answer = self.ask(Call::Counts, NO_FIELDS, &mut [], &[table]);
         (answer.number, std::array::from_fn(|i| answer.points[i] as u32))
+    }
+    fn findings(&self, table: &[u8], list: &[u8], out: &mut [u8]) -> (u8, [u64; 2]) {
+        let answer = self.ask(Call::Findings, NO_FIELDS, &mut [out], &[table, list]);
+        (answer.number, [answer.value, answer.second])
     }
 }

@@ -1,4 +1,5 @@
-//! The calls of the C interface as a trait: each gives its number and its value (points, place, line, count, bytes written or counts).
+//! The calls of the C interface as a trait: each gives its number and its value (points, place, line, count, bytes written or counts; of findings
+//! line and bytes).
 
 use mesher::slips::{self, Slip};
 
@@ -21,6 +22,7 @@ pub trait Caller: Sync {
     fn read_reduced(&self, table: &mut [u8], scratch: &mut [u8], file: &[u8]) -> (u8, u64);
     fn census(&self, input: &[u8], table: &mut [u8], scratch: &mut [u8], out: &mut [u8]) -> (u8, u64);
     fn counts(&self, table: &[u8]) -> (u8, Numbers);
+    fn findings(&self, table: &[u8], list: &[u8], out: &mut [u8]) -> (u8, [u64; 2]);
 }
 
 thread_local! {
@@ -98,6 +100,10 @@ impl Caller for Mesher {
     fn counts(&self, table: &[u8]) -> (u8, Numbers) {
         told(mesher::counts(table))
     }
+
+    fn findings(&self, table: &[u8], list: &[u8], out: &mut [u8]) -> (u8, [u64; 2]) {
+        told(mesher::findings(table, list, out))
+    }
 }
 
 /// The mesher with one deliberate mistake.
@@ -149,6 +155,10 @@ impl Caller for Slipped {
     fn counts(&self, table: &[u8]) -> (u8, Numbers) {
         slips::with(self.0, || Mesher.counts(table))
     }
+
+    fn findings(&self, table: &[u8], list: &[u8], out: &mut [u8]) -> (u8, [u64; 2]) {
+        slips::with(self.0, || Mesher.findings(table, list, out))
+    }
 }
 
 /// The plain fast one.
@@ -199,5 +209,9 @@ impl Caller for Plain {
     }
     fn counts(&self, table: &[u8]) -> (u8, Numbers) {
         plain::counts(table)
+    }
+
+    fn findings(&self, table: &[u8], list: &[u8], out: &mut [u8]) -> (u8, [u64; 2]) {
+        plain::findings(table, list, out)
     }
 }

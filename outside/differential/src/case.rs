@@ -21,6 +21,7 @@ pub enum Case {
     ReadReduced { table: Vec<u8>, scratch: Vec<u8>, file: Vec<u8> },
     Census { input: Vec<u8>, table: Vec<u8>, scratch: Vec<u8>, out: Vec<u8> },
     Counts { table: Vec<u8> },
+    Findings { table: Vec<u8>, list: Vec<u8>, out: Vec<u8> },
 }
 
 #[derive(PartialEq, Eq, Clone, Debug)]
@@ -99,6 +100,7 @@ impl Case {
             Case::ReadReduced { .. } => "read_reduced",
             Case::Census { .. } => "census",
             Case::Counts { .. } => "counts",
+            Case::Findings { .. } => "findings",
         }
     }
 
@@ -164,6 +166,11 @@ impl Case {
                 let (number, counts) = caller.counts(table.get());
                 ((number, counts.iter().map(|v| *v as i64).collect()), vec![table])
             }
+            Case::Findings { table, list, out } => {
+                let (mut table, mut list, mut out) = (Lent::new(table), Lent::new(list), Lent::new(out));
+                let (number, value) = caller.findings(table.get(), list.get(), out.get());
+                ((number, value.iter().map(|v| *v as i64).collect()), vec![table, list, out])
+            }
         };
         Outcome { number, value, lent: lent.into_iter().map(Lent::back).collect() }
     }
@@ -207,6 +214,7 @@ impl std::fmt::Display for Case {
                 write!(f, "table {}, scratch {}, output {}, input {}", table.len(), scratch.len(), out.len(), shown(input))
             }
             Case::Counts { table } => write!(f, "{}", shown(table)),
+            Case::Findings { table, list, out } => write!(f, "output {}, list {}, {}", out.len(), shown(list), shown(table)),
         }
     }
 }

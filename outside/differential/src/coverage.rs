@@ -39,6 +39,22 @@ const MALFORMED: [&str; 8] = [
 /// What is counted besides a grown mesh.
 const COUNTED: [&str; 4] =
     ["done, an empty table", "done, an adjacent is absent", "done, a corner with no opposite", "done, not a grown mesh"];
+/// What is wrong with a line of findings: number 15.
+const NO_FINDING: [&str; 13] = [
+    "fewer than five fields",
+    "a tab in the note",
+    "a note over 80 bytes",
+    "a field without digits",
+    "a byte that is no digit",
+    "a leading zero",
+    "a minus before zero",
+    "a number beyond any record",
+    "number not 1 to 999,999",
+    "a beyond 1,000,000",
+    "b beyond 1,000,000",
+    "m not 0 to 12",
+    "a line without its line feed",
+];
 
 type Key = (&'static str, u8, &'static str);
 
@@ -130,6 +146,10 @@ pub fn expected() -> Vec<Key> {
         keys(&["read_reduced"], 11, &["a restored record isn't valid"]),
         keys(&["read_reduced"], 12, &["a redundant record was kept"]),
         keys(&["census"], 8, &["input over 65,536 bytes"]),
+        keys(&["findings"], 0, &["done, an empty list", "done, all lost", "done, none lost", "done, some lost"]),
+        keys(&["findings"], 1, &not_in_order),
+        keys(&["findings"], 15, &NO_FINDING),
+        keys(&["findings"], 13, &["output shorter than the file"]),
     ]
     .concat()
 }

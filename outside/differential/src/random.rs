@@ -220,6 +220,30 @@ impl Cases {
         Case::Counts { table }
     }
 
+    fn findings(&mut self) -> Case {
+        let (mut table, records) = self.table();
+        if self.rng.once_in(20) {
+            table.fill(255);
+        }
+        let rng = &mut self.rng;
+        let most = *rng.pick(&[1, 4, 12, 40]);
+        let list = if rng.once_in(2) { findings_list(rng, &records, most) } else { faulty_findings(rng, &records, most) };
+        let text = match (Slots::of(&table), mesher::findings::parse(&list)) {
+            (Ok(slots), Ok(findings)) => mesher::findings::joined(slots.records(), &findings).text.len(),
+            _ => list.len(),
+        };
+        let len = match rng.below(8) {
+            0 => text.saturating_sub(1),
+            1 => rng.below(text + 1),
+            2 => text,
+            3 => list.len(),
+            4 => 0,
+            _ => text + rng.below(40),
+        };
+        let out = self.garbage(len);
+        Case::Findings { table, list, out }
+    }
+
     fn census(&mut self) -> Case {
         let made = self.file(false);
         let (mut table, mut scratch) = self.lengths(&made);
@@ -245,7 +269,7 @@ impl Iterator for Cases {
             let i = self.rng.below(POOL);
             self.pool[i] = grown(&mut self.rng, most);
         }
-        Some(match self.rng.below(100) {
+        Some(match self.rng.below(108) {
             0..=2 => {
                 let (p, m) = request(&mut self.rng, &self.pool[0], false);
                 Case::Normalise(p, m)
@@ -288,7 +312,8 @@ impl Iterator for Cases {
                 let (table, scratch) = self.lengths(&made);
                 Case::ReadReduced { table: self.garbage(table), scratch: self.garbage(scratch), file: made.bytes }
             }
-            _ => self.census(),
+            96..=99 => self.census(),
+            _ => self.findings(),
         })
     }
 }

@@ -5,6 +5,7 @@
 use crate::caller::{inside, why, Caller, Mesher};
 use crate::case::{difference, Case, Outcome};
 use crate::coverage::Coverage;
+pub use crate::findings::*;
 use crate::makers::*;
 use crate::random::Cases;
 use crate::rng::Rng;
@@ -28,6 +29,10 @@ fn number_from(name: &str, default: u64) -> u64 {
 
 pub fn seed() -> u64 {
     number_from("FLASKBLOOM_SEED", SEED)
+}
+
+pub fn fuzzed() -> u64 {
+    number_from("FLASKBLOOM_FUZZED", FUZZED)
 }
 
 /// Puts the case to both; ends the test where they differ. Gives the number.
@@ -64,7 +69,7 @@ pub fn random_cases(caller: &dyn Caller) {
 
 /// Readers and census on scribbled and spoiled bytes.
 pub fn fuzzed_readers(caller: &dyn Caller) {
-    let (seed, inputs) = (seed(), number_from("FLASKBLOOM_FUZZED", FUZZED));
+    let (seed, inputs) = (seed(), fuzzed());
     println!("seed {seed}, {inputs} inputs");
     let mut rng = Rng::new(seed ^ 0xf0);
     let texts: Vec<String> = (0..40).map(|i| file(&grown(&mut rng, 7 + i), i % 2 == 1)).collect();
@@ -406,6 +411,8 @@ pub fn small_stack(caller: &dyn Caller) {
     run(Case::NeighboursAll { table: table.clone(), points: points.clone(), answers: answers.clone() });
     run(Case::FacesAll { table: table.clone(), points, answers });
     assert_eq!(run(Case::Counts { table: table.clone() }).number, 0);
+    let list = findings_list(&mut Rng::new(seed() ^ 0x16), &stored(&table), 60_000);
+    run(Case::Findings { table: table.clone(), out: vec![0; list.len()], list });
     let full = run(Case::WriteFull { table: table.clone(), out: out.clone() });
     let reduced = run(Case::WriteReduced { table, out });
     let text = |written: Outcome| written.lent[1][..written.value[0] as usize].to_vec();
@@ -431,5 +438,6 @@ macro_rules! suite {
     ($caller:expr) => {
         $crate::suite!($caller; random_cases, fuzzed_readers, all_stars, single_edits, single_bytes, every_length);
         $crate::suite!($caller; nearly_grown_files, deep_meshes, large_meshes, crowded_tables, small_stack);
+        $crate::suite!($caller; findings_malformed, findings_done, findings_refusals_in_order, findings_bytes, fuzzed_findings, long_findings);
     };
 }

@@ -11,7 +11,7 @@
 //! # Ok::<(), Box<dyn std::error::Error>>(())
 //! ```
 //!
-//! `Table` owns its slots; `Refusal` is document 01's numbers; `normalise` and `star` need no mesh; `census` is the program's text.
+//! `Table` owns its slots; `Refusal` is the documents' numbers; `normalise` and `star` need no mesh; `census` is the program's text.
 //! Every call but `normalise`, `star` and the reading of fields first tests the whole table, in time linear in its slots: to subdivide
 //! many points use `subdivide_all`, which tests it once; to ask of many, `neighbours_all`, `opposites_all` and `faces_all`. `Table::counts` has
 //! the census's numbers of a table of any size.
@@ -44,7 +44,7 @@ pub struct Record {
     pub level: u8,
 }
 
-/// Why a call was refused: the numbers of document 01's table.
+/// Why a call was refused: the numbers of document 01's table, and document 02's 15.
 #[derive(Clone, Copy, PartialEq, Eq, Hash, Debug)]
 #[repr(u8)]
 pub enum Refusal {
@@ -62,10 +62,11 @@ pub enum Refusal {
     RedundantKept = 12,
     OutputShort = 13,
     DegreeZero = 14,
+    BadFinding = 15,
 }
 
 impl Refusal {
-    const ALL: [Refusal; 14] = [
+    const ALL: [Refusal; 15] = [
         Refusal::NotInOrder,
         Refusal::BadCentre,
         Refusal::NoRecord,
@@ -80,9 +81,10 @@ impl Refusal {
         Refusal::RedundantKept,
         Refusal::OutputShort,
         Refusal::DegreeZero,
+        Refusal::BadFinding,
     ];
 
-    /// Document 01's number.
+    /// The documents' number.
     pub fn number(self) -> u8 {
         self as u8
     }
@@ -113,6 +115,7 @@ impl fmt::Display for Refusal {
             Refusal::RedundantKept => "a redundant record was kept in a reduced file",
             Refusal::OutputShort => "the output is shorter than the file",
             Refusal::DegreeZero => "a boundary vertex has no star",
+            Refusal::BadFinding => "a findings line is malformed",
         })
     }
 }
@@ -329,6 +332,16 @@ impl Table {
     /// The reduced file.
     pub fn write_reduced(&self) -> Result<Vec<u8>, Refusal> {
         self.write(slices::write_reduced)
+    }
+
+    /// A list of findings joined with this mesh: those at a vertex, in file order, then those whose point has none. Refused, it says which
+    /// line; never for want of room, since the joined list is no longer than the list.
+    pub fn findings(&self, list: &[u8]) -> Result<Vec<u8>, RefusedAt> {
+        let mut out = vec![0; list.len()];
+        let (number, [line, written]) = slices::findings(&self.bytes, list, &mut out);
+        placed((number, line))?;
+        out.truncate(written as usize);
+        Ok(out)
     }
 
     fn write(&self, call: fn(&[u8], &mut [u8]) -> (u8, u64)) -> Result<Vec<u8>, Refusal> {

@@ -42,4 +42,14 @@ extern "C" {
         written: *mut u64,
     ) -> u8;
     pub fn fb_counts(table: *const u8, table_len: usize, numbers: *mut u32) -> u8;
+    pub fn fb_findings(
+        table: *const u8,
+        table_len: usize,
+        list: *const u8,
+        list_len: usize,
+        out: *mut u8,
+        out_len: usize,
+        line: *mut u64,
+        written: *mut u64,
+    ) -> u8;
 }

@@ -90,3 +90,11 @@ pub fn counts(table: &[u8]) -> (u8, Numbers) {
     let mut numbers = NO_NUMBERS;
     (unsafe { raw::fb_counts(table.as_ptr(), table.len(), numbers.as_mut_ptr()) }, numbers)
 }
+
+/// The line at fault and the bytes written.
+pub fn findings(table: &[u8], list: &[u8], out: &mut [u8]) -> (u8, [u64; 2]) {
+    let (mut line, mut written) = (UNSET, UNSET);
+    let (t, l, o) = (table.as_ptr(), list.as_ptr(), out.as_mut_ptr());
+    let number = unsafe { raw::fb_findings(t, table.len(), l, list.len(), o, out.len(), &mut line, &mut written) };
+    (number, [line, written])
+}

@@ -1,4 +1,4 @@
-//! Document 01's bench examples through the safe calls.
+//! Document 01's bench examples, and findings, through the safe calls.
 
 use flaskbloom::*;
 
@@ -90,5 +90,16 @@ fn bases_refused() {
     assert_eq!(Table::base(16, &[[0, 0], [1, 0]]), Err(RefusedAt { refusal: Refusal::BadCentre, at: 1 }));
     assert_eq!(Table::base(15, &[[0, 0]]), Err(RefusedAt { refusal: Refusal::NotInOrder, at: 0 }));
     assert_eq!(Table::from_bytes(vec![1; 192]).write_full(), Err(Refusal::NotInOrder));
-    assert_eq!(Refusal::DegreeZero.number(), 14);
+    assert_eq!((Refusal::DegreeZero.number(), Refusal::BadFinding.number()), (14, 15));
+}
+
+#[test]
+fn findings_joined() {
+    let sheet = three();
+    let list = b"7\t3\t0\t1\tpit\n3\t9\t9\t0\tgone\n8\t1\t0\t0\t\n2\t-1\t0\t0\trim\n";
+    let joined = b"-1\t0\t0\t2\trim\n1\t0\t0\t7\tpit\n1\t0\t0\t8\t\n?\t3\tgone\n";
+    assert_eq!(sheet.findings(list), Ok(joined.to_vec()));
+    assert_eq!(sheet.findings(b""), Ok(Vec::new()));
+    assert_eq!(sheet.findings(b"1\t0\t0\t0\t\n0\t0\t0\t0\t\n"), Err(RefusedAt { refusal: Refusal::BadFinding, at: 2 }));
+    assert_eq!(Table::from_bytes(vec![1; 192]).findings(list), Err(RefusedAt { refusal: Refusal::NotInOrder, at: 0 }));
 }

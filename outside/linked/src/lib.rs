@@ -51,4 +51,7 @@ impl Caller for Library {
     fn counts(&self, table: &[u8]) -> (u8, Numbers) {
         slices::counts(table)
     }
+    fn findings(&self, table: &[u8], list: &[u8], out: &mut [u8]) -> (u8, [u64; 2]) {
+        slices::findings(table, list, out)
+    }
 }

@@ -1,6 +1,7 @@
-//! Document 01's calls, with every answer and every lent byte; the C interface's names without `fb_`.
+//! The documents' calls, with every answer and every lent byte; the C interface's names without `fb_`.
 //!
 //! An `Answer` has the number, why in words ("done" for 0), and the value: points, place, line, bytes written, or counts.
+//! An `Answer` has the number, why in words ("done" for 0), and the value: points, place, line, bytes written, or line and bytes.
 
 use crate::lines;
 use crate::mesh::{bad_centre, base as base_records, Mesh, Refused};
@@ -241,12 +242,11 @@ fn write(table: &[u8], out: &mut [u8], text: fn(&Mesh) -> String) -> Answer<u64>
         Ok((_, mesh)) => mesh,
         Err(Refused(number, why)) => return refused(number, why, 0),
     };
-    put(out, &text(&mesh))
+    put(out, text(&mesh).as_bytes())
 }
 
-/// The text at the beginning of `out`, where that is long enough.
-fn put(out: &mut [u8], text: &str) -> Answer<u64> {
-    let bytes = text.as_bytes();
+/// The bytes at the beginning of `out`, where that is long enough.
+fn put(out: &mut [u8], bytes: &[u8]) -> Answer<u64> {
     if out.len() < bytes.len() {
         if made(Slip::BeginningWritten) {
             out.copy_from_slice(&bytes[..out.len()]);
@@ -397,7 +397,7 @@ pub fn census(input: &[u8], table: &mut [u8], scratch: &mut [u8], out: &mut [u8]
         0 => counted(table),
         number => format!("refused\t{}\t{}\n", number, read.value),
     };
-    let written = put(out, &text);
+    let written = put(out, text.as_bytes());
     match written.number {
         0 => Answer { value: written.value, ..read },
         _ => written,
@@ -439,5 +439,39 @@ fn what_was_counted(mesh: &Mesh) -> &'static str {
         "done, not a grown mesh"
     } else {
         "done"
+    }
+}
+
+/// The list of findings joined with the table's records: the line at fault, and the bytes written.
+pub fn findings(table: &[u8], list: &[u8], out: &mut [u8]) -> Answer<[u64; 2]> {
+    let parsed = crate::findings::parse(list);
+    let slots = match Slots::of(table) {
+        Ok(slots) => slots,
+        Err(_) if made(Slip::ListBeforeTable) && parsed.is_err() => Slots::cleared(0),
+        Err(why) => return refused(1, why, [0, 0]),
+    };
+    let short = refused(13, "output shorter than the file", [0, 0]);
+    let findings = match parsed {
+        Ok(findings) => findings,
+        Err(_) if made(Slip::RoomBeforeFindings) && out.is_empty() => return short,
+        Err((line, why)) => return refused(15, why, [line, 0]),
+    };
+    if made(Slip::RoomByList) && out.len() < list.len() {
+        return short;
+    }
+    let joined = crate::findings::joined(slots.records(), &findings);
+    let written = put(out, &joined.text);
+    match written.number {
+        0 => refused(0, kind(joined.on_plan, joined.lost), [0, written.value]),
+        _ => short,
+    }
+}
+
+fn kind(on_plan: usize, lost: usize) -> &'static str {
+    match (on_plan, lost) {
+        (0, 0) => "done, an empty list",
+        (0, _) => "done, all lost",
+        (_, 0) => "done, none lost",
+        _ => "done, some lost",
     }
 }

@@ -52,7 +52,7 @@ pub fn numbers(line: &[u8]) -> Result<[i64; 6], &'static str> {
 }
 
 /// "No plus sign, no leading zero, minus only before a nonzero number."
-fn number(field: &[u8]) -> Result<i64, &'static str> {
+pub fn number(field: &[u8]) -> Result<i64, &'static str> {
     let (minus, digits) = match field {
         [b'-', digits @ ..] => (true, digits),
         digits => (false, digits),

@@ -14,6 +14,12 @@ fn pack(p: Point, s: Star) -> u64 {
     fields.iter().fold(p.m as u64, |key, (field, bits)| key << bits | field)
 }
 
+/// A record's point as a number that rises in file order.
+#[inline]
+pub(crate) fn file_order(p: Point) -> u64 {
+    pack(p, Star { d: 0, k: 0, n: 0 })
+}
+
 #[inline]
 fn unpack(key: u64) -> (Point, Star) {
     let s = Star { d: (key >> 8 & 7) as u8, k: (key >> 4 & 15) as u8, n: (key & 15) as u8 };
@@ -103,7 +109,7 @@ fn redundant(table: &[u8]) -> Vec<bool> {
 
 /// One number and the byte after it.
 #[inline]
-fn number(file: &[u8], at: &mut usize, end: u8) -> Option<i32> {
+pub(crate) fn number(file: &[u8], at: &mut usize, end: u8) -> Option<i32> {
     let minus = file.get(*at) == Some(&b'-');
     *at += minus as usize;
     let start = *at;

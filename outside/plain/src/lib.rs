@@ -1,11 +1,13 @@
-//! Document 01's calls as a Rust programmer would write them for speed: the flat table of 12-byte slots, a constant table of stars,
+//! The documents' calls as a Rust programmer would write them for speed: the flat table of 12-byte slots, a constant table of stars,
 //! sort_unstable, one pass for number 11. What the library's speed is measured against, and a third opinion in the tests.
 //!
 //! `lattice` points and stars; `table` slots; `mesh` base, subdivision, queries; `files` writers, readers; `grown` the local check;
 //! `counts` a table's numbers, the census.
+//! `counts` the census; `findings` the list joined with the plan.
 
 pub mod counts;
 pub mod files;
+pub mod findings;
 pub mod grown;
 pub mod lattice;
 pub mod mesh;
@@ -13,6 +15,7 @@ pub mod table;
 
 pub use counts::{census, counts};
 pub use files::{read_full, read_reduced, write_full, write_reduced};
+pub use findings::findings;
 pub use lattice::{normalise, star};
 pub use mesh::{base, faces, faces_all, neighbours, neighbours_all, subdivide, subdivide_all};
 

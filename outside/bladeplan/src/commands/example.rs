@@ -12,7 +12,7 @@ pub const COMMAND: Command = Command {
     about: "do the whole job on a small blade, and show where the results are",
     help: "\
 Writes the hexagons, points and findings of a small blade into DIRECTORY (bladeplan-example where none is given), which is made if need be,
-and there lays, subdivides, reduces, counts, compares and draws it. Each command is shown as it would be typed.
+and there lays, subdivides, reduces, counts, compares and draws it, and joins its findings. Each command is shown as it would be typed.
 
 example:
   bladeplan example blade
@@ -31,12 +31,13 @@ const INPUTS: [(&str, &str); 3] = [
     ("findings.txt", include_str!("../../../../examples/findings.txt")),
 ];
 
-const STEPS: [&[&str]; 7] = [
+const STEPS: [&[&str]; 8] = [
     &["lay", "hexagons.txt", "-o", "base.full"],
     &["subdivide", "base.full", "--list", "points.txt", "-o", "plan.full"],
     &["reduce", "plan.full", "-o", "plan.reduced"],
     &["census", "plan.reduced"],
     &["compare", "base.full", "plan.full"],
+    &["findings", "plan.full", "findings.txt", "-o", "joined.txt"],
     &["draw", "plan.full", "--findings", "findings.txt", "--over", "base.full", "--title", TITLE, "-o", "plan.svg"],
     &["draw", "plan.full", "--findings", "findings.txt", "--over", "base.full", "--title", TITLE, "--html", "-o", "plan.html"],
 ];
@@ -50,6 +51,7 @@ const RESULTS: &str = "
   base.full      the plan as it was laid
   plan.full      the plan subdivided, every vertex on a line
   plan.reduced   the same plan for the archive, without what neighbours imply
+  joined.txt     the findings vertex by vertex, then the one that has none
   plan.svg       its drawing, to print at A4
   plan.html      its drawing, to open in a browser
 ";

@@ -4,6 +4,7 @@ mod compare;
 mod convert;
 mod count;
 mod example;
+mod findings;
 mod lattice;
 mod lay;
 mod queries;
@@ -24,6 +25,7 @@ pub const ALL: &[&Command] = &[
     &count::CENSUS,
     &count::CHECK,
     &compare::COMMAND,
+    &findings::COMMAND,
     &draw::COMMAND,
     &example::COMMAND,
 ];

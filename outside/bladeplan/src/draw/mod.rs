@@ -19,8 +19,9 @@ mod svg;
 mod text;
 
 use crate::files;
+use crate::findings::{in_and_out, JoinedList};
 use crate::plan::Plan;
-use crate::trouble::{Outcome, Trouble};
+use crate::trouble::Outcome;
 use crate::words::{Command, Words};
 use findings::Joined;
 use flaskbloom::Counts;
@@ -30,7 +31,6 @@ use marks::Marks;
 use older::{Older, State};
 use page::Page;
 use std::ffi::OsStr;
-use std::io;
 
 pub const COMMAND: Command = Command {
     name: "draw",
@@ -47,16 +47,13 @@ const HELP: &str = "\
 Draws a plan, a full or a reduced file or '-', on an A4 sheet: an SVG file, which browsers, word processors and drawing programs open.
 
   --html           one page for a browser instead: zoom with the wheel, move by dragging, the findings in a list beside the plan
-  --findings FILE  marks findings; a line is number TAB a TAB b TAB m TAB note. Those with no vertex are listed in the caption
+  --findings FILE  marks findings, a list as 'bladeplan findings' takes it. Those with no vertex are listed in the caption
   --over OLD       draws an older plan under this one, and shows what is new
   --title TEXT     the title; without it the file's name
 
 example: this autumn's plan over last spring's, with the inspectors' findings
   bladeplan draw autumn.full --over spring.full --findings pits.txt --html -o autumn.html
 ";
-
-/// The longest list of findings that is read.
-const LONGEST: u64 = 64 << 20;
 
 /// The figures of a path on a page that is zoomed; on a sheet a level is one path.
 const PIECE: usize = 400;
@@ -66,6 +63,8 @@ pub struct Findings {
     /// As it was given, and as the sheet shows it.
     pub path: String,
     pub name: String,
+    /// The lines of the list.
+    pub came_in: usize,
     pub joined: Joined,
 }
 
@@ -136,22 +135,15 @@ fn named(path: &OsStr) -> String {
 }
 
 fn load(plan: &Plan, path: &OsStr) -> Outcome<Findings> {
-    let shown = files::shown(path);
-    let bytes = files::read(path, LONGEST + 1)?;
-    if bytes.len() as u64 > LONGEST {
-        return Err(Trouble::file(&shown, io::Error::other("a list of over 64 MiB")));
-    }
-    let list = findings::read(&bytes).map_err(|line| Trouble::BadFinding { name: shown.clone(), line })?;
-    Ok(Findings { path: shown, name: named(path), joined: Joined::to(plan, list) })
+    let list = JoinedList::load(plan, path)?;
+    let joined = Joined::of(plan, &list);
+    Ok(Findings { came_in: list.findings().count(), path: list.name, name: named(path), joined })
 }
 
 /// What came in and what went out.
 fn told(drawing: &Drawing, marks: &[Marks]) -> Vec<String> {
     let (vertices, drawn) = (drawing.counts.vertices, marks.iter().map(Marks::count).sum::<usize>());
     let mut lines = vec![format!("{}: {vertices} vertices in, {drawn} drawn", drawing.plan.name)];
-    lines.extend(drawing.findings.as_ref().map(|f| {
-        let (count, at, lost) = (f.joined.count(), f.joined.at.len(), f.joined.lost.len());
-        format!("{}: {count} findings in; {at} at a vertex, {lost} with no vertex", f.path)
-    }));
+    lines.extend(drawing.findings.as_ref().map(|f| in_and_out(&f.path, f.came_in, f.joined.at.len(), f.joined.lost.len())));
     lines
 }

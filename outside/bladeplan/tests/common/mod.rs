@@ -12,8 +12,24 @@ pub const BLADEPLAN: &str = env!("CARGO_BIN_EXE_bladeplan");
 /// Three hexagons round the point 1,0.
 pub const THREE: &str = "0\t0\n1\t1\n2\t-1\n";
 
-pub const COMMANDS: [&str; 13] =
-    ["lay", "subdivide", "neighbours", "faces", "normalise", "star", "reduce", "restore", "census", "check", "compare", "draw", "example"];
+pub const COMMANDS: [&str; 14] = [
+    "lay",
+    "subdivide",
+    "neighbours",
+    "faces",
+    "normalise",
+    "star",
+    "reduce",
+    "restore",
+    "census",
+    "check",
+    "compare",
+    "findings",
+    "draw",
+    "example",
+];
+
+pub const FIFTEEN: &str = "refused with 15: that line is no finding: number, a, b, m and note, tabs between, each within its limits";
 
 pub struct Desk {
     pub place: PathBuf,

@@ -1,6 +1,8 @@
-//! What cases are made of: `meshes` grown, `torn` and `nearly` grown; `tables` laid and damaged; `files`; `requests` and base lists.
+//! What cases are made of: `meshes` grown, `torn` and `nearly` grown; `tables` laid and damaged; `files`; lists of `findings`; `requests`
+//! and base lists.
 
 mod files;
+mod findings;
 mod meshes;
 mod nearly;
 mod requests;
@@ -8,6 +10,7 @@ mod tables;
 mod torn;
 
 pub use files::*;
+pub use findings::*;
 pub use meshes::*;
 pub use nearly::*;
 pub use requests::*;

@@ -1,56 +1,30 @@
 -- `text::line::line_length` meets its contract. Assumes nothing.
 use borrow.Author.Needs.{needs}
 use native.Mathlib.Omega.{arith}
-use mathlib.Core.Path.{_≡_, _∙_, ap}
-use lib.IntN.{ℤ}
-use lib.ListN.{length}
-use mir.Syntax.{w32}
-use mir.Val.{SFits}
-use mir.Facts.{toZ-ofZ}
-use Rattle.text.specs.Decimal.{numeral}
-use Rattle.text.specs.LineLengths.{line-long}
+use Rattle.text.specs.LineLengths.{line-halves, star-long}
 use Rattle.text.proofs.line.line_length.Statement.{statement}
 use Rattle.text.proofs.line.line_length.Tie as tie
 
--- the widths of the numerators
-long-a : (c : tie.After-signed-width) → c .signed-width .result ≡ length (numeral (c .before .before .before .args .r .at .a))
-long-a c =
-    let f : SFits w32 (c .before .before .before .args .r .at .a) = record { sfits = omega (arith, c .before .struct-told .given) } in
-    c .signed-width .ensures .0 ∙ ap (λ (z : ℤ). length (numeral z)) (toZ-ofZ f)
-
-long-b : (c : tie.After-signed-width2) → c .signed-width2 .result ≡ length (numeral (c .before .before .before .before .before .args .r .at .b))
-long-b c =
-    let f : SFits w32 (c .before .before .before .before .before .args .r .at .b) = record { sfits = omega (arith, c .before .struct-told2 .given) } in
-    c .signed-width2 .ensures .0 ∙ ap (λ (z : ℤ). length (numeral z)) (toZ-ofZ f)
-
 returns : tie.Need-returns
 returns c =
-    let w₃ = c .before .before in
+    let w₃ = c .before in
     let w₂ = w₃ .before .before in
     let w₁ = w₂ .before .before in
-    let b = w₁ .before .before in
-    let a = b .before .before in
+    let r = w₁ .before .before .args .r in
     omega (
       arith,
-      long-a a,
-      long-b b,
+      line-halves r,
+      star-long (r .d) (r .k) (r .n .0),
+      c .point-length .ensures .0,
       w₁ .width .ensures .0,
       w₂ .width2 .ensures .0,
       w₃ .width3 .ensures .0,
-      c .width4 .ensures .0,
-      line-long (a .before .before .before .args .r),
     )
 
 pub line-length-spec : {M : Type 1} → statement M
 line-length-spec =
     tie.close
     (tie.spec
-    (λ c κs. search needs)
-    (λ c κs. search needs)
-    (λ c. search needs)
-    (λ c. search needs)
-    (λ c κs. search needs)
-    (λ c. search needs)
     (λ c. search needs)
     (λ c κs. search needs)
     (λ c. search needs)
@@ -59,6 +33,7 @@ line-length-spec =
     (λ c. search needs)
     (λ c κs. search needs)
     (λ c. search needs)
+    (λ c κs. search needs)
     (λ c. search needs)
     (λ c. search needs)
     returns)
