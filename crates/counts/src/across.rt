@@ -42,7 +42,7 @@ fn along(x: i32, y: i32, a: i32, b: i32, e: i32, h: i32) -> Point
     normalise(3 * a + (x * e - y * h), 3 * b + (y * e + (x + y) * h), 8)
 }
 
-// The eight factors: w, w twice, both together and a third of that; then the same the other way round.
+// The eight factors: w, w squared, their sum and a third of it; then the same the other way round.
 fn factor_x(c: u8) -> i32
     requires { ⌜ c < 8 ⌝ }
     ensures { λ r. ⌜ r ≡ factorOf c .x ⌝ }

@@ -1,5 +1,5 @@
--- Document 01's starred bench examples: one table, `starred`, and one statement, `starred-hold`: what the promises' definitions compute is what the
--- document says. They stand nowhere else.
+-- Document 01's starred bench examples, its two censuses with document 02's E: one table, `starred`, and one statement, `starred-hold`: what the
+-- promises' definitions compute is what the documents say. They stand nowhere else.
 -- Assumes nothing.
 use mathlib.Core.Path.{_≡_, refl}
 use mathlib.Core.Bool.{Bool, true, false, cond}
