@@ -1,6 +1,7 @@
--- The ways through the functions. Loops that sum: `Summed`, `summed-start`, `summed-more`. A pair: `pair-counted`. A corner of another star:
--- `corner-first`, `corner-second`, `corner-third`. A corner: `corner-none`, `corner-counted`. A face: `before-second`, `before-third`, `before-fourth`.
--- A slot: `pairs-free`, `pairs-holds`, `faces-free`, `faces-holds`, `degree-free`, `degree-holds`.
+-- The ways through the functions. Loops that sum: `Summed`, `summed-start`, `summed-more`. A side at a vertex: `faced-first`, `faced-second`,
+-- `near-none`, `near-counted`. One across from it: `far-first`, `far-second`, `far-neither`, `else-first` .. `else-fourth`, `far-none`,
+-- `far-counted`. A corner of another star: `corner-first`, `corner-second`, `corner-third`. A corner: `corner-none`, `corner-counted`. A face:
+-- `before-second`, `before-third`, `before-fourth`. A slot: `sides-free`, `sides-holds`, `faces-free`, `faces-holds`, `degree-counts`.
 -- Assumes nothing.
 use mathlib.Core.Path.{_≡_, sym, ap, _∙_}
 use mathlib.Core.Bool.{Bool, true, false, not, _&&_, _||_, or-true}
@@ -14,13 +15,14 @@ use Rattle.lattice.specs.Stars.{adjacentAt}
 use Rattle.lattice.specs.declared.points.Point.{Point}
 use Rattle.lattice.specs.declared.records.Record.{Record}
 use Rattle.lattice.specs.declared.patterns.Spot.the-variants.{At, Nothing}
-use Rattle.table.specs.Slots.{slotAt}
+use Rattle.table.specs.Slots.{slotsOf, slotAt}
 use Rattle.table.specs.Search.{samePoint}
 use Rattle.table.specs.declared.slots.Slot.the-variants.{Free, Holds}
-use Rattle.queries.specs.Queries.{chosenAt}
+use Rattle.queries.specs.Queries.{chosenAt, isPoint}
 use Rattle.counts.specs.Counts.{bit, nextPlace, turned}
-use Rattle.counts.specs.Earlier.{sumBelow, slotSum, pairBefore, pairCount, starPairs, slotPairs, spotIs, cornerIs, faceSeen, faceBefore, faceOn}
-use Rattle.counts.specs.Earlier.{faceCount, cornerCount, starFaces, slotFaces, slotDegree}
+use Rattle.counts.specs.Earlier.{sumBelow, slotSum, prevPlace, faced, nearBefore, nearCount, farIs, farBefore, farElse, farAt, farCount}
+use Rattle.counts.specs.Earlier.{starSides, slotSides, spotIs, cornerIs, faceSeen, faceBefore, faceOn, faceCount, cornerCount, starFaces}
+use Rattle.counts.specs.Earlier.{slotFaces, degreeAt, slotDegree}
 use Rattle.counts.specs.DifferentLaws.{sum-none, sum-more}
 use Rattle.counts.specs.declared.faces.Face.{Face}
 
@@ -38,12 +40,67 @@ summed-more f w i sum x s e h =
     let d = mul-add w i 1 in
     record { is = omega (arith, s .is, sum-more f i, e); most = omega (arith, s .most, d) }
 
--- ---- pairs
+-- ---- sides
 
-pub pair-counted : (t : List ℕ) (k : ℕ) (v : Record) (j : ℕ) (a : Point) → a ≡ adjacentAt v j → (b : Bool) → pairBefore t k (v .at) a ≡ b
-    → bit (not b) ≡ pairCount t k v j
-unfolding pairCount
-pair-counted t k v j a e b h = ap (λ (x : Bool). bit (not x)) (sym h ∙ ap (pairBefore t k (v .at)) e)
+module _ (t : List ℕ) (u : Record) (i : ℕ) where
+  pub faced-first : isPoint (chosenAt t u i) ≡ true → true ≡ faced t u i
+  unfolding faced
+  faced-first e = ap (λ (x : Bool). x || isPoint (chosenAt t u (prevPlace (u .d) i))) (sym e)
+
+  pub faced-second : isPoint (chosenAt t u i) ≡ false → isPoint (chosenAt t u (prevPlace (u .d) i)) ≡ faced t u i
+  unfolding faced
+  faced-second e = ap (λ (x : Bool). x || isPoint (chosenAt t u (prevPlace (u .d) i))) (sym e)
+
+module _ (t : List ℕ) (k : ℕ) (v : Record) (j : ℕ) where
+  pub near-none : faced t v j ≡ false → 0 ≡ nearCount t k v j
+  unfolding nearCount
+  near-none e = ap (λ (x : Bool). bit (x && not (nearBefore t k (v .at) (adjacentAt v j)))) (sym e)
+
+  pub near-counted : faced t v j ≡ true → (a : Point) → a ≡ adjacentAt v j → (b : Bool) → nearBefore t k (v .at) a ≡ b → bit (not b) ≡ nearCount t k v j
+  unfolding nearCount
+  near-counted f a e b h =
+      ap (λ (x : Bool). bit (not x)) (sym h ∙ ap (nearBefore t k (v .at)) e)
+      ∙ ap (λ (x : Bool). bit (x && not (nearBefore t k (v .at) (adjacentAt v j)))) (sym f)
+
+module _ (t : List ℕ) (p q : Point) (u : Record) (i : ℕ) where
+  pub far-first : samePoint (adjacentAt u i) p ≡ true → spotIs (chosenAt t u i) q ≡ farIs t p q u i
+  unfolding farIs
+  far-first e = ap (λ (x : Bool). (x || samePoint (adjacentAt u (nextPlace (u .d) i)) p) && spotIs (chosenAt t u i) q) (sym e)
+
+  pub far-second : samePoint (adjacentAt u i) p ≡ false → samePoint (adjacentAt u (nextPlace (u .d) i)) p ≡ true → spotIs (chosenAt t u i) q ≡ farIs t p q u i
+  unfolding farIs
+  far-second e h = λ z. (sym e z || sym h z) && spotIs (chosenAt t u i) q
+
+  pub far-neither : samePoint (adjacentAt u i) p ≡ false → samePoint (adjacentAt u (nextPlace (u .d) i)) p ≡ false → false ≡ farIs t p q u i
+  unfolding farIs
+  far-neither e h = λ z. (sym e z || sym h z) && spotIs (chosenAt t u i) q
+
+module _ (t : List ℕ) (k : ℕ) (p q : Point) where
+  pub else-first : nearBefore t (slotsOf t) q p ≡ true → true ≡ farElse t k p q
+  unfolding farElse
+  else-first e = ap (λ (b : Bool). b || (nearBefore t (slotsOf t) p q || (farBefore t k p q || farBefore t k q p))) (sym e)
+
+  pub else-second : nearBefore t (slotsOf t) q p ≡ false → nearBefore t (slotsOf t) p q ≡ true → true ≡ farElse t k p q
+  unfolding farElse
+  else-second e h = λ i. sym e i || (sym h i || (farBefore t k p q || farBefore t k q p))
+
+  pub else-third : nearBefore t (slotsOf t) q p ≡ false → nearBefore t (slotsOf t) p q ≡ false → farBefore t k p q ≡ true → true ≡ farElse t k p q
+  unfolding farElse
+  else-third e h g = λ i. sym e i || (sym h i || (sym g i || farBefore t k q p))
+
+  pub else-fourth : nearBefore t (slotsOf t) q p ≡ false → nearBefore t (slotsOf t) p q ≡ false → farBefore t k p q ≡ false → farBefore t k q p
+      ≡ farElse t k p q
+  unfolding farElse
+  else-fourth e h g = λ i. sym e i || (sym h i || (sym g i || farBefore t k q p))
+
+module _ (t : List ℕ) (k : ℕ) (v : Record) (j : ℕ) where
+  pub far-none : chosenAt t v j ≡ Nothing → 0 ≡ farCount t k v j
+  unfolding farCount
+  far-none e = ap (farAt t k v j) (sym e)
+
+  pub far-counted : (o : Point) → chosenAt t v j ≡ At o → farAt t k v j (At o) ≡ farCount t k v j
+  unfolding farCount
+  far-counted o e = ap (farAt t k v j) (sym e)
 
 -- ---- corners
 
@@ -94,13 +151,13 @@ module _ (t : List ℕ) (k : ℕ) (f : Face) where
 -- ---- slots
 
 module _ (t : List ℕ) (k : ℕ) where
-  pub pairs-free : slotAt t k ≡ Free → 0 ≡ slotPairs t k
-  unfolding slotPairs
-  pairs-free e = ap (slotSum (starPairs t k)) (sym e)
+  pub sides-free : slotAt t k ≡ Free → 0 ≡ slotSides t k
+  unfolding slotSides
+  sides-free e = ap (slotSum (starSides t k)) (sym e)
 
-  pub pairs-holds : (v : Record) → slotAt t k ≡ Holds v → starPairs t k v ≡ slotPairs t k
-  unfolding slotPairs
-  pairs-holds v e = ap (slotSum (starPairs t k)) (sym e)
+  pub sides-holds : (v : Record) → slotAt t k ≡ Holds v → starSides t k v ≡ slotSides t k
+  unfolding slotSides
+  sides-holds v e = ap (slotSum (starSides t k)) (sym e)
 
   pub faces-free : slotAt t k ≡ Free → 0 ≡ slotFaces t k
   unfolding slotFaces
@@ -110,10 +167,8 @@ module _ (t : List ℕ) (k : ℕ) where
   unfolding slotFaces
   faces-holds v e = ap (slotSum (starFaces t k)) (sym e)
 
-  pub degree-free : (d : ℕ) → slotAt t k ≡ Free → 0 ≡ slotDegree t d k
-  unfolding slotDegree
-  degree-free d e = ap (slotSum (λ v. bit (eqb (v .d) d))) (sym e)
+-- ---- degrees
 
-  pub degree-holds : (d : ℕ) (v : Record) → slotAt t k ≡ Holds v → (b : Bool) → eqb (v .d) d ≡ b → bit b ≡ slotDegree t d k
-  unfolding slotDegree
-  degree-holds d v e b h = ap bit (sym h) ∙ ap (slotSum (λ v. bit (eqb (v .d) d))) (sym e)
+pub degree-counts : (t : List ℕ) (k d e r : ℕ) → d ≡ degreeAt (slotAt t k) → r ≡ bit (eqb d e) → r ≡ slotDegree t e k
+unfolding slotDegree
+degree-counts t k d e r h x = x ∙ ap (λ (n : ℕ). bit (eqb n e)) h

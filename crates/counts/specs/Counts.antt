@@ -1,6 +1,7 @@
--- Document 01, "Census program": "V is records; E is the different unordered pairs of a vertex and one of its star's adjacent points; F the different
--- faces; then records by degree." What the promise cites: `countsOf`. `different` how many different ones a list has · `pairsAt`, `facesAt` the pairs
--- and the faces of a vertex, `samePair`, `sameFace` which are the same · `edgesIn`, `facesIn`, `degreeIn` those of a table.
+-- Document 01, "Census program": "V is records; .. F the different faces; then records by degree." Document 02, ticket 2: "An edge is from now on a side
+-- of a face, taken once whichever way it runs. .. This replaces Document 01's E." What the promise cites: `countsOf`.
+-- `different` how many different ones a list has · `facesAt` the faces of a vertex, `sidesOf` the sides of a face, `sameFace`, `sameSide` which are the
+-- same · `edgesIn`, `facesIn`, `degreeIn` those of a table.
 -- Assumes nothing.
 use mathlib.Core.Bool.{Bool, true, false, cond, not, _&&_, _||_}
 use mathlib.Core.List.{List, [], _∷_, _++_}
@@ -38,28 +39,10 @@ unfoldable pub gather : {A : Type 0} → ℕ → (ℕ → List A) → List A
 gather zero f = []
 gather (suc d) f = gather d f ++ f d
 
--- what the records of a list give, one after the other
-unfoldable pub each : {A : Type 0} → (Record → List A) → List Record → List A
+-- what the elements of a list give, one after the other
+unfoldable pub each : {A B : Type 0} → (A → List B) → List A → List B
 each g [] = []
 each g (v ∷ vs) = g v ++ each g vs
-
--- ---- "pairs of a vertex and one of its star's adjacent points"
-
-pub record Pair : Type 0 where
-  pub vertex : Point
-  pub adjacent : Point
-
-abbrev pub pair : Point → Point → Pair
-pair p q = record { vertex = p; adjacent = q }
-
-abbrev pub pairsAt : Record → List Pair
-pairsAt v = gather (v .d) (λ j. pair (v .at) (adjacentAt v j) ∷ [])
-
--- "unordered"
-unfoldable pub samePair : Pair → Pair → Bool
-samePair p q =
-    samePoint (p .vertex) (q .vertex) && samePoint (p .adjacent) (q .adjacent)
-    || samePoint (p .vertex) (q .adjacent) && samePoint (p .adjacent) (q .vertex)
 
 -- ---- "Corner j lies between adjacent j and the next, the last before the first. Its face is v, adjacent j, opposite j, next adjacent."
 
@@ -91,10 +74,28 @@ unfoldable pub sameFace : Face → Face → Bool
 unfolding fits
 sameFace f g = fits f g || (fits (turned f) g || (fits (turned (turned f)) g || fits (turned (turned (turned f))) g))
 
+-- ---- "a side of a face": two vertices that follow each other round it
+
+pub record Side : Type 0 where
+  pub one : Point
+  pub other : Point
+
+abbrev pub side : Point → Point → Side
+side p q = record { one = p; other = q }
+
+-- the four of a face, in their order round
+abbrev pub sidesOf : Face → List Side
+sidesOf f = side (f .at) (f .adjacent) ∷ side (f .adjacent) (f .opposite) ∷ side (f .opposite) (f .next) ∷ side (f .next) (f .at) ∷ []
+
+-- "taken once whichever way it runs"
+unfoldable pub sameSide : Side → Side → Bool
+sameSide s z = samePoint (s .one) (z .one) && samePoint (s .other) (z .other) || samePoint (s .one) (z .other) && samePoint (s .other) (z .one)
+
 -- ---- the numbers
 
+-- the sides of the faces that F counts
 abbrev pub edgesIn : List ℕ → ℕ
-edgesIn t = different samePair (each pairsAt (recordsOf t))
+edgesIn t = different sameSide (each sidesOf (each (facesAt t) (recordsOf t)))
 
 abbrev pub facesIn : List ℕ → ℕ
 facesIn t = different sameFace (each (facesAt t) (recordsOf t))

@@ -1,7 +1,7 @@
 -- How many different ones a list has, part by part.
 -- `sum-none`, `sum-more` a sum · `among-more`, `slotTest` tests of numbers and of slots · `some-one`, `some-none`, `some-gather`, `some-each` where a
--- test passes in a list put together of parts · `different-one`, `different-place`, `different-nothing` an element, by those before it ·
--- `different-star` the different ones of a star, place by place · `different-slots` those of a table, slot by slot.
+-- test passes in a list put together of parts, `some-same`, `some-or`, `some-over` · `different-one`, `different-place`, `different-nothing` an
+-- element, by those before it · `different-star` the different ones of a star, place by place · `different-slots` those of a table, slot by slot.
 -- Assumes nothing.
 use mathlib.Core.Path.{_≡_, refl, sym, ap, _∙_}
 use mathlib.Core.Bool.{Bool, true, false, not, _||_, or-comm, or-false}
@@ -28,6 +28,16 @@ pub sum-more : (f : ℕ → ℕ) (i : ℕ) → sumBelow f (i + 1) ≡ sumBelow f
 unfolding sumBelow
 sum-more f i = let e : i + 1 ≡ suc i = omega arith in ap (sumBelow f) e
 
+pub sum-plus : (f g : ℕ → ℕ) (n : ℕ) → sumBelow (λ i. f i + g i) n ≡ sumBelow f n + sumBelow g n
+unfolding sumBelow
+sum-plus f g zero = refl
+sum-plus f g (suc n) = let a = sum-plus f g n in omega (arith, a)
+
+pub sum-each : (f g : ℕ → ℕ) (n : ℕ) → ((i : ℕ) → i < n → f i ≡ g i) → sumBelow f n ≡ sumBelow g n
+unfolding sumBelow
+sum-each f g zero h = refl
+sum-each f g (suc n) h = let a = sum-each f g n (λ i l. h i (omega arith)) in let b = h n (omega arith) in omega (arith, a, b)
+
 -- ---- lists put together of parts
 
 among-none : (P : ℕ → Bool) (n : ℕ) → ((i : ℕ) → i < n → P i ≡ false) → among n P ≡ false
@@ -43,7 +53,29 @@ abbrev pub slotTest : (Record → Bool) → Slot → Bool
 slotTest f Free = false
 slotTest f (Holds v) = f v
 
+or-middle : (a b c d : Bool) → (a || b) || (c || d) ≡ (a || c) || (b || d)
+or-middle true b c d = refl
+or-middle false true true d = refl
+or-middle false true false d = refl
+or-middle false false c d = refl
+
 module _ {A : Type 0} where
+  -- two tests that are one at each element
+  pub some-same : (f g : A → Bool) (xs : List A) → ((x : A) → f x ≡ g x) → someOf f xs ≡ someOf g xs
+  some-same f g [] h = refl
+  some-same f g (x ∷ xs) h = λ i. h x i || some-same f g xs h i
+
+  -- one of two tests
+  pub some-or : (f g : A → Bool) (xs : List A) → someOf (λ x. f x || g x) xs ≡ someOf f xs || someOf g xs
+  some-or f g [] = refl
+  some-or f g (x ∷ xs) = ap (λ (b : Bool). (f x || g x) || b) (some-or f g xs) ∙ or-middle (f x) (g x) (someOf f xs) (someOf g xs)
+
+  -- among what the elements of a list give
+  pub some-over : {B : Type 0} (f : A → Bool) (g : B → List A) (xs : List B) → someOf f (each g xs) ≡ someOf (λ x. someOf f (g x)) xs
+  unfolding each
+  some-over f g [] = refl
+  some-over f g (x ∷ xs) = some-append f (g x) (each g xs) ∙ ap (λ (b : Bool). someOf f (g x) || b) (some-over f g xs)
+
   pub some-gather : (f : A → Bool) (d : ℕ) (g : ℕ → List A) → someOf f (gather d g) ≡ among d (λ j. someOf f (g j))
   unfolding gather
   some-gather f zero g = refl
@@ -92,7 +124,7 @@ module _ {A : Type 0} where
   -- ---- the different ones, part by part
 
   module _ (same : A → A → Bool) where
-    different-append : (seen xs ys : List A) → differentAfter same seen (xs ++ ys) ≡ differentAfter same seen xs + differentAfter same (seen ++ xs) ys
+    pub different-append : (seen xs ys : List A) → differentAfter same seen (xs ++ ys) ≡ differentAfter same seen xs + differentAfter same (seen ++ xs) ys
     unfolding differentAfter
     different-append seen [] ys = let a = ap (λ (l : List A). differentAfter same l ys) (append-nil seen) in omega (arith, a)
     different-append seen (x ∷ xs) ys =
@@ -128,17 +160,17 @@ module _ {A : Type 0} where
         omega (arith, a, b, e)
 
     -- a table's slots, of which the record v in slot k adds c k v
-    pub different-slots : (g : Record → List A) (c : ℕ → Record → ℕ) (t : List ℕ) (n : ℕ)
-        → ((k : ℕ) (v : Record) → k < n → slotAt t k ≡ Holds v → differentAfter same (each g (recordsBelow t k)) (g v) ≡ c k v)
-        → differentAfter same [] (each g (recordsBelow t n)) ≡ sumBelow (λ k. slotSum (c k) (slotAt t k)) n
+    pub different-slots : (seen : List A) (g : Record → List A) (c : ℕ → Record → ℕ) (t : List ℕ) (n : ℕ)
+        → ((k : ℕ) (v : Record) → k < n → slotAt t k ≡ Holds v → differentAfter same (seen ++ each g (recordsBelow t k)) (g v) ≡ c k v)
+        → differentAfter same seen (each g (recordsBelow t n)) ≡ sumBelow (λ k. slotSum (c k) (slotAt t k)) n
     unfolding recordsBelow each sumBelow
-    different-slots g c t zero h = different-nothing []
-    different-slots g c t (suc n) h =
-        let a = different-slots g c t n (λ k v l. h k v (omega arith)) in
-        let b = ap (differentAfter same []) (each-more g t n) ∙ different-append [] (each g (recordsBelow t n)) (slotGives g (slotAt t n)) in
+    different-slots seen g c t zero h = different-nothing seen
+    different-slots seen g c t (suc n) h =
+        let a = different-slots seen g c t n (λ k v l. h k v (omega arith)) in
+        let b = ap (differentAfter same seen) (each-more g t n) ∙ different-append seen (each g (recordsBelow t n)) (slotGives g (slotAt t n)) in
         let e = one (slotAt t n) refl in
         omega (arith, a, b, e)
       where
-        one : (s : Slot) → slotAt t n ≡ s → differentAfter same (each g (recordsBelow t n)) (slotGives g s) ≡ slotSum (c n) s
-        one Free e = different-nothing (each g (recordsBelow t n))
+        one : (s : Slot) → slotAt t n ≡ s → differentAfter same (seen ++ each g (recordsBelow t n)) (slotGives g s) ≡ slotSum (c n) s
+        one Free e = different-nothing (seen ++ each g (recordsBelow t n))
         one (Holds v) e = h n v (omega arith) e

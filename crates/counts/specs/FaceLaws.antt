@@ -7,7 +7,7 @@
 use mathlib.Core.Path.{_≡_, refl, sym, ap, _∙_}
 use mathlib.Core.Logic.{_⊎_, inl, inr}
 use mathlib.Core.Bool.{Bool, true, false, _&&_, _||_, or-true}
-use mathlib.Core.List.{List, _++_}
+use mathlib.Core.List.{List, [], _++_}
 use Prim.Native.Nat.{ℕ, _+_, _≤_, _<_}
 use native.Mathlib.Omega.{arith}
 use native.Mathlib.Decide.{ℕ-discrete}
@@ -66,7 +66,7 @@ pub data SameRound (f g : Face) : Type 0 where
   twice : turned (turned f) ≡ g → SameRound f g
   thrice : turned (turned (turned f)) ≡ g → SameRound f g
 
-same-round : (f g : Face) → sameFace f g ≡ true → SameRound f g
+pub same-round : (f g : Face) → sameFace f g ≡ true → SameRound f g
 unfolding sameFace
 same-round f g h = go (fits f g) (fits (turned f) g) (fits (turned (turned f)) g) refl refl refl h
   where
@@ -77,7 +77,7 @@ same-round f g h = go (fits f g) (fits (turned f) g) (fits (turned (turned f)) g
     go false false true x y z k = twice (fits-eq (turned (turned f)) g z)
     go false false false x y z k = thrice (fits-eq (turned (turned (turned f))) g k)
 
-round-same : (f g : Face) → SameRound f g → sameFace f g ≡ true
+pub round-same : (f g : Face) → SameRound f g → sameFace f g ≡ true
 unfolding sameFace
 round-same f g r = go r
   where
@@ -111,7 +111,7 @@ three-true false b c h = absurd (not-both h refl)
 three-true true false c h = absurd (not-both h refl)
 three-true true true false h = absurd (not-both h refl)
 
-spot-is : (s : Spot) (p : Point) → spotIs s p ≡ true → s ≡ At p
+pub spot-is : (s : Spot) (p : Point) → spotIs s p ≡ true → s ≡ At p
 spot-is (At q) p h = ap At (same-true q p h)
 spot-is Nothing p h = absurd (not-both h refl)
 
@@ -161,7 +161,7 @@ module _ (t : List ℕ) where
       (ap (λ (s : Spot). someOf (sameFace f) (faceWith u (m .corner) s)) (m .chosen) ∙ some-one (sameFace f) (faceOn u (m .corner) (m .opposite))
       ∙ ap (sameFace f) (m .is) ∙ round-same f g r)
 
-  gives-makes : (f : Face) (u : Record) → gives f u ≡ true → (g : Face) × Makes u g × SameRound f g
+  pub gives-makes : (f : Face) (u : Record) → gives f u ≡ true → (g : Face) × Makes u g × SameRound f g
   gives-makes f u h =
       let x = among-at (λ i. someOf (sameFace f) (place u i)) (u .d) (sym (some-gather (sameFace f) (u .d) (place u)) ∙ h) in
       go (x .0) (x .1) (chosenAt t u (x .0)) refl (x .2)
@@ -174,7 +174,7 @@ module _ (t : List ℕ) where
         same-round f (faceOn u i p) (sym (some-one (sameFace f) (faceOn u i p)) ∙ k),
       )
 
-next-below : (d j : ℕ) → j < d → nextPlace d j < d
+pub next-below : (d j : ℕ) → j < d → nextPlace d j < d
 next-below d j h = go (ℕ-discrete (j + 1) d)
   where
     go : Dec (j + 1 ≡ d) → nextPlace d j < d
@@ -209,7 +209,7 @@ module _ (t : List ℕ) (o : InOrder t) where
           passes = makes-gives t f (x .rec) g (names-makes t (x .rec) g (y .1) (x .passes)) r;
         })
 
-    face-before : (f : Face) → f .at ≡ v .at → someOf (sameFace f) (each (facesAt t) (recordsBelow t k)) ≡ faceBefore t k f
+    pub face-before : (f : Face) → f .at ≡ v .at → someOf (sameFace f) (each (facesAt t) (recordsBelow t k)) ≡ faceBefore t k f
     unfolding faceBefore
     face-before f e = some-each (sameFace f) (facesAt t) t k ∙ same-test (among k (λ i. slotTest (gives t f) (slotAt t i))) (faceBefore t k f) there back
       where
@@ -278,4 +278,4 @@ module _ (t : List ℕ) (o : InOrder t) where
   -- "F the different faces"
   pub faces-counted : sumBelow (slotFaces t) (slotsOf t) ≡ facesIn t
   unfolding slotFaces
-  faces-counted = sym (different-slots sameFace (facesAt t) (starFaces t) t (slotsOf t) star-faces)
+  faces-counted = sym (different-slots sameFace [] (facesAt t) (starFaces t) t (slotsOf t) star-faces)

@@ -1,15 +1,22 @@
--- Document 01, "Census program", in antt: what is counted of a table.
+-- Document 01, "Census program", and document 02, ticket 2, in antt: what is counted of a table.
 pub mod Counts
 pub mod Count
 -- what the promises of the functions below cite besides
+pub mod Across
 pub mod Earlier
 -- their laws
 pub mod DifferentLaws
+pub mod SetLaws
 pub mod EarlierLaws
 pub mod StarLaws
-pub mod PairLaws
+pub mod OppositeLaws
+pub mod AcrossLaws
 pub mod FaceLaws
+pub mod SameLaws
+pub mod NearFarLaws
+pub mod EdgeLaws
 pub mod DegreeLaws
+pub mod AloneLaws
 pub mod CaseLaws
 pub mod CountLaws
 -- examples that compute

@@ -1,13 +1,13 @@
-// F: the different faces, each counted at the first vertex that names it.
+// A face of a corner, and whether an earlier vertex names it: F counts each face at the first vertex that does (corners.rt).
 ghost use mathlib.Core.Path.{_≡_};
 ghost use mathlib.Core.Bool.{true};
-ghost use Prim.Native.Nat.{_≤_, _<_};
+ghost use Prim.Native.Nat.{_<_};
 ghost use Rattle.lattice.specs.Records.{validOf};
 ghost use Rattle.lattice.specs.RecordLaws.{Inner};
 ghost use Rattle.table.specs.Slots.{Table, slotsOf};
 ghost use Rattle.table.specs.Order.{InOrder};
-ghost use Rattle.counts.specs.Counts.{nextPlace, turned, facesIn};
-ghost use Rattle.counts.specs.Earlier.{spotIs, cornerIs, namesFace, faceSeen, faceBefore, faceOn, cornerCount, starFaces, slotFaces};
+ghost use Rattle.counts.specs.Counts.{nextPlace, turned};
+ghost use Rattle.counts.specs.Earlier.{spotIs, cornerIs, namesFace, faceSeen, faceBefore, faceOn};
 use crate::earlier::earlier;
 use lattice::Point;
 use lattice::Record;
@@ -15,8 +15,6 @@ use lattice::Spot;
 use lattice::adjacent_of;
 use queries::chosen;
 use table::Looked;
-use table::Slot;
-use table::read_slot;
 use table::same_point;
 
 // A face: its four vertices in their order round, from one of them on. Round a vertex: itself, the adjacent point of a corner, the opposite, the next
@@ -29,7 +27,7 @@ pub struct Face {
 }
 
 // The place after j in a star of degree d, the last before the first.
-fn next_place(d: u8, j: u8) -> u8
+pub fn next_place(d: u8, j: u8) -> u8
     requires { ⌜ j < d ⌝ }
     ensures { λ r. ⌜ (r ≡ nextPlace d j) × (r < d) ⌝ }
 {
@@ -54,7 +52,7 @@ fn turn(f: Face) -> Face
 }
 
 // The face of corner j of v, with this opposite.
-fn face_on(v: Record, j: u8, opposite: Point) -> Face
+pub fn face_on(v: Record, j: u8, opposite: Point) -> Face
     requires { ⌜ Inner v × (j < v .d) ⌝ }
     ensures { λ r. ⌜ r ≡ faceOn v j opposite ⌝ }
 {
@@ -70,7 +68,7 @@ fn face_on(v: Record, j: u8, opposite: Point) -> Face
 }
 
 // Whether a corner's opposite is p.
-fn spot_is(s: Spot, p: Point) -> bool
+pub fn spot_is(s: Spot, p: Point) -> bool
     ensures { λ r. ⌜ r ≡ spotIs s p ⌝ }
 {
     match s {
@@ -127,7 +125,7 @@ fn face_seen(t: &[u8], f: Face, k: usize, n: usize) -> bool
 }
 
 // Whether one of the three other vertices of f does.
-fn face_before(t: &[u8], f: Face, k: usize, n: usize) -> bool
+pub fn face_before(t: &[u8], f: Face, k: usize, n: usize) -> bool
     requires { ⌜ InOrder (now t) × ((n ≡ slotsOf (now t)) × (k < n)) ⌝ }
     ensures { λ r. ⌜ r ≡ faceBefore (now (t .entry)) k f ⌝ }
 {
@@ -140,63 +138,4 @@ fn face_before(t: &[u8], f: Face, k: usize, n: usize) -> bool
         return true;
     }
     face_seen(t, turn(third), k, n)
-}
-
-// 1 where the face of corner j of v, in slot k, is counted there, else 0.
-fn corner_count(t: &[u8], v: Record, j: u8, k: usize, n: usize) -> u32
-    requires { ⌜ InOrder (now t) × ((n ≡ slotsOf (now t)) × (k < n)) ⌝ }
-    requires { ⌜ Inner v × (j < v .d) ⌝ }
-    ensures { λ r. ⌜ (r ≡ cornerCount (now (t .entry)) k v j) × (r ≤ 1) ⌝ }
-{
-    match chosen(t, v, j, n) {
-        Spot::Nothing => 0,
-        Spot::At(o) => {
-            if face_before(t, face_on(v, j, o), k, n) {
-                0
-            } else {
-                1
-            }
-        }
-    }
-}
-
-// The faces that are counted at v, in slot k.
-fn star_faces(t: &[u8], v: Record, k: usize, n: usize) -> u32
-    requires { ⌜ InOrder (now t) × ((n ≡ slotsOf (now t)) × (k < n)) ⌝ }
-    requires { ⌜ validOf v ≡ true ⌝ }
-    ensures { λ r. ⌜ (r ≡ starFaces (now (t .entry)) k v) × (r ≤ 6) ⌝ }
-{
-    let d = v.d;
-    let mut count = 0;
-    let mut j = 0;
-    while j < d {
-        count += corner_count(t, v, j, k, n);
-        j += 1;
-    }
-    count
-}
-
-// The faces that are counted in slot k.
-fn slot_faces(t: &[u8], k: usize, n: usize) -> u32
-    requires { ⌜ InOrder (now t) × ((n ≡ slotsOf (now t)) × (k < n)) ⌝ }
-    ensures { λ r. ⌜ (r ≡ slotFaces (now (t .entry)) k) × (r ≤ 6) ⌝ }
-{
-    match read_slot(t, k) {
-        Slot::Free => 0,
-        Slot::Holds(v) => star_faces(t, v, k, n),
-    }
-}
-
-// The different faces of a table. In time linear in the slots, as long as the searches are short.
-pub fn count_faces(t: &[u8], n: usize) -> u32
-    requires { ⌜ InOrder (now t) × (n ≡ slotsOf (now t)) ⌝ }
-    ensures { λ r. ⌜ r ≡ facesIn (now (t .entry)) ⌝ }
-{
-    let mut count = 0;
-    let mut k = 0;
-    while k < n {
-        count += slot_faces(t, k, n);
-        k += 1;
-    }
-    count
 }

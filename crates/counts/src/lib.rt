@@ -1,27 +1,27 @@
-// What a census counts of a table: document 01's V, E, F and the records by degree.
+// What a census counts of a table: document 01's V, F and the records by degree, and E in document 02's sense, the sides of the faces.
 //
-// `counts_of` gives them all, `count` those of any bytes in a lent row. pairs.rt and faces.rt count each pair and each face once, at the first vertex
-// that names it, with no memory but a few words.
+// `counts_of` gives them all, `count` those of any bytes in a lent row. corners.rt counts each face and each side once, at the first vertex that has it
+// (faces.rt, sides.rt), with no memory but a few words.
 // The promise cites specs/Counts.
 ghost use mathlib.Core.Path.{_≡_};
 ghost use Rattle.table.specs.Slots.{slotsOf};
 ghost use Rattle.table.specs.Order.{InOrder};
 ghost use Rattle.counts.specs.Counts.{countsOf};
 
+mod across;
+mod corners;
 mod degrees;
 mod earlier;
 mod faces;
-mod pairs;
 mod rows;
+mod sides;
 
-use crate::degrees::count_degree;
-use crate::degrees::count_vertices;
-use crate::faces::count_faces;
-use crate::pairs::count_edges;
+use crate::corners::count_corners;
+use crate::degrees::count_degrees;
 pub use rows::COUNTS;
 pub use rows::count;
 
-// Document 01's numbers: V, E, F, and the records by degree.
+// The numbers of a census: V, E, F, and the records by degree.
 pub struct Counts {
     pub vertices: u32,
     pub edges: u32,
@@ -38,14 +38,23 @@ pub fn counts_of(t: &[u8], n: usize) -> Counts
     requires { ⌜ InOrder (now t) × (n ≡ slotsOf (now t)) ⌝ }
     ensures { λ r. ⌜ r ≡ countsOf (now (t .entry)) ⌝ }
 {
+    let corners = count_corners(t, n);
+    let edges = corners.sides;
+    let faces = corners.faces;
+    let degrees = count_degrees(t, n);
+    let d0 = degrees.d0;
+    let d3 = degrees.d3;
+    let d4 = degrees.d4;
+    let d5 = degrees.d5;
+    let d6 = degrees.d6;
     Counts {
-        vertices: count_vertices(t, n),
-        edges: count_edges(t, n),
-        faces: count_faces(t, n),
-        d0: count_degree(t, 0, n),
-        d3: count_degree(t, 3, n),
-        d4: count_degree(t, 4, n),
-        d5: count_degree(t, 5, n),
-        d6: count_degree(t, 6, n),
+        vertices: d0 + d3 + d4 + d5 + d6,
+        edges,
+        faces,
+        d0,
+        d3,
+        d4,
+        d5,
+        d6,
     }
 }

@@ -15,6 +15,8 @@ pub mod Forms
 pub mod Meshes
 pub mod Order
 pub mod Files
+-- what a census counts
+pub mod Census
 -- demand 3: what is written comes back, call by call
 pub mod Returns
 -- document 02's ticket 1: the findings list joined

@@ -1,5 +1,5 @@
--- Document 01's starred bench examples: one table, `starred`, and one statement, `starred-hold`: what the promises' definitions compute is what the
--- document says. They stand nowhere else.
+-- Document 01's starred bench examples, its two censuses with document 02's E: one table, `starred`, and one statement, `starred-hold`: what the
+-- promises' definitions compute is what the documents say. They stand nowhere else.
 -- Assumes nothing.
 use mathlib.Core.Path.{_≡_, refl}
 use mathlib.Core.Bool.{Bool, true, false, cond}
@@ -29,7 +29,7 @@ use Rattle.writers.specs.Files.{redundant, leaveOut, reducedFile}
 use Rattle.text.specs.Decimal.{digits, digitsBy}
 use Rattle.text.specs.Line.{pointText, starText, lineOf, lines}
 use Rattle.text.specs.LineCount.{linesIn}
-use Rattle.counts.specs.Counts.{differentAfter, gather, each, samePair, fits, sameFace, ofDegree, countsOf}
+use Rattle.counts.specs.Counts.{differentAfter, gather, each, sameSide, fits, sameFace, ofDegree, countsOf}
 use Rattle.counts.specs.declared.Counts.{Counts}
 
 -- ---- what is compared: whole numbers
@@ -70,6 +70,10 @@ sixes (r ∷ rs) = cond (eqb (r .d) 6) (ofPoint (r .at) ++ sixes rs) (sixes rs)
 threeCentres : List ℤ
 threeCentres = pos 0 ∷ pos 0 ∷ pos 1 ∷ pos 1 ∷ pos 2 ∷ negsuc 0 ∷ []
 
+-- one hexagon
+meshOne : List ℕ
+meshOne = baseOf (replicate (slotWidth * 16) 255) (pos 0 ∷ pos 0 ∷ []) .bytes
+
 meshThree : List ℕ
 meshThree = baseOf (replicate (slotWidth * 40) 255) threeCentres .bytes
 
@@ -101,7 +105,7 @@ four2 = record { at = pt (pos 0) (pos 0) 0; d = 4; k = 2; n = record { 0 = 0 } }
 
 -- ---- the table
 pub starred : List Example
-unfolding differentAfter gather each samePair fits sameFace ofDegree countsOf chosenAt sixes threeCentres six0 six1 meshThree once
+unfolding differentAfter gather each sameSide fits sameFace ofDegree countsOf chosenAt sixes threeCentres six0 six1 meshOne meshThree once
     twice reducedLines lines lineOf pointText starText digits digitsBy earlier insertBy sortBy four2 redundant leaveOut neighboursOf
     adjacentsThere subdivideOf subdivided torn tooDeep renewedTo enteredTo updateOf acceptsOf baseOf firstBad laidOf layAll layHexagon
     hexagonOf cornerRecord internal listedIn normalOf turns orient patternOf rowsOf inOrderOf allPlaced placedAt lookUp enterOf replaceOf
@@ -119,8 +123,9 @@ starred =
     ∷ number (length (recordsOf meshThree)) is number 16
     ∷ sixes (recordsOf meshThree) is (pos 1 ∷ pos 0 ∷ pos 0 ∷ [])
     ∷ number (reducedLines meshThree) is number 13
-    -- "Census 16 12 9 12 3 0 0 1."
-    ∷ ofCounts (countsOf meshThree) is (pos 16 ∷ pos 12 ∷ pos 9 ∷ pos 12 ∷ pos 3 ∷ pos 0 ∷ pos 0 ∷ pos 1 ∷ [])
+    -- document 02, ticket 2: "The census of the single hexagon reads 7 9 3 6 1 0 0 0, that of the three 16 24 9 12 3 0 0 1."
+    ∷ ofCounts (countsOf meshOne) is (pos 7 ∷ pos 9 ∷ pos 3 ∷ pos 6 ∷ pos 1 ∷ pos 0 ∷ pos 0 ∷ pos 0 ∷ [])
+    ∷ ofCounts (countsOf meshThree) is (pos 16 ∷ pos 24 ∷ pos 9 ∷ pos 12 ∷ pos 3 ∷ pos 0 ∷ pos 0 ∷ pos 1 ∷ [])
     ∷ number (baseOf (replicate (slotWidth * 40) 255) threeCentres .number) is number 0
     -- "Subdividing [3,0,1] in Three enters [4,1,1], [2,2,1], [1,1,1], [2,-1,1], [4,-2,1], [5,-1,1] with k 3, 1, 3, 1, 3, 1.":
     -- in this order, where none was before
@@ -176,7 +181,7 @@ saidOf [] = []
 saidOf (e ∷ es) = e .said ∷ saidOf es
 
 pub starred-hold : computedOf starred ≡ saidOf starred
-unfolding starred differentAfter gather each samePair fits sameFace ofDegree countsOf chosenAt sixes threeCentres six0 six1 meshThree
+unfolding starred differentAfter gather each sameSide fits sameFace ofDegree countsOf chosenAt sixes threeCentres six0 six1 meshOne meshThree
     once twice reducedLines lines lineOf pointText starText digits digitsBy earlier insertBy sortBy four2 redundant leaveOut neighboursOf
     adjacentsThere subdivideOf subdivided torn tooDeep renewedTo enteredTo updateOf acceptsOf baseOf firstBad laidOf layAll layHexagon
     hexagonOf cornerRecord internal listedIn normalOf turns orient patternOf rowsOf three four five six inOrderOf allPlaced placedAt lookUp

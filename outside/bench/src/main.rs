@@ -266,19 +266,21 @@ fn files(bench: &mut Bench, table: &[u8]) {
     }
 }
 
+/// Files of 64 KiB: one with few vertices at the rim, one with nearly all of them there.
 fn census(bench: &mut Bench) {
-    let input = largest_input();
-    let vertices = input.iter().filter(|byte| **byte == b'\n').count();
-    let (mut table, mut scratch, mut out) = (vec![0; 5461 * SLOT], vec![0; 5461 * SLOT], [0; 128]);
-    let mut other = (table.clone(), scratch.clone(), [0; 128]);
-    let task = Task { name: "census of 64 KiB", unit: "vertex", units: vertices };
-    bench.run(
-        task,
-        &mut || clock::time(|| assert_eq!(library::census(&input, &mut table, &mut scratch, &mut out).0, 0)),
-        &mut || clock::time(|| assert_eq!(plain::census(&input, &mut other.0, &mut other.1, &mut other.2).0, 0)),
-        None,
-    );
-    assert_eq!(out, other.2);
+    for (name, input) in [("census, a sheet refined", refined_input()), ("census, hexagons apart", apart_input())] {
+        let vertices = input.iter().filter(|byte| **byte == b'\n').count();
+        let (mut table, mut scratch, mut out) = (vec![0; 5461 * SLOT], vec![0; 5461 * SLOT], [0; 128]);
+        let mut other = (table.clone(), scratch.clone(), [0; 128]);
+        let task = Task { name, unit: "vertex", units: vertices };
+        bench.run(
+            task,
+            &mut || clock::time(|| assert_eq!(library::census(&input, &mut table, &mut scratch, &mut out).0, 0)),
+            &mut || clock::time(|| assert_eq!(plain::census(&input, &mut other.0, &mut other.1, &mut other.2).0, 0)),
+            None,
+        );
+        assert_eq!(out, other.2);
+    }
 }
 
 /// 60,000 findings over the largest sheet, in no order: a tenth of them lost, a third spelled deeper than its point is.

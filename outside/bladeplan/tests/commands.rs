@@ -113,14 +113,14 @@ fn reduce_and_restore() {
 #[test]
 fn check() {
     let desk = Desk::with_plan("check");
-    let counts = "28 vertices, 36 edges, 21 faces";
+    let counts = "28 vertices, 48 edges, 21 faces";
     assert_eq!(desk.good("check plan.full"), format!("plan.full is a full file\nas a reduced file it is {TWELVE}\n28 lines: {counts}\n"));
     assert_eq!(
         desk.good("check plan.reduced"),
         format!("plan.reduced is a reduced file\nas a full file it is {ELEVEN}\n22 lines: {counts}\n")
     );
     let alone = desk.fed("lay - -q", b"0\t0\n").out;
-    let both = "standard input is a full file, and a reduced one as well: no vertex can be left out of it\n7 lines: 7 vertices, 3 edges, 3 faces\n";
+    let both = "standard input is a full file, and a reduced one as well: no vertex can be left out of it\n7 lines: 7 vertices, 9 edges, 3 faces\n";
     assert_eq!(desk.fed("check -", alone.as_bytes()).out, both);
 }
 

@@ -5,6 +5,7 @@
 use crate::caller::{inside, why, Caller, Mesher};
 use crate::case::{difference, Case, Outcome};
 use crate::coverage::Coverage;
+pub use crate::edges::*;
 pub use crate::findings::*;
 use crate::makers::*;
 use crate::random::Cases;
@@ -170,7 +171,7 @@ pub fn nearly_grown_files(caller: &dyn Caller) {
 }
 
 /// Every valid record at a point.
-fn every_star(p: Point) -> Vec<Record> {
+pub fn every_star(p: Point) -> Vec<Record> {
     let mut all = Vec::new();
     for d in [0, 3, 4, 5, 6] {
         for k in 0..12 {
@@ -438,6 +439,7 @@ macro_rules! suite {
     ($caller:expr) => {
         $crate::suite!($caller; random_cases, fuzzed_readers, all_stars, single_edits, single_bytes, every_length);
         $crate::suite!($caller; nearly_grown_files, deep_meshes, large_meshes, crowded_tables, small_stack);
+        $crate::suite!($caller; edges_at_the_rim, edges_of_edited_tables, edges_of_scattered_stars);
         $crate::suite!($caller; findings_malformed, findings_done, findings_refusals_in_order, findings_bytes, fuzzed_findings, long_findings);
     };
 }

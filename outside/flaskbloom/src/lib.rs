@@ -159,6 +159,7 @@ impl std::ops::Deref for Points {
 #[derive(Clone, Copy, PartialEq, Eq, Hash, Debug)]
 pub struct Counts {
     pub vertices: usize,
+    /// Sides of faces, each once, at the rim too.
     pub edges: usize,
     pub faces: usize,
     /// Vertices of degree 0, 3, 4, 5, 6.

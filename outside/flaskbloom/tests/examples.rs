@@ -30,7 +30,7 @@ fn a_star_without_a_mesh() {
 fn three_hexagons() {
     let sheet = three();
     assert_eq!(sheet.records().count(), 16);
-    assert_eq!(census(&sheet.write_full().unwrap()), "V\tE\tF\td0\td3\td4\td5\td6\n16\t12\t9\t12\t3\t0\t0\t1\n");
+    assert_eq!(census(&sheet.write_full().unwrap()), "V\tE\tF\td0\td3\td4\td5\td6\n16\t24\t9\t12\t3\t0\t0\t1\n");
     assert_eq!(sheet.write_reduced().unwrap().iter().filter(|byte| **byte == b'\n').count(), 13);
     assert_eq!(sheet.neighbours(Point::new(2, 0, 0)), Err(Refusal::DegreeZero));
     assert_eq!(sheet.faces(Point::new(1, 0, 0)).unwrap().len(), 6);
@@ -39,9 +39,9 @@ fn three_hexagons() {
 #[test]
 fn counting() {
     let mut sheet = three();
-    assert_eq!(sheet.counts(), Ok(Counts { vertices: 16, edges: 12, faces: 9, degrees: [12, 3, 0, 0, 1] }));
+    assert_eq!(sheet.counts(), Ok(Counts { vertices: 16, edges: 24, faces: 9, degrees: [12, 3, 0, 0, 1] }));
     sheet.subdivide_all(&[Point::new(1, 0, 0); 2]).unwrap();
-    assert_eq!(sheet.counts(), Ok(Counts { vertices: 28, edges: 36, faces: 21, degrees: [12, 6, 9, 0, 1] }));
+    assert_eq!(sheet.counts(), Ok(Counts { vertices: 28, edges: 48, faces: 21, degrees: [12, 6, 9, 0, 1] }));
     assert_eq!(Table::from_bytes(vec![255; 192]).counts(), Ok(Counts { vertices: 0, edges: 0, faces: 0, degrees: [0; 5] }));
     assert_eq!(Table::from_bytes(vec![1; 192]).counts(), Err(Refusal::NotInOrder));
 }

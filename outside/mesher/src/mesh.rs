@@ -176,23 +176,48 @@ impl Mesh {
 
     /// V, E, F, and the records of degree 0, 3, 4, 5, 6.
     pub fn census(&self) -> [usize; 8] {
-        let (mut edges, mut faces) = (HashSet::new(), HashSet::new());
+        let faces: HashSet<[Spot; 4]> = self.records().flat_map(|v| self.drawn(v)).map(from_least).collect();
         let mut by_degree = [0; 7];
-        for (&here, v) in &self.records {
-            by_degree[v.d as usize] += 1;
-            let corners = star(v);
-            for (corner, next) in corners.iter().zip(corners.iter().cycle().skip(1)) {
-                let there = corner.adjacent;
-                if self.has(there) || !made(Slip::AbsentUnpaired) {
-                    edges.insert(if made(Slip::EdgeTwice) { [here, there] } else { [here.min(there), here.max(there)] });
-                }
-                if self.has(there) || !made(Slip::AbsentUnfaced) {
-                    faces.extend(self.opposite(corner).map(|far| from_least([here, there, far, next.adjacent])));
-                }
+        self.records().for_each(|v| by_degree[v.d as usize] += 1);
+        let [d0, _, _, d3, d4, d5, d6] = by_degree;
+        [self.len(), self.edges(&faces), faces.len(), d0, d3, d4, d5, d6]
+    }
+
+    /// The faces of v: "v, adjacent j, opposite j, next adjacent". A corner with no opposite has none.
+    fn drawn(&self, v: &Record) -> Vec<[Spot; 4]> {
+        let corners = star(v);
+        let round = corners.iter().zip(corners.iter().cycle().skip(1));
+        let faced = round.filter(|(corner, _)| self.has(corner.adjacent) || !made(Slip::AbsentUnfaced));
+        faced.filter_map(|(corner, next)| Some([Spot::of(v.point()), corner.adjacent, self.opposite(corner)?, next.adjacent])).collect()
+    }
+
+    /// "An edge is from now on a side of a face, taken once whichever way it runs."
+    fn edges(&self, faces: &HashSet<[Spot; 4]>) -> usize {
+        let mut edges: HashMap<[Spot; 2], usize> = HashMap::new();
+        if !made(Slip::EdgesOfStars) {
+            faces.iter().flat_map(sides).for_each(|side| *edges.entry(side).or_default() += 1);
+        }
+        if made(Slip::EdgesOfStars) || made(Slip::SideWithoutFace) {
+            for (v, corner) in self.records().flat_map(|v| star(v).into_iter().map(move |corner| (v, corner))) {
+                edges.entry(whichever_way(Spot::of(v.point()), corner.adjacent)).or_default();
             }
         }
-        let [d0, _, _, d3, d4, d5, d6] = by_degree;
-        [self.len(), edges.len(), faces.len(), d0, d3, d4, d5, d6]
+        edges.into_iter().map(|(side, faces)| self.times_taken(side, faces)).sum()
+    }
+
+    /// Once, wherever its ends stand and however many faces have it.
+    fn times_taken(&self, side: [Spot; 2], faces: usize) -> usize {
+        let degrees = side.map(|end| self.records.get(&end).map(|r| r.d));
+        let at_the_rim = degrees == [Some(0); 2];
+        if at_the_rim && made(Slip::RimSideEachFace) {
+            faces
+        } else if at_the_rim && made(Slip::RimSideNever) || degrees.contains(&None) && made(Slip::AbsentUnsided) {
+            0
+        } else if degrees.iter().all(|d| *d > Some(0)) && made(Slip::SideAtBothEnds) {
+            2
+        } else {
+            1
+        }
     }
 
     /// "A mesh is grown if its records result from a base and a sequence of subdivisions": build it anew and compare.
@@ -230,6 +255,18 @@ fn from_least(mut face: [Spot; 4]) -> [Spot; 4] {
         face.rotate_left(least);
     }
     face
+}
+
+/// The four sides of a face.
+fn sides(&[v, adjacent, opposite, next]: &[Spot; 4]) -> [[Spot; 2]; 4] {
+    [whichever_way(v, adjacent), whichever_way(adjacent, opposite), whichever_way(opposite, next), whichever_way(next, v)]
+}
+
+fn whichever_way(p: Spot, q: Spot) -> [Spot; 2] {
+    match made(Slip::SideEachWay) {
+        true => [p, q],
+        false => [p.min(q), p.max(q)],
+    }
 }
 
 fn new_record(p: Point, k: u8, n: u8) -> Record {

@@ -135,7 +135,7 @@ fn one_hexagon() {
     let file = "-1 0 0 0 0 0\n-1 1 0 0 0 0\n0 -1 0 0 0 0\n0 0 0 3 0 0\n0 1 0 0 0 0\n1 -1 0 0 0 0\n1 0 0 0 0 0\n".replace(' ', "\t");
     assert_eq!(full_text(&table), file);
     assert_eq!(reduced_text(&table), file);
-    assert_eq!(census_text(file.as_bytes()), "V\tE\tF\td0\td3\td4\td5\td6\n7\t3\t3\t6\t1\t0\t0\t0\n");
+    assert_eq!(census_text(file.as_bytes()), "V\tE\tF\td0\td3\td4\td5\td6\n7\t9\t3\t6\t1\t0\t0\t0\n");
     let mut again = vec![9; table.len()];
     let mut scratch = vec![7; table.len()];
     assert_eq!(read_full(&mut again, &mut scratch, file.as_bytes()).number, 0);
@@ -150,7 +150,7 @@ fn three_hexagons() {
     assert_eq!(records(&table).len(), 16);
     let sixes: Vec<Record> = records(&table).into_iter().filter(|r| r.d == 6).collect();
     assert_eq!(sixes, [Record { a: 1, b: 0, m: 0, d: 6, k: 0, n: 0 }]);
-    assert_eq!(census_text(full_text(&table).as_bytes()), "V\tE\tF\td0\td3\td4\td5\td6\n16\t12\t9\t12\t3\t0\t0\t1\n");
+    assert_eq!(census_text(full_text(&table).as_bytes()), "V\tE\tF\td0\td3\td4\td5\td6\n16\t24\t9\t12\t3\t0\t0\t1\n");
     assert_eq!(reduced_text(&table).lines().count(), 13);
 }
 

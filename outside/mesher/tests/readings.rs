@@ -289,20 +289,30 @@ fn subdividing_a_list() {
 
 #[test]
 fn counting_any_table() {
-    // a pair counts though the adjacent point is absent; a corner has a face as soon as its opposite is there
+    // a corner has a face as soon as its opposite is there, its adjacent points absent or not; one with no opposite has no face and no sides
     let mut table = vec![255; 16 * 12];
     assert_eq!(counts(&table).value, [0; 8]);
     place(&mut table, &[Record { a: 1, b: 0, m: 0, d: 6, k: 0, n: 0 }]);
-    assert_eq!(counts(&table).value, [1, 6, 0, 0, 0, 0, 0, 1]);
+    assert_eq!(counts(&table).value, [1, 0, 0, 0, 0, 0, 0, 1]);
     place(&mut table, &[Record { a: 2, b: 1, m: 0, d: 0, k: 0, n: 0 }]);
-    assert_eq!(counts(&table).value, [2, 6, 1, 1, 0, 0, 0, 1]);
-    // a pair that both its vertices name is one; so is a pair that only one of them names
-    for (k, edges, faces) in [(2, 8, 1), (0, 9, 3)] {
+    assert_eq!(counts(&table).value, [2, 4, 1, 1, 0, 0, 0, 1]);
+    for (k, edges, faces) in [(2, 4, 1), (0, 9, 3)] {
         let mut table = table.clone();
         place(&mut table, &[Record { a: 2, b: 0, m: 0, d: 3, k, n: 0 }]);
         assert_eq!(counts(&table).value, [3, edges, faces, 1, 1, 0, 0, 1]);
     }
     let answer = counts(&table[..180]);
     assert_eq!((answer.number, answer.value), (1, [0; 8]));
-    assert_eq!(counts(&based(64, &THREE)).value, [16, 12, 9, 12, 3, 0, 0, 1]);
+}
+
+/// Ticket 2. A side between two hexagons, from rim to rim, is one edge though no star names it and two faces have it.
+#[test]
+fn edges_at_the_rim() {
+    let counted = |centres: &[i32]| counts(&based(64, centres)).value;
+    assert_eq!(counted(&[0, 0]), [7, 9, 3, 6, 1, 0, 0, 0]);
+    assert_eq!(counted(&[0, 0, 1, 1]), [12, 17, 6, 10, 2, 0, 0, 0]);
+    assert_eq!(counted(&THREE), [16, 24, 9, 12, 3, 0, 0, 1]);
+    // V - E + F is pieces less holes: two hexagons apart; six round a hole
+    assert_eq!(counted(&[0, 0, 3, 3]), [14, 18, 6, 12, 2, 0, 0, 0]);
+    assert_eq!(counted(&[1, 1, -1, 2, -2, 1, -1, -1, 1, -2, 2, -1]), [30, 48, 18, 24, 6, 0, 0, 0]);
 }

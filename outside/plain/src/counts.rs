@@ -1,5 +1,5 @@
-//! Edges and faces counted: those of any table by sorting, those of a census, whose mesh is known to be grown, each at its least internal
-//! vertex.
+//! Edges and faces counted: those of any table by sorting, those of a census, whose mesh is known to be grown, where they are met first: at
+//! the least internal vertex that has them, a side from rim to rim at the lesser of its two hexagons.
 
 use crate::files::read_full;
 use crate::lattice::{rows, sum, Point};
@@ -12,7 +12,7 @@ pub fn counts(table: &[u8]) -> (u8, Numbers) {
     if in_order(table).is_none() {
         return (1, [0; 8]);
     }
-    let (mut c, mut pairs, mut faces) = ([0; 8], Vec::new(), Vec::new());
+    let (mut c, mut faces) = ([0; 8], Vec::new());
     for (p, v) in records(table) {
         c[0] += 1;
         c[by_degree(v.d)] += 1;
@@ -23,11 +23,12 @@ pub fn counts(table: &[u8]) -> (u8, Numbers) {
         }
         for (j, row) in rows.iter().enumerate() {
             let (there, next) = (adjacent[j], adjacent[(j + 1) % rows.len()]);
-            pairs.push([here.min(there), here.max(there)]);
             faces.extend(opposite(table, p, v, row).map(|far| from_least([here, there, packed(far), next])));
         }
     }
-    (c[1], c[2]) = (different(pairs), different(faces));
+    let faces = different(faces);
+    let sides = faces.iter().flat_map(|f| (0..4).map(|i| (f[i], f[(i + 1) % 4]))).map(|(p, q)| [p.min(q), p.max(q)]);
+    (c[1], c[2]) = (different(sides.collect()).len() as u32, faces.len() as u32);
     (0, c)
 }
 
@@ -54,14 +55,22 @@ fn from_least(mut face: [u64; 4]) -> [u64; 4] {
     face
 }
 
-fn different<T: Ord>(mut list: Vec<T>) -> u32 {
+fn different<T: Ord>(mut list: Vec<T>) -> Vec<T> {
     list.sort_unstable();
     list.dedup();
-    list.len() as u32
+    list
 }
 
 fn order(p: Point) -> (u8, i32, i32) {
     (p.m, p.a, p.b)
+}
+
+/// What an internal vertex sees of another vertex of its faces: where it stands at the rim, or which of the two comes first.
+#[derive(Clone, Copy, PartialEq)]
+enum Other {
+    Rim(Point),
+    Before,
+    After,
 }
 
 /// The numbers of a grown mesh.
@@ -70,18 +79,36 @@ fn counts_of_grown(table: &[u8]) -> Numbers {
     for (p, v) in records(table) {
         c[0] += 1;
         c[by_degree(v.d)] += 1;
-        // a vertex counts what it shares with another internal one only where it is the lesser
-        let counts_with = |q: Point| find(table, q).is_none_or(|(_, u)| u.d == 0) || order(p) < order(q);
+        let other = |q: Point| match find(table, q) {
+            Some((_, u)) if u.d == 0 => Other::Rim(q),
+            _ if order(q) < order(p) => Other::Before,
+            _ => Other::After,
+        };
         let rows = rows(v);
+        let mut adjacent = [Other::After; 6];
+        for (there, row) in adjacent.iter_mut().zip(rows) {
+            *there = other(sum(p, row.adjacent, v.n));
+            c[1] += (*there != Other::Before) as u32;
+        }
         for (j, row) in rows.iter().enumerate() {
-            let adjacent = sum(p, row.adjacent, v.n);
-            let next = sum(p, rows[(j + 1) % rows.len()].adjacent, v.n);
-            let far = opposite(table, p, v, row).expect("a grown mesh");
-            c[1] += counts_with(adjacent) as u32;
-            c[2] += [adjacent, far, next].into_iter().all(counts_with) as u32;
+            let (there, next) = (adjacent[j], adjacent[(j + 1) % rows.len()]);
+            let far = other(opposite(table, p, v, row).expect("a grown mesh"));
+            if ![there, far, next].contains(&Other::Before) {
+                c[1] += (is_first(table, there, far) as u32) + (is_first(table, far, next) as u32);
+                c[2] += 1;
+            }
         }
     }
     c
+}
+
+/// Whether a side of a face is from rim to rim and counted with it. The face lies to its left; the hexagon to its right, if listed, has the
+/// side running back.
+fn is_first(table: &[u8], from: Other, to: Other) -> bool {
+    let (Other::Rim(p), Other::Rim(q)) = (from, to) else { return false };
+    let (x, y) = (q.a - p.a, q.b - p.b);
+    let right = Point { a: p.a + x + y, b: p.b - x, m: 0 };
+    order(p) < order(q) || find(table, right).is_none()
 }
 
 pub fn census(input: &[u8], table: &mut [u8], scratch: &mut [u8], out: &mut [u8]) -> (u8, u64) {

@@ -1,22 +1,37 @@
--- `counts::counts_of` meets its promise: the numbers, each by its own function. Assumes nothing.
+-- `counts::counts_of` meets its promise: the faces and their sides by one function, the degrees by another; together they are the records.
+-- Assumes nothing.
+use mathlib.Core.Path.{_≡_, ap, _∙_}
+use Prim.Native.Nat.{ℕ, _+_, _≤_}
+use native.Mathlib.Omega.{arith}
 use borrow.Author.Needs.{needs}
+use lib.ListN.{length}
+use Rattle.table.specs.Entries.{recordsOf}
+use Rattle.table.specs.MapLaws.{records-count}
 use Rattle.counts.specs.Counts.{numbers, countsOf}
+use Rattle.counts.specs.DegreeLaws.{degrees-all}
+use Rattle.counts.specs.declared.corners.Counted.{Counted}
+use Rattle.counts.specs.declared.degrees.Degrees.{Degrees}
 use Rattle.counts.proofs.counts_of.Statement.{statement}
 use Rattle.counts.proofs.counts_of.Tie as tie
+
+abbrev all : Degrees → ℕ
+all d = d .d0 + d .d3 + d .d4 + d .d5 + d .d6
+
+module _ (c : tie.After-count-degrees) where
+  together : all (c .count-degrees .result) ≡ length (recordsOf (c .before .before .before .args .t .now))
+  together = let s = c .before .before .before in ap all (c .count-degrees .ensures) ∙ degrees-all (s .args .t .now) (s .pre .0)
+
+  few : all (c .count-degrees .result) ≤ 65536
+  few = let s = c .before .before .before in omega (arith, together, records-count (s .args .t .now), s .pre .0 .fits .most)
 
 returns : tie.Need-returns
 unfolding countsOf
 returns c =
-    let d5 = c .before in
-    let d4 = d5 .before in
-    let d3 = d4 .before in
-    let d0 = d3 .before in
-    let f = d0 .before in
-    let e = f .before in
-    let v = e .before in
+    let e = c .before .count-corners .ensures in
+    let d = c .count-degrees .ensures in
     λ i.
-    numbers (v .count-vertices .ensures i) (e .count-edges .ensures i) (f .count-faces .ensures i) (d0 .count-degree .ensures i)
-    (d3 .count-degree2 .ensures i) (d4 .count-degree3 .ensures i) (d5 .count-degree4 .ensures i) (c .count-degree5 .ensures i)
+    numbers (together c i) (ap (λ (x : Counted). x .sides) e i) (ap (λ (x : Counted). x .faces) e i) (ap (λ (x : Degrees). x .d0) d i)
+    (ap (λ (x : Degrees). x .d3) d i) (ap (λ (x : Degrees). x .d4) d i) (ap (λ (x : Degrees). x .d5) d i) (ap (λ (x : Degrees). x .d6) d i)
 
 pub counts-of-spec : {M : Type 1} → statement M
 counts-of-spec =
@@ -24,10 +39,8 @@ counts-of-spec =
     (tie.spec
     (λ c κs. search needs)
     (λ c κs. search needs)
-    (λ c κs. search needs)
-    (λ c κs. search needs)
-    (λ c κs. search needs)
-    (λ c κs. search needs)
-    (λ c κs. search needs)
-    (λ c κs. search needs)
+    (λ c. record { fits = omega (arith, few c) })
+    (λ c. record { fits = omega (arith, few c) })
+    (λ c. record { fits = omega (arith, few c) })
+    (λ c. record { fits = omega (arith, few c) })
     returns)

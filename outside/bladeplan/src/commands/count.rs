@@ -12,7 +12,8 @@ pub const CENSUS: Command = Command {
     about: "count a plan: vertices, edges, faces, vertices by degree",
     help: "\
 PLAN is a full or a reduced file, '-' standard input. Two lines, tabs between: V E F d0 d3 d4 d5 d6, and the numbers. V counts the vertices
-(those that a reduced file leaves out too), E the edges, F the faces; then vertices by degree, 0 at the rim.
+(those that a reduced file leaves out too), E the edges (the sides of the faces, each once, at the rim too), F the faces; then vertices by
+degree, 0 at the rim.
 
 example:
   bladeplan census plan.full

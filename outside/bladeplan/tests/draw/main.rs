@@ -75,7 +75,7 @@ fn every_vertex_and_face_is_drawn_once() {
     let caption = sheet.texts("caption");
     let shown = [
         "28 vertices",
-        "21 faces, 36 edges",
+        "21 faces, 48 edges",
         "on the rim",
         "12",
         "with 3 neighbours",

@@ -1,0 +1,26 @@
+-- What a census counts. Document 02, ticket 2: "An edge is from now on a side of a face, taken once whichever way it runs. .. This replaces Document 01's
+-- E." `edges-sides`, `faces-different` E and F by the same list of faces · `records-by-degree` V is the sum of the records by degree · `counts-alone` two
+-- tables in order with the same look-ups have the same counts: they turn on the records alone, not on their slots.
+-- Assumes nothing.
+pub use Rattle.counts.specs.AloneLaws.{counts-alone}
+use mathlib.Core.Path.{_≡_, refl}
+use mathlib.Core.List.{List}
+use Prim.Native.Nat.{ℕ, _+_}
+use Rattle.table.specs.Order.{InOrder}
+use Rattle.table.specs.Entries.{recordsOf}
+use Rattle.counts.specs.Counts.{different, each, facesAt, sameFace, sidesOf, sameSide, countsOf}
+use Rattle.counts.specs.DegreeLaws.{degrees-all}
+
+module _ (t : List ℕ) where
+  pub edges-sides : countsOf t .edges ≡ different sameSide (each sidesOf (each (facesAt t) (recordsOf t)))
+  unfolding countsOf
+  edges-sides = refl
+
+  pub faces-different : countsOf t .faces ≡ different sameFace (each (facesAt t) (recordsOf t))
+  unfolding countsOf
+  faces-different = refl
+
+  pub records-by-degree : InOrder t
+      → countsOf t .d0 + countsOf t .d3 + countsOf t .d4 + countsOf t .d5 + countsOf t .d6 ≡ countsOf t .vertices
+  unfolding countsOf
+  records-by-degree o = degrees-all t o
