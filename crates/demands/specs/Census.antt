@@ -1,7 +1,12 @@
 -- What a census counts. Document 02, ticket 2: "An edge is from now on a side of a face, taken once whichever way it runs. .. This replaces Document 01's
--- E." `edges-sides`, `faces-different` E and F by the same list of faces · `records-by-degree` V is the sum of the records by degree · `counts-alone` two
--- tables in order with the same look-ups have the same counts: they turn on the records alone, not on their slots.
+-- E." `edges-sides`, `faces-different` E and F by the same list of faces · `side-same`, `side-self`, `swap-right` two sides are the same exactly where
+-- they have the same ends, whichever way they run · `same-sides` a face has the same sides from whichever vertex it is read · `different-set` each is
+-- taken once: how many different ones a list has is told by which ones it has, however often; of sides and of faces, by `sides-alike`, `faces-alike` ·
+-- `records-by-degree` V is the sum of the records by degree · `counts-alone` two tables in order with the same look-ups have the same counts: they turn
+-- on the records alone, not on their slots.
 -- Assumes nothing.
+pub use Rattle.counts.specs.SameLaws.{side-same, side-self, swap-right, same-sides, sides-alike, faces-alike}
+pub use Rattle.counts.specs.SetLaws.{Alike, different-set}
 pub use Rattle.counts.specs.AloneLaws.{counts-alone}
 use mathlib.Core.Path.{_≡_, refl}
 use mathlib.Core.List.{List}
