@@ -21,5 +21,7 @@ pub mod Census
 pub mod Returns
 -- document 02's ticket 1: the findings list joined
 pub mod Findings
+-- document 02's ticket 3: what a search tells
+pub mod Search
 -- the starred examples
 pub mod Starred

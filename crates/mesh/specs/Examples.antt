@@ -1,4 +1,5 @@
--- How many free slots a subdivision of "Three" needs, computed from the definitions. Document 01's starred examples are in `demands`.
+-- How many free slots a subdivision of "Three" needs, and where its new vertices would go, computed from the definitions. Document 01's starred
+-- examples are in `demands`.
 -- Assumes nothing.
 use mathlib.Core.Path.{_≡_, refl}
 use mathlib.Core.List.{List, [], _∷_}
@@ -9,11 +10,12 @@ use Rattle.laws.specs.Words.{wordAt}
 use Rattle.base.specs.Base.{listedIn, firstBad, internal, cornerRecord, hexagonOf, layHexagon, layAll, laidOf, baseOf}
 use Rattle.lattice.specs.Patterns.{rowsOf, patternOf, orient}
 use Rattle.lattice.specs.Subdivision.{updateOf, acceptsOf}
-use Rattle.lattice.specs.Points.{normalOf, turns}
+use Rattle.lattice.specs.Points.{pt, normalOf, turns}
 use Rattle.table.specs.Search.{homeOf, samePoint, searchFrom, findOf}
 use Rattle.table.specs.Entries.{lookUp, enterOf, replaceOf}
 use Rattle.table.specs.Order.{placedAt, allPlaced, inOrderOf}
 use Rattle.table.specs.Slots.{slotWidth, slotsIn, freeAt, recordAt, slotAt, recordBytes, putSlot, freeBelow}
+use Rattle.table.specs.declared.probe.Found.the-variants as found
 use Rattle.mesh.specs.Subdivide.{torn, tooDeep, renewedTo, enteredTo, subdivided, subdivideOf}
 
 three : ℕ → List ℕ
@@ -28,3 +30,12 @@ unfolding three subdivideOf subdivided torn tooDeep renewedTo enteredTo updateOf
     cornerRecord internal listedIn normalOf turns orient patternOf rowsOf inOrderOf allPlaced placedAt lookUp enterOf replaceOf findOf searchFrom
     slotAt freeAt recordAt putSlot recordBytes slotsIn homeOf samePoint wordAt freeBelow
 refusals = (refl, refl, refl)
+
+-- the searches for three of the six new points of [1, 0, 0] stop at one slot: each slot told serves one of them only
+one-slot :
+    (findOf (three 22) (pt (pos 1) (pos 1) 1) ≡ found.Free 15)
+    × (findOf (three 22) (pt (pos 2) (negsuc 0) 1) ≡ found.Free 15)
+    × (findOf (three 22) (pt (pos 5) (negsuc 0) 1) ≡ found.Free 15)
+unfolding three baseOf firstBad laidOf layAll layHexagon hexagonOf cornerRecord internal listedIn enterOf findOf searchFrom slotAt freeAt recordAt
+    putSlot recordBytes slotsIn homeOf samePoint wordAt normalOf turns
+one-slot = (refl, refl, refl)

@@ -3,7 +3,8 @@ pub mod Subdivide
 pub mod Grown
 pub mod Examples
 -- what the promises of the functions below cite besides
-pub mod Points
+pub mod Met
+pub mod MetLaws
 -- what they obey
 pub mod SubdivideLaws
 pub mod WriteLaws

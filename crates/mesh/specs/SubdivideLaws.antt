@@ -21,7 +21,8 @@ use Rattle.lattice.specs.Records.{validOf}
 use Rattle.geometry.specs.SubdivisionLaws.{Sited, sited, centre-valid, update-valid, new-valid}
 use Rattle.table.specs.Entries.{lookUp, replaceOf, enterOf}
 use Rattle.table.specs.MapLaws.{room, lookup-point, lookup-valid, replace-order, replace-finds, replace-keeps, replace-free, enter-order, enter-finds}
-use Rattle.table.specs.MapLaws.{enter-keeps, enter-free}
+use Rattle.table.specs.MapLaws.{enter-keeps, enter-free, replace-find}
+use Rattle.table.specs.Search.{findOf}
 use Rattle.table.specs.Order.{InOrder}
 use Rattle.table.specs.Slots.{freeSlots}
 use Rattle.lattice.specs.declared.points.Point.{Point}
@@ -145,6 +146,7 @@ module _ (t : List ℕ) (v : Record) (w : Intact t v) where
         → lookUp (renewedTo t₁ v j) (adjacentAt v i) ≡ Held (updateOf (backOf (v .k) i) u)
     pub rest : (p : Point) → ((i : ℕ) → i < j → p ≡ adjacentAt v i → ⊥) → lookUp (renewedTo t₁ v j) p ≡ lookUp t₁ p
     pub free : freeSlots (renewedTo t₁ v j) ≡ freeSlots t
+    pub find : (p : Point) → findOf (renewedTo t₁ v j) p ≡ findOf t p
 
   -- one more: it is the record put in place
   renew-put : (j : ℕ) (h : j < 6) → Renewed j → renewedTo t₁ v (suc j) ≡ replaceOf (renewedTo t₁ v j) (renewal j h)
@@ -165,6 +167,7 @@ module _ (t : List ℕ) (v : Record) (w : Intact t v) where
         done = λ i l u q. absurd (omega arith);
         rest = λ p f. ap (λ (u : List ℕ). lookUp u p) renew-none;
         free = ap freeSlots renew-none ∙ replace-free t o (centreOf v) centre-good;
+        find = λ p. ap (λ (u : List ℕ). findOf u p) renew-none ∙ replace-find t o (centreOf v) centre-good p;
       }
 
   more : (j : ℕ) → j < 6 → Renewed j → Renewed (suc j)
@@ -183,6 +186,7 @@ module _ (t : List ℕ) (v : Record) (w : Intact t v) where
         done = λ i l y q. finished i l y q (ℕ-discrete i j) kept;
         rest = λ p f. kept p (f j (omega arith)) ∙ r .rest p (λ i l. f i (omega arith));
         free = ap freeSlots e ∙ replace-free u (r .order) x g ∙ r .free;
+        find = λ p. ap (λ (s : List ℕ). findOf s p) e ∙ replace-find u (r .order) x g p ∙ r .find p;
       }
     where
       this : (y : Record) → lookUp t (adjacentAt v j) ≡ Held y → lookUp (renewedTo t₁ v (suc j)) (adjacentAt v j) ≡ Held (updateOf (backOf (v .k) j) y)

@@ -7,11 +7,12 @@ ghost use Rattle.table.specs.Slots.{Table, freeSlots};
 ghost use Rattle.table.specs.Order.{inOrderOf};
 ghost use Rattle.mesh.specs.Subdivide.{subdivideVertex, subdivideOf, subdivideTriple, subdivideAllOf};
 ghost use Rattle.mesh.specs.WriteLaws.{Standing};
+ghost use Rattle.mesh.specs.Met.{InSlot};
 use crate::checks::adjacents_fit;
 use crate::checks::all_absent;
 use crate::checks::none_deeper;
-use crate::points::points_of;
 use crate::writes::divide;
+use lattice::ANSWER_NUMBERS;
 use lattice::DONE;
 use lattice::LAST_LEVEL;
 use lattice::NO_RECORD;
@@ -22,14 +23,18 @@ use lattice::Record;
 use lattice::TOO_DEEP;
 use lattice::TORN;
 use lattice::centre;
+use lattice::normalise;
+use lattice::ring;
+use table::Found;
 use table::Looked;
 use table::check_order;
-use table::look_up_request;
+use table::find;
+use table::held_in;
 use table::slots_of;
 
-// The subdivision of a vertex of a table in order, of whose slots so many are free: 4, 5, 6, 7, 8 in this order, or done.
-fn subdivide_vertex(t: &mut [u8], v: Record, n: usize, free: usize) -> u8
-    requires { ⌜ Table (now t) n × (Standing (now t) v × (free ≡ freeSlots (now t))) ⌝ }
+// The subdivision of the vertex v, which stands in slot i of a table in order, of whose slots so many are free: 4, 5, 6, 7, 8 in this order, or done.
+fn subdivide_vertex(t: &mut [u8], v: Record, i: usize, n: usize, free: usize) -> u8
+    requires { ⌜ Table (now t) n × (Standing (now t) v × (InSlot (now t) v i × (free ≡ freeSlots (now t)))) ⌝ }
     ensures { λ r. ⌜ r ≡ subdivideVertex (now (t .entry)) v .number ⌝ }
     ensures { λ r. ⌜ now (t .exit) ≡ subdivideVertex (now (t .entry)) v .bytes ⌝ }
 {
@@ -42,21 +47,25 @@ fn subdivide_vertex(t: &mut [u8], v: Record, n: usize, free: usize) -> u8
         return LAST_LEVEL;
     }
     let c = centre(v);
-    let new = points_of(c);
-    if !none_deeper(new) {
+    let mut new = [0; ANSWER_NUMBERS];
+    ring(&mut new, c);
+    if !none_deeper(c, &new) {
         return TOO_DEEP;
     }
-    let old = points_of(v);
-    if !adjacents_fit(t, v, old, n) {
+    let mut old = [0; ANSWER_NUMBERS];
+    ring(&mut old, v);
+    let mut stand = [0; 6];
+    if !adjacents_fit(t, v, &old, n, &mut stand) {
         return TORN;
     }
-    if !all_absent(t, new, n) {
+    let mut told = [0; 6];
+    if !all_absent(t, c, &new, n, &mut told) {
         return TORN;
     }
     if free < 6 {
         return NO_ROOM;
     }
-    divide(t, v, old, new, n);
+    divide(t, v, i, &stand, &new, &told, n);
     DONE
 }
 
@@ -66,10 +75,13 @@ fn subdivide_ordered(t: &mut [u8], a: i32, b: i32, m: u8, n: usize, free: usize)
     ensures { λ r. ⌜ r ≡ subdivideOf (now (t .entry)) a b m .number ⌝ }
     ensures { λ r. ⌜ now (t .exit) ≡ subdivideOf (now (t .entry)) a b m .bytes ⌝ }
 {
-    let l = look_up_request(t, a, b, m, n);
-    match l {
-        Looked::Absent => NO_RECORD,
-        Looked::Held(v) => subdivide_vertex(t, v, n, free),
+    match find(t, normalise(a, b, m), n) {
+        Found::At(i) => match held_in(t, i) {
+            Looked::Absent => NO_RECORD,
+            Looked::Held(v) => subdivide_vertex(t, v, i, n, free),
+        },
+        Found::Free(_) => NO_RECORD,
+        Found::Full => NO_RECORD,
     }
 }
 

@@ -1,75 +1,103 @@
-// Whether a subdivision would tear the mesh, or make a point too deep.
+// Whether a subdivision would tear the mesh, or make a point too deep; and the slots that its searches met.
 ghost use mathlib.Core.Path.{_≡_};
-ghost use mathlib.Core.Bool.{not};
-ghost use Prim.Native.Nat.{_≤_, _<_};
+ghost use mathlib.Core.Bool.{true, not};
+ghost use Prim.Native.Nat.{_<_};
 ghost use lib.Dec.{leb};
+ghost use lib.ListN.{length};
 ghost use Rattle.laws.specs.Rules.{upto};
-ghost use Rattle.lattice.specs.Stars.{adjacentAt};
-ghost use Rattle.table.specs.Slots.{Table};
-ghost use Rattle.table.specs.Entries.{holds};
-ghost use Rattle.mesh.specs.Subdivide.{adjacentFits};
+ghost use Rattle.lattice.specs.AnswerRows.{answerNumbers};
+ghost use Rattle.lattice.specs.RecordLaws.{Inner};
+ghost use Rattle.lattice.specs.Stars.{adjacentAt, given};
+ghost use Rattle.table.specs.Slots.{Table, slotsOf, slotAt, freeSlots};
+ghost use Rattle.table.specs.Entries.{heldIn, holds};
+ghost use Rattle.mesh.specs.Subdivide.{fitsAt, adjacentFits};
 ghost use Rattle.mesh.specs.SubdivideLaws.{Ready};
-ghost use Rattle.mesh.specs.Points.{pointsOf, pointAt};
-use lattice::Point;
+ghost use Rattle.mesh.specs.Met.{OldIn, StoppedAt};
+use lattice::ANSWER_NUMBERS;
 use lattice::Record;
 use lattice::accepts;
 use lattice::back;
+use lattice::point_at;
+use table::Found;
 use table::Looked;
-use table::is_there;
-use table::look_up;
+use table::find;
+use table::held_in;
 
-// The old adjacent vertex at place j is there and its rule applies.
-fn adjacent_fits(t: &[u8], v: Record, p: Point, j: u8, n: usize) -> bool
-    requires { ⌜ Table (now t) n × (Ready (now t) v × ((j < 6) × (p ≡ adjacentAt v j))) ⌝ }
-    ensures { λ r. ⌜ r ≡ adjacentFits (now (t .entry)) v j ⌝ }
+// The rule of the old adjacent vertex at place j, which stands in slot i, applies.
+fn fits_in(t: &[u8], v: Record, j: u8, i: usize) -> bool
+    requires { ⌜ Ready (now t) v × ((j < 6) × (i < slotsOf (now t))) ⌝ }
+    ensures { λ r. ⌜ r ≡ fitsAt v j (heldIn (slotAt (now (t .entry)) i)) ⌝ }
 {
-    let k = v.k;
     let level = v.n;
-    let l = look_up(t, p, n);
-    match l {
+    match held_in(t, i) {
         Looked::Absent => false,
-        Looked::Held(u) => accepts(back(k, j), level, u),
+        Looked::Held(u) => accepts(back(v.k, j), level, u),
     }
 }
 
-// So it is with all six.
-pub fn adjacents_fit(t: &[u8], v: Record, old: [Point; 6], n: usize) -> bool
-    requires { ⌜ Table (now t) n × (Ready (now t) v × (old ≡ pointsOf v)) ⌝ }
+// All six old adjacent vertices are there and their rules apply: then their slots are kept.
+pub fn adjacents_fit(
+    t: &[u8],
+    v: Record,
+    old: &[i32; ANSWER_NUMBERS],
+    n: usize,
+    slots: &mut [usize; 6],
+) -> bool
+    requires { ⌜ Table (now t) n × (Ready (now t) v × (now old ≡ answerNumbers (given v))) ⌝ }
+    requires { ⌜ length (now slots) ≡ 6 ⌝ }
     ensures { λ r. ⌜ r ≡ upto 6 (adjacentFits (now (t .entry)) v) ⌝ }
+    ensures { λ r. ⌜ (r ≡ true → OldIn (now (t .entry)) v (now (slots .exit)) 6) ⌝ }
 {
     let mut j: u8 = 0;
     while j < 6 {
-        if adjacent_fits(t, v, old[j as usize], j, n) {
-            j += 1;
-        } else {
-            return false;
-        }
-    }
-    true
-}
-
-// No vertex stands at any of six points.
-pub fn all_absent(t: &[u8], new: [Point; 6], n: usize) -> bool
-    requires { ⌜ Table (now t) n ⌝ }
-    ensures { λ r. ⌜ r ≡ upto 6 (λ j. not (holds (now (t .entry)) (pointAt new j))) ⌝ }
-{
-    let mut j: u8 = 0;
-    while j < 6 {
-        if is_there(t, new[j as usize], n) {
-            return false;
+        match find(t, point_at(old, v, j), n) {
+            Found::At(i) => {
+                if !fits_in(t, v, j, i) {
+                    return false;
+                }
+                slots[j as usize] = i;
+            }
+            Found::Free(_) => return false,
+            Found::Full => return false,
         }
         j += 1;
     }
     true
 }
 
-// None of six points is deeper than 6.
-pub fn none_deeper(new: [Point; 6]) -> bool
-    ensures { λ r. ⌜ r ≡ upto 6 (λ j. leb (pointAt new j .m .0) 6) ⌝ }
+// No vertex stands at any point of the star of c: then the free slots where the searches ended are kept.
+pub fn all_absent(
+    t: &[u8],
+    c: Record,
+    new: &[i32; ANSWER_NUMBERS],
+    n: usize,
+    slots: &mut [usize; 6],
+) -> bool
+    requires { ⌜ Table (now t) n × (Inner c × ((c .d ≡ 6) × (now new ≡ answerNumbers (given c)))) ⌝ }
+    requires { ⌜ length (now slots) ≡ 6 ⌝ }
+    ensures { λ r. ⌜ r ≡ upto 6 (λ j. not (holds (now (t .entry)) (adjacentAt c j))) ⌝ }
+    ensures { λ r. ⌜ (r ≡ true → 0 < freeSlots (now (t .entry)) → StoppedAt (now (t .entry)) c (now (slots .exit)) 6) ⌝ }
 {
     let mut j: u8 = 0;
     while j < 6 {
-        let p = new[j as usize];
+        match find(t, point_at(new, c, j), n) {
+            Found::At(_) => return false,
+            Found::Free(i) => slots[j as usize] = i,
+            Found::Full => {}
+        }
+        j += 1;
+    }
+    true
+}
+
+// No point of the star of c is deeper than 6.
+pub fn none_deeper(c: Record, new: &[i32; ANSWER_NUMBERS]) -> bool
+    requires { ⌜ Inner c × ((c .d ≡ 6) × (now new ≡ answerNumbers (given c))) ⌝ }
+    ensures { λ r. ⌜ r ≡ upto 6 (λ j. leb (adjacentAt c j .m .0) 6) ⌝ }
+{
+    let mut j: u8 = 0;
+    while j < 6 {
+        let p = point_at(new, c, j);
         if p.m.0 <= 6 {
             j += 1;
         } else {

@@ -85,9 +85,9 @@ pub record From (f : List ℕ) (p : ℕ) (q : Option Record) (t : List ℕ) (rs 
   pub count : length (recordsOf u) ≡ length (recordsOf t) + length rs
 
 -- that, where no line was at fault
-abbrev pub Told : List ℕ → ℕ → Option Record → List ℕ → Lines → Type 0
-Told f p q t (Read rs u) = From f p q t rs u
-Told f p q t (Fault number line) = Unit
+abbrev pub ReadAs : List ℕ → ℕ → Option Record → List ℕ → Lines → Type 0
+ReadAs f p q t (Read rs u) = From f p q t rs u
+ReadAs f p q t (Fault number line) = Unit
 
 -- no line is met at the end of the file only
 end-line : (f : List ℕ) (p : ℕ) → lineAt f p ≡ End → length f ≤ p
@@ -182,21 +182,21 @@ module _ (t : List ℕ) (o : InOrder t) (q : Option Record) (low : Below t q) (r
 -- ---- what was read
 
 pub lines-told : (f : List ℕ) (left p i : ℕ) (q : Option Record) (t : List ℕ) → InOrder t → Sound q → Below t q → length f ≤ p + left
-    → Told f p q t (linesFrom f left p i q t)
+    → ReadAs f p q t (linesFrom f left p i q t)
 unfolding linesFrom
 lines-told f zero p i q t o s low h = from-end f p q t o (omega arith)
 lines-told f (suc left) p i q t o s low h = go (lineAt f p) refl (λ r next. lines-told f left next (i + 1) (some r) (enterOf t r))
   where
     with-it : (r : Record) (next : ℕ) (ok : validOf r ≡ true) (high : bound q ≤ orderOf (r .at)) (free : 0 < freeSlots t) → lineAt f p ≡ Good r next
-        → (x : Lines) → Told f next (some r) (enterOf t r) x → Told f p q t (after r x)
+        → (x : Lines) → ReadAs f next (some r) (enterOf t r) x → ReadAs f p q t (after r x)
     with-it r next ok high free e (Fault number line) w = tt
     with-it r next ok high free e (Read rs u) w = line-from t o q low r ok high free f p next rs u e w
 
     judge : (r : Record) (next : ℕ) → lineAt f p ≡ Good r next
         → (InOrder (enterOf t r) → Sound (some r) → Below (enterOf t r) (some r) → length f ≤ next + left
-        → Told f next (some r) (enterOf t r) (linesFrom f left next (i + 1) (some r) (enterOf t r)))
+        → ReadAs f next (some r) (enterOf t r) (linesFrom f left next (i + 1) (some r) (enterOf t r)))
         → (a b : Bool) → above q r ≡ a → noSlot (findOf t (r .at)) ≡ b
-        → Told f p q t (cond a (cond b (Fault 8 i) (after r (linesFrom f left next (i + 1) (some r) (enterOf t r)))) (Fault 10 i))
+        → ReadAs f p q t (cond a (cond b (Fault 8 i) (after r (linesFrom f left next (i + 1) (some r) (enterOf t r)))) (Fault 10 i))
     judge r next e ih false b x y = tt
     judge r next e ih true true x y = tt
     judge r next e ih true false x y =
@@ -209,8 +209,8 @@ lines-told f (suc left) p i q t o s low h = go (lineAt f p) refl (λ r next. lin
 
     go : (l : Line) → lineAt f p ≡ l
         → ((r : Record) (next : ℕ) → InOrder (enterOf t r) → Sound (some r) → Below (enterOf t r) (some r) → length f ≤ next + left
-        → Told f next (some r) (enterOf t r) (linesFrom f left next (i + 1) (some r) (enterOf t r)))
-        → Told f p q t (lineRead i q t (λ r next. linesFrom f left next (i + 1) (some r) (enterOf t r)) l)
+        → ReadAs f next (some r) (enterOf t r) (linesFrom f left next (i + 1) (some r) (enterOf t r)))
+        → ReadAs f p q t (lineRead i q t (λ r next. linesFrom f left next (i + 1) (some r) (enterOf t r)) l)
     go End e ih = from-end f p q t o (end-line f p e)
     go Bad e ih = tt
     go (Good r next) e ih = judge r next e (ih r next) (above q r) (noSlot (findOf t (r .at))) refl refl
@@ -285,7 +285,7 @@ module _ (t : List ℕ) (n : ℕ) (w : Table t n) where
   -- what a file that was read is
   pub read-lines : (f : List ℕ) (rs : List Record) (u : List ℕ) → readLines f (clearedOf t) ≡ Read rs u → Lined f n rs u
   read-lines f rs u e =
-      let x : From f 0 none (clearedOf t) rs u = subst (Told f 0 none (clearedOf t)) e
+      let x : From f 0 none (clearedOf t) rs u = subst (ReadAs f 0 none (clearedOf t)) e
       (lines-told f (length f) 0 1 none (clearedOf t) (clear-order t fits) tt nothing (omega arith)) in
       record {
         text = x .text;

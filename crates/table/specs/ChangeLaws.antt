@@ -16,6 +16,7 @@ use Rattle.lattice.specs.declared.records.Record.{Record}
 use Rattle.table.specs.Slots.{isFree, freeBelow}
 use Rattle.table.specs.Search.{homeOf, samePoint, meets, searchFrom, seek}
 use Rattle.table.specs.Order.{steps, EachValid, NoneTwice}
+use Rattle.table.specs.SearchLaws.{holds-eq, free-holds}
 use Rattle.table.specs.OrderLaws.{Gaps, free-at, free-far, Ordered, Far, far, nearer, present}
 use Rattle.table.specs.declared.slots.Slot.{Slot}
 use Rattle.table.specs.declared.slots.Slot.the-variants.{Free, Holds}
@@ -28,12 +29,6 @@ pub record Stands (n : ℕ) (f : ℕ → Slot) (r : Record) : Type 0 where
   pub slot : ℕ
   pub below : slot < n
   pub holds : f slot ≡ Holds r
-
-held-eq : (a b : Record) → Holds a ≡ Holds b → a ≡ b
-held-eq a b e = cc
-
-free-held : {A : Type 0} (r : Record) {s : Slot} → s ≡ Free → s ≡ Holds r → A
-free-held r e h = absurd (let z : _≡_ {A = ℕ} 0 1 = cc in omega arith)
 
 module _ (n : ℕ) (some : 0 < n) (f g : ℕ → Slot) (j : ℕ) (old : (i : ℕ) → (i ≡ j → ⊥) → g i ≡ f i) where
   -- a slot of g: slot j, or one of f's
@@ -50,18 +45,18 @@ module _ (n : ℕ) (some : 0 < n) (f g : ℕ → Slot) (j : ℕ) (old : (i : ℕ
 
   module _ (r : Record) (new : g j ≡ Holds r) where
     at-j : (i : ℕ) (q : Record) → i ≡ j → g i ≡ Holds q → q ≡ r
-    at-j i q e h = held-eq q r (sym h ∙ ap g e ∙ new)
+    at-j i q e h = holds-eq q r (sym h ∙ ap g e ∙ new)
 
     -- a free slot of g is a free one of f, and not slot j
     free-was : (s : ℕ) → g s ≡ Free → f s ≡ Free
     free-was s e = go (which s)
       where
         go : Which s → f s ≡ Free
-        go (it x) = free-held r (ap g (sym x) ∙ e) new
+        go (it x) = free-holds r (ap g (sym x) ∙ e) new
         go (not-it x z) = sym z ∙ e
 
     free-not-j : (s : ℕ) → g s ≡ Free → s ≡ j → ⊥
-    free-not-j s e x = free-held r (ap g (sym x) ∙ e) new
+    free-not-j s e x = free-holds r (ap g (sym x) ∙ e) new
 
     valid-kept : EachValid n f → validOf r ≡ true → EachValid n g
     valid-kept v ok i q hi e = go (which i)
@@ -111,7 +106,7 @@ module _ (n : ℕ) (some : 0 < n) (f g : ℕ → Slot) (j : ℕ) (old : (i : ℕ
       enter-stands q s = go (which (s .slot))
         where
           go : Which (s .slot) → Stands n g q
-          go (it x) = free-held q (G .free) (ap f (sym x) ∙ s .holds)
+          go (it x) = free-holds q (G .free) (ap f (sym x) ∙ s .holds)
           go (not-it x z) = record { slot = s .slot; below = s .below; holds = z ∙ s .holds }
 
       pub enter-old : (q : Record) → (q .at ≡ r .at → ⊥) → Stands n g q → Stands n f q
@@ -167,7 +162,7 @@ module _ (n : ℕ) (some : 0 < n) (f g : ℕ → Slot) (j : ℕ) (old : (i : ℕ
       replace-stands q ne s = go (which (s .slot))
         where
           go : Which (s .slot) → Stands n g q
-          go (it x) = absurd (ne (ap (λ (u : Record). u .at) (held-eq q was (sym (s .holds) ∙ ap f x ∙ held)) ∙ sym same))
+          go (it x) = absurd (ne (ap (λ (u : Record). u .at) (holds-eq q was (sym (s .holds) ∙ ap f x ∙ held)) ∙ sym same))
           go (not-it x z) = record { slot = s .slot; below = s .below; holds = z ∙ s .holds }
 
       pub replace-old : (q : Record) → (q .at ≡ r .at → ⊥) → Stands n g q → Stands n f q

@@ -1,7 +1,8 @@
--- Document 01, "Table in memory", in antt: Slots, Search, Order, Entries, and examples that compute.
+-- Document 01, "Table in memory", in antt: Slots, Search, Order, Entries, and examples that compute; Told is document 02, ticket 3.
 pub mod Slots
 pub mod Search
 pub mod Order
+pub mod Told
 pub mod Entries
 pub mod Ranges
 pub mod Examples

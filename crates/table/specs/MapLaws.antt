@@ -6,7 +6,9 @@
 --               `lookup-same` two tables that hold the same at a point
 -- A search      `Searched`, `searched` its three ends, each with what it says of the map and of the free slots ·
 --               `at-held`, `at-free`, `at-full` the same, by where it ended · `find-held`, `find-free`, `find-full` where it ends, by what the
---               map holds: at a free slot exactly where the point is absent and a slot is free
+--               map holds: at a free slot exactly where the point is absent and a slot is free · `find-told` what it tells (Told) ·
+--               `resumed` it goes on from the slot told · `enter-reaches` it comes as far as it came when a record has entered, since
+--               slots only fill (`enter-fills`)
 -- Entering      `enter-order`, `enter-finds`, `enter-keeps`, `enter-free`, `enter-records` · `enter-there`, `enter-full` nothing changes ·
 --               `enter-length` · `put-enter`
 -- Replacing     `replace-order`, `replace-finds`, `replace-keeps`, `replace-free`, `replace-find` · `replace-length`, `replace-table` · `put-replace`
@@ -23,6 +25,7 @@ pub use Rattle.table.specs.LookLaws.{outside-absent, held-inside, lookup
 pub use Rattle.table.specs.LookLaws.{Searched, there, room, full, searched, AtHeld, AtFree, at-held, at-free, at-full}
 pub use Rattle.table.specs.LookLaws.{find-held, find-free, find-full}
 pub use Rattle.table.specs.PutLaws.{enter-order, enter-finds, enter-keeps, enter-free, enter-there, enter-full, enter-length, put-enter}
+pub use Rattle.table.specs.PutLaws.{enter-fills, enter-reaches}
 pub use Rattle.table.specs.PutLaws.{replace-order, replace-finds, replace-keeps, replace-free, replace-find, replace-length, replace-table, put-replace}
 pub use Rattle.table.specs.PutLaws.{clear-order, clear-absent, clear-free, clear-length, clear-table}
 pub use Rattle.table.specs.AllLaws.{records-none, records-more, records-looked, looked-records, records-apart, records-count, records-same}
@@ -30,6 +33,6 @@ pub use Rattle.table.specs.AllLaws.{empty-absent, enter-records}
 pub use Rattle.table.specs.SearchLaws.{same-or-not, same-refl, same-true}
 pub use Rattle.table.specs.SlotLaws.{slots-table, table-slots, table-same}
 pub use Rattle.table.specs.OrderLaws.{order-test, test-order}
-pub use Rattle.table.specs.EntryLaws.{at-room, free-room}
+pub use Rattle.table.specs.EntryLaws.{at-room, free-room, find-told, resumed}
 pub use Rattle.table.specs.WriteLaws.{StandsIn, table-of}
 pub use Rattle.table.specs.RecordLaws.{Apart}

@@ -13,7 +13,9 @@ use Rattle.table.specs.Slots.{Table, slotsIn, slotsOf, slotAt, putSlot, 
 use Rattle.table.specs.Search.{findOf}
 use Rattle.table.specs.Order.{InOrder}
 use Rattle.table.specs.Entries.{lookUp, enterAt, enterOf, replaceAt, replaceOf}
-use Rattle.table.specs.SlotLaws.{put-length, cleared-free, table-same}
+use Rattle.table.specs.Told.{ComesTo, Reaches, Fills}
+use Rattle.table.specs.SlotLaws.{put-length, put-other, cleared-free, table-same}
+use Rattle.table.specs.SearchLaws.{free-holds, comes-filled}
 use Rattle.table.specs.ChangeLaws.{count-all}
 use Rattle.table.specs.declared.slots.Slot.the-variants.{Free, Holds}
 use Rattle.table.specs.declared.probe.Found.{Found}
@@ -55,6 +57,27 @@ module _ (t : List ℕ) (w : Table t (slotsOf t)) (r : Record) where
       go (there i q e l s a k) = stays t r (found.At i) e refl
       go (room i e l s a k) = absurd (omega arith)
       go (full e a k) = stays t r found.Full e refl
+
+  -- no slot that holds a record changes, so a search comes as far as it came
+  unchanged : (u : List ℕ) → u ≡ t → Fills (slotsOf t) (slotAt t) (slotAt u)
+  unchanged u e s q l h = (q, ap (λ (x : List ℕ). slotAt x s) e ∙ h, refl)
+
+  pub enter-fills : Fills (slotsOf t) (slotAt t) (slotAt (enterOf t r))
+  enter-fills = go (searched t w (r .at))
+    where
+      apart : (i s : ℕ) (q : Record) → slotAt t i ≡ Free → slotAt t s ≡ Holds q → s ≡ i → ⊥
+      apart i s q f h e = free-holds q (ap (slotAt t) e ∙ f) h
+
+      go : Searched t (r .at) → Fills (slotsOf t) (slotAt t) (slotAt (enterOf t r))
+      go (there i q e l s a k) = unchanged (enterOf t r) (stays t r (found.At i) e refl)
+      go (room i e l f a k) =
+          λ s q m h. (q, ap (λ (u : List ℕ). slotAt u s) (sym (put-enter t r i e)) ∙ put-other t i r (omega (arith, w .long)) s (apart i s q f h) ∙ h, refl)
+      go (full e a k) = unchanged (enterOf t r) (stays t r found.Full e refl)
+
+  pub enter-reaches : (p : Point) (i : ℕ) → Reaches t p i → Reaches (enterOf t r) p i
+  enter-reaches p i c =
+      subst (λ (k : ℕ). ComesTo k (slotAt (enterOf t r)) p i) (sym (ap slotsIn (enter-length t r)))
+      (comes-filled (slotsOf t) (slotAt t) (slotAt (enterOf t r)) p i enter-fills c)
 
 -- ---- a record replaced
 

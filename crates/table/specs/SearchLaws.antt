@@ -1,7 +1,10 @@
 -- The laws of a search.
 -- `search-none`, `search-meets` one turn of the loop · `walk n i k` the slot k steps after slot i, `walk-steps`, `steps-walk` its inverse ·
 -- `search-found`, `search-full` where a search ends · `End`, `ends` how it can end · `same-refl`, `same-true`, `same-or-not` the test of two points ·
--- `Kind`, `kind`, `own-hit` what a slot is to a search.
+-- `Kind`, `kind`, `own-hit`, `holds-eq`, `free-holds`, `other-another` what a slot is to a search · `search-resumed` a search goes on from any slot that
+-- it comes to, `comes-filled` and it comes as far when slots have filled.
+-- Why a search may be resumed: all slots before the one it came to hold other points' records, so it passes them from home; and started there, once
+-- round, it sees them last, where they settle nothing. Slots that only fill leave them other points'.
 -- Assumes nothing.
 use mathlib.Core.Path.{_≡_, refl, sym, ap, _∙_}
 use mathlib.Core.Bool.{Bool, true, false, cond, _&&_}
@@ -16,8 +19,9 @@ use Rattle.laws.specs.Each.{both-left, both-right, not-both}
 use Rattle.lattice.specs.Points.{pt}
 use Rattle.lattice.specs.declared.points.Point.{Point}
 use Rattle.lattice.specs.declared.records.Record.{Record}
-use Rattle.table.specs.Search.{samePoint, meets, next, settle, searchFrom}
+use Rattle.table.specs.Search.{homeOf, samePoint, meets, next, settle, searchFrom, seek}
 use Rattle.table.specs.Order.{steps}
+use Rattle.table.specs.Told.{Another, ComesTo, Fills}
 use Rattle.table.specs.declared.slots.Slot.{Slot}
 use Rattle.table.specs.declared.slots.Slot.the-variants.{Free, Holds}
 use Rattle.table.specs.declared.probe.Meet.{Meet}
@@ -191,6 +195,121 @@ kind (Holds r) p = go (samePoint (r .at) p) refl
 
 pub own-hit : (c : Slot) (r : Record) → c ≡ Holds r → meets c (r .at) ≡ Hit
 own-hit c r e = ap (λ (x : Slot). meets x (r .at)) e ∙ ap (λ (b : Bool). cond b Hit Other) (same-refl (r .at))
+
+pub holds-eq : (a b : Record) → Holds a ≡ Holds b → a ≡ b
+holds-eq a b e = cc
+
+pub free-holds : {A : Type 0} (r : Record) {s : Slot} → s ≡ Free → s ≡ Holds r → A
+free-holds r e h = absurd (let z : _≡_ {A = ℕ} 0 1 = cc in omega arith)
+
+-- another point's record, in the words of the search and of Told
+another-other : (c : Slot) (p : Point) → Another c p → meets c p ≡ Other
+another-other c p a = go (kind c p)
+  where
+    go : Kind c p → meets c p ≡ Other
+    go (free e m) = free-holds (a .rec) e (a .holds)
+    go (own r e s m) = absurd (a .other (ap (λ (x : Record). x .at) (holds-eq (a .rec) r (sym (a .holds) ∙ e)) ∙ s))
+    go (alien r e m) = m
+
+pub other-another : (c : Slot) (p : Point) → meets c p ≡ Other → Another c p
+other-another c p h = go (kind c p)
+  where
+    go : Kind c p → Another c p
+    go (free e m) = absurd (let q : _≡_ {A = ℕ} 0 1 = cc in omega arith)
+    go (own r e s m) = absurd (let q : _≡_ {A = ℕ} 0 1 = cc in omega arith)
+    go (alien r e m) = record {
+      rec = r;
+      holds = e;
+      other =
+          λ s. let x : meets c p ≡ Hit = ap (meets c) (sym s) ∙ own-hit c r e in
+          let q : _≡_ {A = ℕ} 0 1 = cc in omega arith;
+    }
+
+-- ---- a search gone on with
+
+-- k slots of others are passed
+search-passes : (look : ℕ → Meet) (n k i left : ℕ) → i < n → k < n → k ≤ left → left ≤ n → Others look n i k
+    → searchFrom look n i left ≡ searchFrom look n (walk n i k) (left - k)
+search-passes look n zero i left hi hk hl hn os =
+    let e : left ≡ left - 0 = omega arith in
+    λ x. searchFrom look n (sym (walk-zero n i hi) x) (e x)
+search-passes look n (suc k) i left hi hk hl hn os =
+    let more : 0 < left = omega arith in
+    let here : look i ≡ Other = ap look (sym (walk-zero n i hi)) ∙ os 0 (omega arith) in
+    let k1 : k + 1 ≡ suc k = omega arith in
+    let room : k + 1 < n = omega arith in
+    let step : walk n (next n i) k ≡ walk n i (suc k) = walk-next n i hi k room ∙ ap (walk n i) k1 in
+    let e : left - 1 - k ≡ left - suc k = omega arith in
+    search-turn look n i left more ∙ ap (λ (m : Meet). settle m i (searchFrom look n (next n i) (left - 1))) here
+    ∙ search-passes look n k (next n i) (left - 1) (next-below n i hi) (omega arith) (omega arith) (omega arith)
+    (others-next look n i k hi (omega arith) (λ j hj. os j (omega arith)))
+    ∙ (λ x. searchFrom look n (step x) (e x))
+
+-- k slots of others at its end settle nothing
+search-longer : (look : ℕ → Meet) (n k left i : ℕ) → i < n → left + k ≤ n → ((j : ℕ) → left ≤ j → j < left + k → look (walk n i j) ≡ Other)
+    → searchFrom look n i left ≡ searchFrom look n i (left + k)
+search-longer look n k zero i hi hl os =
+    let e : k ≡ 0 + k = omega arith in
+    sym (search-none look n i 0 refl)
+    ∙ sym (search-full look n k i hi (omega arith) (λ j hj. os j (omega arith) (omega arith)))
+    ∙ ap (searchFrom look n i) e
+search-longer look n k (suc left) i hi hl os =
+    let a : suc left - 1 ≡ left = omega arith in
+    let b : left + k ≡ suc left + k - 1 = omega arith in
+    search-turn look n i (suc left) (omega arith)
+    ∙ ap (λ (x : Found). settle (look i) i x)
+    (ap (searchFrom look n (next n i)) a
+    ∙ search-longer look n k left (next n i) (next-below n i hi) (omega arith)
+    (λ j lo up. let m : j + 1 < n = omega arith in ap look (walk-next n i hi j m) ∙ os (j + 1) (omega arith) (omega arith))
+    ∙ ap (searchFrom look n (next n i)) b)
+    ∙ sym (search-turn look n i (suc left + k) (omega arith))
+
+-- a slot that comes after i only by wrapping past home lies before i on the way from home
+wrapped : (n h i j : ℕ) → h < n → i < n → j < n → n - steps n h i ≤ j → steps n h (walk n i j) < steps n h i
+wrapped n h i j hh hi hj l = by-lt i h below above
+  where
+    below : i < h → steps n h (walk n i j) < steps n h i
+    below m =
+        by-lt (i + j) n
+        (λ w. let b : h ≤ i + j = omega (arith, steps-hi n h i m) in
+        omega (arith, steps-hi n h i m, ap (steps n h) (walk-lo n i j w), steps-lo n h (i + j) b))
+        (λ w. let b : i + j - n < h = omega arith in
+        omega (arith, steps-hi n h i m, ap (steps n h) (walk-hi n i j w), steps-hi n h (i + j - n) b))
+
+    above : h ≤ i → steps n h (walk n i j) < steps n h i
+    above m =
+        let w : n ≤ i + j = omega (arith, steps-lo n h i m) in
+        let b : h ≤ i + j - n = omega (arith, steps-lo n h i m) in
+        omega (arith, steps-lo n h i m, ap (steps n h) (walk-hi n i j w), steps-lo n h (i + j - n) b)
+
+-- the search from home is the search that starts at a slot it comes to
+pub search-resumed : (n : ℕ) (f : ℕ → Slot) (p : Point) (i : ℕ) → homeOf p n < n → ComesTo n f p i → seek n f p ≡ searchFrom (λ s. meets (f s) p) n i n
+search-resumed n f p i inside c =
+    let h = homeOf p n in
+    let look : ℕ → Meet = λ s. meets (f s) p in
+    let k = steps n h i in
+    let kn : k < n = steps-below n h inside i (c .below) in
+    let top : n ≤ n = omega arith in
+    let others : Others look n h k = λ j l.
+    another-other (f (walk n h j)) p (c .before (walk n h j) (walk-below n h inside j (omega arith)) (omega (arith, steps-walk n h inside j (omega arith)))) in
+    let e : n - k + k ≡ n = omega arith in
+    search-passes look n k h n inside kn (omega arith) top others
+    ∙ ap (λ (x : ℕ). searchFrom look n x (n - k)) (walk-steps n h inside i (c .below))
+    ∙ search-longer look n k (n - k) i (c .below) (omega arith)
+    (λ j lo up. let m : j < n = omega arith in
+    another-other (f (walk n i j)) p (c .before (walk n i j) (walk-below n i (c .below) j m) (wrapped n h i j inside (c .below) m lo)))
+    ∙ ap (searchFrom look n i) e
+
+-- slots that have filled are passed still
+pub comes-filled : (n : ℕ) (f g : ℕ → Slot) (p : Point) (i : ℕ) → Fills n f g → ComesTo n f p i → ComesTo n g p i
+comes-filled n f g p i w c =
+    record {
+      below = c .below;
+      before =
+          λ s l m. let a = c .before s l m in
+          let b = w s (a .rec) l (a .holds) in
+          record { rec = b .0; holds = b .1; other = λ e. a .other (sym (b .2) ∙ e) };
+    }
 
 -- ---- how a search ends
 

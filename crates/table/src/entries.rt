@@ -1,13 +1,16 @@
-// The table as a map from points to records: looked up, entered, replaced.
+// The table as a map from points to records: looked up, entered.
 ghost use mathlib.Core.Path.{_≡_};
 ghost use Prim.Native.Nat.{_+_, _*_, _≤_};
 ghost use lib.ListN.{length};
 ghost use Rattle.lattice.specs.Points.{normalOf};
 ghost use Rattle.table.specs.Slots.{slotWidth, Table, slotAt};
 ghost use Rattle.table.specs.Search.{findOf};
-ghost use Rattle.table.specs.Entries.{heldIn, lookUp, holds, enterOf, replaceOf};
+ghost use Rattle.table.specs.Told.{Reaches};
+ghost use Rattle.table.specs.Entries.{heldIn, lookUp, holds, enterOf};
+use crate::home::home;
 use crate::probe::Found;
 use crate::probe::find;
+use crate::probe::find_from;
 use crate::slots::Slot;
 use crate::slots::read_slot;
 use crate::slots::write_slot;
@@ -68,34 +71,30 @@ pub fn look_up_request(t: &[u8], a: i32, b: i32, m: u8, n: usize) -> Looked
     look_up(t, p, n)
 }
 
+// Enters a record where the search for its point, which comes as far as slot i, ends. Where the point is there already, or no slot is free, nothing
+// changes.
+pub fn enter_from(t: &mut [u8], r: Record, i: usize, n: usize) -> Found
+    requires { ⌜ Table (now t) n × Reaches (now t) (r .at) i ⌝ }
+    ensures { λ f. ⌜ f ≡ findOf (now (t .entry)) (r .at) ⌝ }
+    ensures { λ f. ⌜ now (t .exit) ≡ enterOf (now (t .entry)) r ⌝ }
+{
+    let q = r.at;
+    let f = find_from(t, q, i, n);
+    match f {
+        Found::At(j) => Found::At(j),
+        Found::Free(j) => {
+            write_slot(t, j, r);
+            Found::Free(j)
+        }
+        Found::Full => Found::Full,
+    }
+}
+
 // Enters a record at the first free slot that the search for its point meets. Where the point is there already, or no slot is free, nothing changes.
 pub fn enter(t: &mut [u8], r: Record, n: usize) -> Found
     requires { ⌜ Table (now t) n ⌝ }
     ensures { λ f. ⌜ f ≡ findOf (now (t .entry)) (r .at) ⌝ }
     ensures { λ f. ⌜ now (t .exit) ≡ enterOf (now (t .entry)) r ⌝ }
 {
-    let q = r.at;
-    let f = find(t, q, n);
-    match f {
-        Found::At(i) => Found::At(i),
-        Found::Free(i) => {
-            write_slot(t, i, r);
-            Found::Free(i)
-        }
-        Found::Full => Found::Full,
-    }
-}
-
-// Puts a record in place of the one at its point. Where there is none, nothing changes.
-pub fn replace(t: &mut [u8], r: Record, n: usize)
-    requires { ⌜ Table (now t) n ⌝ }
-    ensures { λ _. ⌜ now (t .exit) ≡ replaceOf (now (t .entry)) r ⌝ }
-{
-    let q = r.at;
-    let f = find(t, q, n);
-    match f {
-        Found::At(i) => write_slot(t, i, r),
-        Found::Free(_) => {}
-        Found::Full => {}
-    }
+    enter_from(t, r, home(r.at, n), n)
 }

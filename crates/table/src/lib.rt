@@ -2,9 +2,10 @@
 //
 // A caller asks `in_order` whether the bytes are a table in order, or `check_order` also how many slots are free, and `slots_of` once for the
 // number of slots, which it hands on.
-// `find`, `look_up`, `look_up_request`, `is_there` and `held_in` read, `enter`, `replace`, `write_slot` and `clear` write, `read_slot` and
-// `free_slots` go through the slots.
-// The promises cite specs/: Slots, Search, Order, Entries. What follows from them, for whoever stands above, is specs/MapLaws.
+// `find`, `look_up`, `look_up_request`, `is_there` and `held_in` read, `enter`, `enter_from`, `write_slot` and `clear` write, `read_slot` and
+// `free_slots` go through the slots. A search tells the slot where it ended: a record is written there, and a search for the same point may go on
+// from there when others have entered.
+// The promises cite specs/: Slots, Search, Told, Order, Entries. What follows from them, for whoever stands above, is specs/MapLaws.
 mod bytes;
 mod entries;
 mod home;
@@ -16,11 +17,11 @@ pub use bytes::put_word;
 pub use bytes::word;
 pub use entries::Looked;
 pub use entries::enter;
+pub use entries::enter_from;
 pub use entries::held_in;
 pub use entries::is_there;
 pub use entries::look_up;
 pub use entries::look_up_request;
-pub use entries::replace;
 pub use order::Ordered;
 pub use order::check_order;
 pub use order::in_order;

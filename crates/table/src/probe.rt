@@ -3,7 +3,8 @@ ghost use mathlib.Core.Path.{_≡_};
 ghost use Prim.Native.Nat.{_+_, _*_, _≤_, _<_};
 ghost use lib.ListN.{length};
 ghost use Rattle.table.specs.Slots.{slotWidth, Table, slotAt};
-ghost use Rattle.table.specs.Search.{samePoint, meets, next, searchFrom, findOf};
+ghost use Rattle.table.specs.Search.{samePoint, meets, next, findOf};
+ghost use Rattle.table.specs.Told.{Reaches, Told};
 use crate::home::home;
 use crate::slots::Slot;
 use crate::slots::read_slot;
@@ -58,11 +59,11 @@ fn after(n: usize, i: usize) -> usize
     if j == n { 0 } else { j }
 }
 
-// From slot `start` on, once round the table, to the point or the first free slot.
-fn probe(t: &[u8], p: Point, start: usize, n: usize) -> Found
-    requires { ⌜ slotWidth * n ≤ length (now t) ⌝ }
-    requires { ⌜ start < n ⌝ }
-    ensures { λ r. ⌜ r ≡ searchFrom (λ i. meets (slotAt (now (t .entry)) i) p) n start n ⌝ }
+// The search for p, which comes as far as slot `start`, gone on with from there: once round the table, to the point or the first free slot.
+pub fn find_from(t: &[u8], p: Point, start: usize, n: usize) -> Found
+    requires { ⌜ Table (now t) n × Reaches (now t) p start ⌝ }
+    ensures { λ r. ⌜ r ≡ findOf (now (t .entry)) p ⌝ }
+    ensures { λ r. ⌜ Told (now (t .entry)) p r ⌝ }
 {
     let mut i = start;
     let mut left = n;
@@ -80,11 +81,12 @@ fn probe(t: &[u8], p: Point, start: usize, n: usize) -> Found
     }
 }
 
-// The search for p, in a table of n slots.
+// The search for p, in a table of n slots: where it ends, and what that tells.
 pub fn find(t: &[u8], p: Point, n: usize) -> Found
     requires { ⌜ Table (now t) n ⌝ }
     ensures { λ r. ⌜ r ≡ findOf (now (t .entry)) p ⌝ }
+    ensures { λ r. ⌜ Told (now (t .entry)) p r ⌝ }
 {
     let h = home(p, n);
-    probe(t, p, h, n)
+    find_from(t, p, h, n)
 }

@@ -6,7 +6,7 @@ const BARS: [(&str, f64); 11] = [
     ("lookup", 1.1),
     ("in-order test", 1.05),
     ("base", 1.0),
-    ("subdivide_all", 1.4),
+    ("subdivide_all", 0.85),
     ("neighbours", 1.1),
     ("faces", 1.1),
     ("write_", 1.15),

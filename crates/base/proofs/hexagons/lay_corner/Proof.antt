@@ -28,13 +28,13 @@ module _ (f : tie.After-find) where
   r = cornerRecord (inMarks (s .args .marks .now)) (s .args .q)
 
   ended : (o : Found) → f .find .result ≡ o → findOf t (r .at) ≡ o
-  ended o e = ap (findOf t) (corner-at (inMarks (s .args .marks .now)) (s .args .q)) ∙ sym (f .find .ensures) ∙ e
+  ended o e = ap (findOf t) (corner-at (inMarks (s .args .marks .now)) (s .args .q)) ∙ sym (f .find .ensures .0) ∙ e
 
 write-slot-requires : tie.Need-write-slot-requires
 write-slot-requires c κs =
     let k = c .before .before .before in
     let f = k .before .before in
-    free-room (t f) (s f .args .n) (s f .pre .0) (s f .args .q) (k .f .given .0 .0) (sym (f .find .ensures) ∙ k .f .given .1)
+    free-room (t f) (s f .args .n) (s f .pre .0) (s f .args .q) (k .f .given .0 .0) (sym (f .find .ensures .0) ∙ k .f .given .1)
 
 returns : tie.Need-returns
 returns c = let f = c .before .before in lay-at (t f) (r f) (found.At _) (ended f (found.At _) (c .enum-told .given .1))

@@ -1,55 +1,80 @@
--- `mesh::writes::renew_all` meets its promise. Assumes nothing.
-use mathlib.Core.Path.{_≡_, sym, _∙_, ap, subst}
+-- `mesh::writes::renew_all` meets its promise. The invariant: the old adjacent vertices so far are renewed. Assumes nothing.
+use mathlib.Core.Path.{_≡_, refl, sym, _∙_, ap, subst}
 use mathlib.Core.List.{List}
-use Prim.Native.Nat.{ℕ, _≤_, _-_}
+use Prim.Native.Nat.{ℕ, _≤_, _<_, _-_, _+_, _*_}
 use native.Mathlib.Omega.{arith}
-use lib.ListN.{length}
+use lib.ListN.{length, getD}
 use borrow.Author.Needs.{needs}
+use Rattle.lattice.specs.Stars.{adjacentAt}
+use Rattle.table.specs.Search.{findOf}
+use Rattle.table.specs.Slots.{slotWidth, slotsOf}
 use Rattle.table.specs.Order.{InOrder}
-use Rattle.table.specs.Slots.{Table}
+use Rattle.table.specs.MapLaws.{at-room}
+use Rattle.table.specs.declared.probe.Found.the-variants as found
 use Rattle.mesh.proofs.writes.renew_all.Statement.{statement}
-use Rattle.mesh.specs.WriteLaws.{renewed-more, renewed-none, renewed-length, renewed-table}
-use Rattle.mesh.specs.Subdivide.{renewOf, renewedTo}
-use Rattle.mesh.specs.Points.{points-at}
+use Rattle.mesh.specs.WriteLaws.{six-low, renewSlot, ByteLevel, found-low, renew-found, renewed-more, renewed-none, renewed-length}
+use Rattle.mesh.specs.Subdivide.{renewedTo}
 use Rattle.mesh.proofs.writes.renew_all.Tie as tie
 
 abbrev Inv-loop : tie.InvT-loop
-Inv-loop t₀ v n old j₀ t j = (j ≤ 6) × (t ≡ renewedTo t₀ v j)
+Inv-loop t₀ v slots j₀ t j = (j ≤ 6) × (t ≡ renewedTo t₀ v j)
 
 abbrev μ-loop : tie.MeasureT-loop
-μ-loop t₀ v n old j₀ t j = 6 - j
+μ-loop t₀ v slots j₀ t j = 6 - j
 
 loop-holds : tie.Need-loop-holds Inv-loop μ-loop
 loop-holds c = (search needs, renewed-none _ _)
 
-renew-requires : tie.Need-renew-requires Inv-loop μ-loop
-renew-requires c κs =
-    let h = c .before .before .loop-test .taken in
-    let l = c .before .before .before in
-    let s = l .before .before in
-    let r = s .pre .1 .0 in
-    let e = l .loop .inv .1 in (
-      subst (λ (u : List ℕ). Table u (s .args .n)) (sym e) (renewed-table (s .args .t .now) (s .args .v) (l .loop .j) (s .args .n) (s .pre .0)),
-      (
-        subst InOrder (sym e) (r .order (l .loop .j) (l .loop .inv .0)),
-        (r .inner, (r .six, (h, points-at (s .args .v) (l .loop .j) (s .pre .1 .1) h))),
-      ),
-    )
+back-requires : tie.Need-back-requires Inv-loop μ-loop
+back-requires c κs =
+    let i = c .before .before in
+    let r = i .before .before .before .pre .0 in
+    (six-low (r .inner) (r .six), search needs)
 
-add-j : tie.Need-add-j Inv-loop μ-loop
-add-j c = search needs
+-- the vertex at the place that the loop has come to stands where it was met
+module _ (l : tie.At-loop Inv-loop μ-loop) (h : l .loop .j < 6) where
+  abbrev s : tie.Start Inv-loop μ-loop
+  s = l .before .before
 
-loop-less : tie.Need-loop-less Inv-loop μ-loop
-loop-less c = search needs
+  abbrev u : List ℕ
+  u = renewedTo (s .args .t .now) (s .args .v) (l .loop .j)
+
+  abbrev slot : ℕ
+  slot = getD (s .args .slots .now) (l .loop .j) 0
+
+  met : findOf u (adjacentAt (s .args .v) (l .loop .j)) ≡ found.At slot
+  met = s .pre .0 .find (l .loop .j) (l .loop .inv .0) (adjacentAt (s .args .v) (l .loop .j)) ∙ s .pre .1 (l .loop .j) h
+
+  ordered : InOrder u
+  ordered = s .pre .0 .order (l .loop .j) (l .loop .inv .0)
+
+  room : (slotWidth * slot + slotWidth ≤ length u) × ByteLevel u slot
+  room =
+      let p = adjacentAt (s .args .v) (l .loop .j) in
+      (at-room u (slotsOf u) (ordered .fits) p slot met, found-low u ordered p slot met)
+
+renew-slot-requires : tie.Need-renew-slot-requires Inv-loop μ-loop
+renew-slot-requires c κs =
+    let i = c .before .before .before in
+    let l = i .before in
+    let h = i .loop-test .taken in
+    let r = subst (λ (x : List ℕ). (slotWidth * slot l h + slotWidth ≤ length x) × ByteLevel x (slot l h)) (sym (l .loop .inv .1)) (room l h) in
+    (r .0, (omega (arith, c .back .ensures), r .1))
 
 loop-again : tie.Need-loop-again Inv-loop μ-loop
 loop-again c =
     let w = c .before .before in
-    let l = w .before .before .before .before in
-    let s = l .before .before in (
+    let b = w .before in
+    let i = b .before .before .before in
+    let l = i .before in
+    let h = i .loop-test .taken in
+    let a = s l h .args in
+    let p = adjacentAt (a .v) (l .loop .j) in (
       search needs,
-      w .renew .ensures
-          ∙ ap (λ (u : List ℕ). renewOf u (s .args .v) (l .loop .j)) (l .loop .inv .1) ∙ renewed-more (s .args .t .now) (s .args .v) (l .loop .j),
+      w .renew-slot .ensures
+          ∙ (λ x. renewSlot (l .loop .inv .1 x) (slot l h) (b .back .ensures x))
+          ∙ renew-found (u l h) (ordered l h) p (a .v) (l .loop .j) refl (slot l h) (met l h)
+          ∙ renewed-more (a .t .now) (a .v) (l .loop .j),
     )
 
 same-length : tie.Need-same-length Inv-loop μ-loop
@@ -69,9 +94,10 @@ renew-all-spec =
     (λ c. search needs)
     (λ c. search needs)
     (λ c. search needs)
-    renew-requires
-    add-j
-    loop-less
+    back-requires
+    renew-slot-requires
+    (λ c. search needs)
+    (λ c. search needs)
     loop-again
     same-length
     returns)

@@ -16,7 +16,7 @@ st c = c .before .before .before .before
 
 -- where the search ended
 ends : (c : tie.After-find) (f : Found) → c .find .result ≡ f → findOf (st c .args .table .now) (st c .args .r .at) ≡ f
-ends c f e = sym (c .find .ensures) ∙ e
+ends c f e = sym (c .find .ensures .0) ∙ e
 
 write-slot-requires : tie.Need-write-slot-requires
 write-slot-requires c κs =

@@ -1,57 +1,13 @@
--- `table::enter` meets its promise: by where the search ended. Assumes nothing.
-use mathlib.Core.Path.{_≡_, ap, sym, _∙_}
+-- `table::enter` meets its promise: the search from the home slot, which every search comes to. Assumes nothing.
 use borrow.Author.Needs.{needs}
-use Rattle.table.specs.Entries.{enterAt, enterOf}
-use Rattle.table.specs.EntryLaws.{free-room}
-use Rattle.table.specs.declared.probe.Found.{Found}
-use Rattle.table.specs.declared.probe.Found.the-variants as found
+use Rattle.table.specs.EntryLaws.{home-reached}
 use Rattle.table.proofs.entries.enter.Statement.{statement}
 use Rattle.table.proofs.entries.enter.Tie as tie
 
-abbrev st : tie.After-find → tie.Start
-st c = c .before .before .before .before
-
--- past the search, by what it found
-past : (c : tie.After-find) (o : Found) → c .find .result ≡ o → enterAt (st c .args .t .now) (st c .args .r) o ≡ enterOf (st c .args .t .now) (st c .args .r)
-unfolding enterOf
-past c o e = ap (enterAt (st c .args .t .now) (st c .args .r)) (sym e ∙ c .find .ensures)
-
-write-slot-requires : tie.Need-write-slot-requires
-write-slot-requires c κs =
-    let k = c .before .before in
-    let f = k .before .before in
-    free-room (st f .args .t .now) (st f .args .n) (st f .pre) (st f .args .r .at) (k .f2 .given .0 .0) (sym (f .find .ensures) ∙ k .f2 .given .1)
-
-returns : tie.Need-returns
-returns c =
-    let k = c .before in
-    let f = k .before .before in
-    (sym (k .f .given .1) ∙ f .find .ensures, past f (found.At (k .f .given .0 .0)) (k .f .given .1))
-
-returns-2 : tie.Need-returns-2
-returns-2 c =
-    let w = c .before .before in
-    let k = w .before .before .before in
-    let f = k .before .before in
-    (sym (k .f2 .given .1) ∙ f .find .ensures, w .write-slot .ensures ∙ past f (found.Free (k .f2 .given .0 .0)) (k .f2 .given .1))
-
-returns-3 : tie.Need-returns-3
-returns-3 c =
-    let f = c .before .before in
-    (sym (c .enum-told .given .1) ∙ f .find .ensures, past f found.Full (c .enum-told .given .1))
+enter-from-requires : tie.Need-enter-from-requires
+enter-from-requires c κs =
+    let s = c .before .before .before in
+    (s .pre, home-reached (s .args .t .now) (s .args .n) (s .pre) (s .args .r .at) (c .home .result) (c .home .ensures .0))
 
 pub enter-spec : {M : Type 1} → statement M
-enter-spec =
-    tie.close
-    (tie.spec
-    (λ c κs. search needs)
-    (λ c. search needs)
-    (λ c. search needs)
-    write-slot-requires
-    (λ c. search needs)
-    (λ c. search needs)
-    returns
-    (λ c. search needs)
-    returns-2
-    (λ c. search needs)
-    returns-3)
+enter-spec = tie.close (tie.spec (λ c κs. search needs) enter-from-requires (λ c. search needs) (λ c. search needs))

@@ -16,19 +16,19 @@ fits c = table-of (st c .args .t .now) (st c .args .n) (st c .pre)
 returns : tie.Need-returns
 returns c =
     let f = c .before .before in
-    let e = sym (f .find .ensures) ∙ c .enum-told .given .1 in
+    let e = sym (f .find .ensures .0) ∙ c .enum-told .given .1 in
     sym (ap isHeld (at-held (st f .args .t .now) (fits f) (st f .args .p) _ e .looked))
 
 returns-2 : tie.Need-returns-2
 returns-2 c =
     let f = c .before .before in
-    let e = sym (f .find .ensures) ∙ c .enum-told2 .given .1 in
+    let e = sym (f .find .ensures .0) ∙ c .enum-told2 .given .1 in
     sym (ap isHeld (at-free (st f .args .t .now) (fits f) (st f .args .p) _ e .looked))
 
 returns-3 : tie.Need-returns-3
 returns-3 c =
     let f = c .before .before in
-    let e = sym (f .find .ensures) ∙ c .enum-told3 .given .1 in
+    let e = sym (f .find .ensures .0) ∙ c .enum-told3 .given .1 in
     sym (ap isHeld (at-full (st f .args .t .now) (fits f) (st f .args .p) e .0))
 
 pub is-there-spec : {M : Type 1} → statement M

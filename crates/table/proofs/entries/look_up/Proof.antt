@@ -12,13 +12,13 @@ held-in-requires : tie.Need-held-in-requires
 held-in-requires c κs =
     let f = c .before .before .before in
     let st = f .before .before in
-    at-room (st .args .t .now) (st .args .n) (st .pre) (st .args .p) (c .before .f .given .0 .0) (sym (f .find .ensures) ∙ c .before .f .given .1)
+    at-room (st .args .t .now) (st .args .n) (st .pre) (st .args .p) (c .before .f .given .0 .0) (sym (f .find .ensures .0) ∙ c .before .f .given .1)
 
 -- past the search, by what it found
 past : (c : tie.After-find) (o : Found) → c .find .result ≡ o
     → lookedAt (c .before .before .args .t .now) o ≡ lookUp (c .before .before .args .t .now) (c .before .before .args .p)
 unfolding lookUp
-past c o e = ap (lookedAt (c .before .before .args .t .now)) (sym e ∙ c .find .ensures)
+past c o e = ap (lookedAt (c .before .before .args .t .now)) (sym e ∙ c .find .ensures .0)
 
 returns : tie.Need-returns
 returns c =

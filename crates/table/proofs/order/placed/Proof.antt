@@ -29,7 +29,7 @@ returns-2 c =
     let r = k .before .before in
     let a = r .before .before .args in
     let rec = k .s .given .0 .0 in
-    c .is-at .ensures ∙ ap (λ (x : Found). isAt x (a .i)) (fd .find .ensures)
+    c .is-at .ensures ∙ ap (λ (x : Found). isAt x (a .i)) (fd .find .ensures .0)
     ∙ ap (λ (b : Bool). b && isAt (findOf (a .t .now) (rec .at)) (a .i)) (sym (sym (v .valid .ensures) ∙ th .if1 .taken))
     ∙ at-slot r (Holds rec) (k .s .given .1)
 

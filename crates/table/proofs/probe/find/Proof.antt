@@ -1,14 +1,14 @@
--- `table::find` meets its promise: the search from the home slot, once round. Assumes nothing.
+-- `table::find` meets its promise: the search from the home slot, which every search comes to. Assumes nothing.
 use borrow.Author.Needs.{needs}
-use Rattle.table.specs.EntryLaws.{search-find}
+use Rattle.table.specs.EntryLaws.{home-reached}
 use Rattle.table.proofs.probe.find.Statement.{statement}
 use Rattle.table.proofs.probe.find.Tie as tie
 
-returns : tie.Need-returns
-returns c =
-    let h = c .before in
+find-from-requires : tie.Need-find-from-requires
+find-from-requires c κs =
+    let h = c in
     let st = h .before .before in
-    search-find (st .args .t .now) (st .args .n) (st .pre) (st .args .p) (h .home .result) (h .home .ensures .0) (c .probe .result) (c .probe .ensures)
+    (st .pre, home-reached (st .args .t .now) (st .args .n) (st .pre) (st .args .p) (h .home .result) (h .home .ensures .0))
 
 pub find-spec : {M : Type 1} → statement M
-find-spec = tie.close (tie.spec (λ c κs. search needs) (λ c κs. search needs) returns)
+find-spec = tie.close (tie.spec (λ c κs. search needs) find-from-requires (λ c. search needs))

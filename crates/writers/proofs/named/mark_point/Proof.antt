@@ -16,7 +16,7 @@ mark-requires c κs =
     let h = c .before .before in
     let f = h .before .before in
     let s = f .before .before in
-    let room = at-room (s .args .table .now) (s .args .n) (s .pre) (s .args .p) (h .i .given .0 .0) (sym (f .find .ensures) ∙ h .i .given .1) in
+    let room = at-room (s .args .table .now) (s .args .n) (s .pre) (s .args .p) (h .i .given .0 .0) (sym (f .find .ensures .0) ∙ h .i .given .1) in
     omega (arith, room, s .pre .long, s .pre .most)
 
 returns : tie.Need-returns
@@ -25,19 +25,19 @@ returns c =
     let f = h .before .before in
     let a = f .before .before .args in
     marks-same (a .marks .now) _ (eqb (h .i .given .0 .0)) (isAt (findOf (a .table .now) (a .p)))
-    (λ j. ap (λ (x : Found). isAt x j) (sym (h .i .given .1) ∙ f .find .ensures)) (c .mark .ensures)
+    (λ j. ap (λ (x : Found). isAt x j) (sym (h .i .given .1) ∙ f .find .ensures .0)) (c .mark .ensures)
 
 returns-2 : tie.Need-returns-2
 returns-2 c =
     let f = c .before .before in
     let a = f .before .before .args in
-    marks-false (a .marks .now) (isAt (findOf (a .table .now) (a .p))) (λ j. ap (λ (x : Found). isAt x j) (sym (f .find .ensures) ∙ c .enum-told .given .1))
+    marks-false (a .marks .now) (isAt (findOf (a .table .now) (a .p))) (λ j. ap (λ (x : Found). isAt x j) (sym (f .find .ensures .0) ∙ c .enum-told .given .1))
 
 returns-3 : tie.Need-returns-3
 returns-3 c =
     let f = c .before .before in
     let a = f .before .before .args in
-    marks-false (a .marks .now) (isAt (findOf (a .table .now) (a .p))) (λ j. ap (λ (x : Found). isAt x j) (sym (f .find .ensures) ∙ c .enum-told2 .given .1))
+    marks-false (a .marks .now) (isAt (findOf (a .table .now) (a .p))) (λ j. ap (λ (x : Found). isAt x j) (sym (f .find .ensures .0) ∙ c .enum-told2 .given .1))
 
 pub mark-point-spec : {M : Type 1} → statement M
 mark-point-spec =
