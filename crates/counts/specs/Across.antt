@@ -1,9 +1,10 @@
 -- Where a vertex across from a side can stand. Seen from the adjacent point p of a corner, the vertex is the opposite q turned by 60 or 120 degrees,
 -- or by 90 and lengthened or shortened by the square root of 3, to one side where p comes before q and to the other where it comes after (AcrossLaws):
--- eight factors (x + yw)/3. `factorOf` the factors · `acrossOf` the place · `StarPoint` how far the points of a star lie.
+-- eight factors (x + yw)/3. `factorOf` the factors · `acrossOf` the place · `apexOf` the one of them that makes a triangle with equal sides ·
+-- `StarPoint` how far the points of a star lie.
 -- Assumes nothing.
 use mathlib.Core.List.{List, [], _∷_}
-use Prim.Native.Nat.{ℕ, _*_, _-_, _^_, _≤_}
+use Prim.Native.Nat.{ℕ, _*_, _-_, _^_, _≤_, max}
 use lib.ListN.{getD}
 use lib.IntN.{ℤ, pos, negsuc, natAbs, _+ℤ_, _-ℤ_, _*ℤ_}
 use Rattle.lattice.specs.Points.{normalOf}
@@ -40,6 +41,13 @@ alongOf f a b e h = normalOf (pos 3 *ℤ a +ℤ (f .x *ℤ e -ℤ f .y *ℤ h)) 
 -- p + f(q - p)
 abbrev pub acrossOf : Factor → Point → Point → Point
 acrossOf f p q = alongOf f (wide 7 p) (high 7 p) (wide 7 q -ℤ wide 7 p) (high 7 q -ℤ high 7 p)
+
+-- p + w(q - p), at the greater of the two depths: the third corner of the triangle with equal sides to the left of the way from p to q
+abbrev pub apexAt : ℕ → Point → Point → Point
+apexAt d p q = normalOf (wide d p +ℤ high d p -ℤ high d q) (wide d q +ℤ high d q -ℤ wide d p) d
+
+unfoldable pub apexOf : Point → Point → Point
+apexOf p q = apexAt (max (p .m .0) (q .m .0)) p q
 
 -- a point of a star
 pub record StarPoint (p : Point) : Type 0 where

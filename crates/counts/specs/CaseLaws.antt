@@ -1,10 +1,11 @@
 -- The ways through the functions. Loops that sum: `Summed`, `summed-start`, `summed-more`. A side at a vertex: `faced-first`, `faced-second`,
--- `near-none`, `near-counted`. One across from it: `far-first`, `far-second`, `far-neither`, `else-first` .. `else-fourth`, `far-none`,
--- `far-counted`. A corner of another star: `corner-first`, `corner-second`, `corner-third`. A corner: `corner-none`, `corner-counted`. A face:
+-- `near-none`, `near-counted`. One across from it: `far-first`, `far-second`, `far-neither`, `narrow-first` .. `narrow-rest`, `across-left` ..
+-- `across-narrow`, `far-ended`, `far-across`, `far-none`, `far-counted`.
+-- A corner of another star: `corner-first`, `corner-second`, `corner-third`. A corner: `corner-none`, `corner-counted`. A face:
 -- `before-second`, `before-third`, `before-fourth`. A slot: `sides-free`, `sides-holds`, `faces-free`, `faces-holds`, `degree-counts`.
 -- Assumes nothing.
 use mathlib.Core.Path.{_≡_, sym, ap, _∙_}
-use mathlib.Core.Bool.{Bool, true, false, not, _&&_, _||_, or-true}
+use mathlib.Core.Bool.{Bool, true, false, cond, not, _&&_, _||_, or-true}
 use mathlib.Core.List.{List}
 use Prim.Native.Nat.{ℕ, _+_, _*_, _≤_}
 use native.Mathlib.Nat.{mul-add}
@@ -20,7 +21,9 @@ use Rattle.table.specs.Search.{samePoint}
 use Rattle.table.specs.declared.slots.Slot.the-variants.{Free, Holds}
 use Rattle.queries.specs.Queries.{chosenAt, isPoint}
 use Rattle.counts.specs.Counts.{bit, nextPlace, turned}
-use Rattle.counts.specs.Earlier.{sumBelow, slotSum, prevPlace, faced, nearBefore, nearCount, farIs, farBefore, farElse, farAt, farCount}
+use Rattle.counts.specs.Across.{apexOf}
+use Rattle.counts.specs.Earlier.{sumBelow, slotSum, slotIn, prevPlace, faced, nearIn, nearBefore, nearCount, farIs, farBefore, apexSeen, endHas}
+use Rattle.counts.specs.Earlier.{narrowElse, acrossElse, farOne, farAt, farCount}
 use Rattle.counts.specs.Earlier.{starSides, slotSides, spotIs, cornerIs, faceSeen, faceBefore, faceOn, faceCount, cornerCount, starFaces}
 use Rattle.counts.specs.Earlier.{slotFaces, degreeAt, slotDegree}
 use Rattle.counts.specs.DifferentLaws.{sum-none, sum-more}
@@ -56,10 +59,10 @@ module _ (t : List ℕ) (k : ℕ) (v : Record) (j : ℕ) where
   unfolding nearCount
   near-none e = ap (λ (x : Bool). bit (x && not (nearBefore t k (v .at) (adjacentAt v j)))) (sym e)
 
-  pub near-counted : faced t v j ≡ true → (a : Point) → a ≡ adjacentAt v j → (b : Bool) → nearBefore t k (v .at) a ≡ b → bit (not b) ≡ nearCount t k v j
+  pub near-counted : faced t v j ≡ true → (s : ℕ) → s ≡ slotIn t (adjacentAt v j) → (b : Bool) → nearIn t k (v .at) s ≡ b → bit (not b) ≡ nearCount t k v j
   unfolding nearCount
-  near-counted f a e b h =
-      ap (λ (x : Bool). bit (not x)) (sym h ∙ ap (nearBefore t k (v .at)) e)
+  near-counted f s e b h =
+      ap (λ (x : Bool). bit (not x)) (sym h ∙ ap (nearIn t k (v .at)) e)
       ∙ ap (λ (x : Bool). bit (x && not (nearBefore t k (v .at) (adjacentAt v j)))) (sym f)
 
 module _ (t : List ℕ) (p q : Point) (u : Record) (i : ℕ) where
@@ -76,22 +79,45 @@ module _ (t : List ℕ) (p q : Point) (u : Record) (i : ℕ) where
   far-neither e h = λ z. (sym e z || sym h z) && spotIs (chosenAt t u i) q
 
 module _ (t : List ℕ) (k : ℕ) (p q : Point) where
-  pub else-first : nearBefore t (slotsOf t) q p ≡ true → true ≡ farElse t k p q
-  unfolding farElse
-  else-first e = ap (λ (b : Bool). b || (nearBefore t (slotsOf t) p q || (farBefore t k p q || farBefore t k q p))) (sym e)
+  pub narrow-first : apexSeen t (slotsOf t) p q (apexOf p q) ≡ true → true ≡ narrowElse t k p q
+  unfolding narrowElse
+  narrow-first e = ap (λ (b : Bool). b || (apexSeen t (slotsOf t) p q (apexOf q p) || (farBefore t k p q || farBefore t k q p))) (sym e)
 
-  pub else-second : nearBefore t (slotsOf t) q p ≡ false → nearBefore t (slotsOf t) p q ≡ true → true ≡ farElse t k p q
-  unfolding farElse
-  else-second e h = λ i. sym e i || (sym h i || (farBefore t k p q || farBefore t k q p))
+  pub narrow-second : apexSeen t (slotsOf t) p q (apexOf p q) ≡ false → apexSeen t (slotsOf t) p q (apexOf q p) ≡ true → true ≡ narrowElse t k p q
+  unfolding narrowElse
+  narrow-second e h = λ i. sym e i || (sym h i || (farBefore t k p q || farBefore t k q p))
 
-  pub else-third : nearBefore t (slotsOf t) q p ≡ false → nearBefore t (slotsOf t) p q ≡ false → farBefore t k p q ≡ true → true ≡ farElse t k p q
-  unfolding farElse
-  else-third e h g = λ i. sym e i || (sym h i || (sym g i || farBefore t k q p))
+  pub narrow-rest : apexSeen t (slotsOf t) p q (apexOf p q) ≡ false → apexSeen t (slotsOf t) p q (apexOf q p) ≡ false → (b : Bool) → farBefore t k p q ≡ b
+      → b || farBefore t k q p ≡ narrowElse t k p q
+  unfolding narrowElse
+  narrow-rest e h b g = λ i. sym e i || (sym h i || (sym g i || farBefore t k q p))
 
-  pub else-fourth : nearBefore t (slotsOf t) q p ≡ false → nearBefore t (slotsOf t) p q ≡ false → farBefore t k p q ≡ false → farBefore t k q p
-      ≡ farElse t k p q
-  unfolding farElse
-  else-fourth e h g = λ i. sym e i || (sym h i || (sym g i || farBefore t k q p))
+module _ (t : List ℕ) (k : ℕ) (v p q : Point) where
+  pub across-left : samePoint v (apexOf p q) ≡ true → apexSeen t k p q (apexOf q p) ≡ acrossElse t k v p q
+  unfolding acrossElse
+  across-left e = ap (λ (b : Bool). cond b right (cond (samePoint v (apexOf q p)) left (narrowElse t k p q))) (sym e)
+    where
+      left : Bool
+      left = apexSeen t k p q (apexOf p q)
+
+      right : Bool
+      right = apexSeen t k p q (apexOf q p)
+
+  pub across-right : samePoint v (apexOf p q) ≡ false → samePoint v (apexOf q p) ≡ true → apexSeen t k p q (apexOf p q) ≡ acrossElse t k v p q
+  unfolding acrossElse
+  across-right e h = λ i. cond (sym e i) (apexSeen t k p q (apexOf q p)) (cond (sym h i) (apexSeen t k p q (apexOf p q)) (narrowElse t k p q))
+
+  pub across-narrow : samePoint v (apexOf p q) ≡ false → samePoint v (apexOf q p) ≡ false → narrowElse t k p q ≡ acrossElse t k v p q
+  unfolding acrossElse
+  across-narrow e h = λ i. cond (sym e i) (apexSeen t k p q (apexOf q p)) (cond (sym h i) (apexSeen t k p q (apexOf p q)) (narrowElse t k p q))
+
+  pub far-ended : endHas t p q ≡ true → 0 ≡ farOne t k v p q
+  unfolding farOne
+  far-ended e = ap (λ (b : Bool). bit (not (b || acrossElse t k v p q))) (sym e)
+
+  pub far-across : endHas t p q ≡ false → (b : Bool) → acrossElse t k v p q ≡ b → bit (not b) ≡ farOne t k v p q
+  unfolding farOne
+  far-across e b h = λ i. bit (not (sym e i || sym h i))
 
 module _ (t : List ℕ) (k : ℕ) (v : Record) (j : ℕ) where
   pub far-none : chosenAt t v j ≡ Nothing → 0 ≡ farCount t k v j

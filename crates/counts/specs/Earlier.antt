@@ -1,9 +1,10 @@
 -- What the functions below `counts` promise: each face is counted at the first of the vertices that name it, in the order of slots (FaceLaws), and so
 -- is each side (EdgeLaws), first those at their ends, then those that no end has. `sumBelow` a sum · `earlierOf` the record at a point, if it stands
--- before a slot · `faced`, `hasNear`, `nearBefore`, `nearCount` the sides at a vertex · `hasFar`, `farBefore`, `farCount` those across from it ·
+-- before a slot · `faced`, `hasNear`, `nearBefore`, `nearCount` the sides at a vertex · `hasFar`, `farBefore`, `acrossElse`, `farCount` those across ·
 -- `cornerIs`, `namesFace`, `faceBefore`, `cornerCount` its faces · `slotSides`, `slotFaces`, `slotDegree` what a slot adds.
 -- Assumes nothing.
-use mathlib.Core.Bool.{Bool, false, cond, not, _&&_, _||_}
+use mathlib.Core.Path.{_≡_}
+use mathlib.Core.Bool.{Bool, true, false, cond, not, _&&_, _||_}
 use mathlib.Core.List.{List}
 use Prim.Native.Nat.{ℕ, zero, suc, _+_, _-_}
 use lib.Dec.{eqb, ltb}
@@ -24,7 +25,8 @@ use Rattle.table.specs.declared.entries.Looked.{Looked}
 use Rattle.table.specs.declared.entries.Looked.the-variants.{Absent, Held}
 use Rattle.queries.specs.Queries.{chosenAt, isPoint}
 use Rattle.counts.specs.Counts.{bit, nextPlace, face, turned}
-use Rattle.counts.specs.Across.{factorOf, acrossOf}
+use Rattle.counts.specs.Across.{factorOf, acrossOf, apexOf}
+use Rattle.counts.specs.declared.earlier.Placed.{Placed}
 use Rattle.counts.specs.declared.faces.Face.{Face}
 use Rattle.counts.specs.declared.corners.Counted.{Counted}
 use Rattle.counts.specs.declared.degrees.Degrees.{Degrees}
@@ -39,14 +41,25 @@ abbrev pub slotSum : (Record → ℕ) → Slot → ℕ
 slotSum f Free = 0
 slotSum f (Holds v) = f v
 
--- ---- the record at a point, if it stands before slot k
-abbrev pub earlierAt : List ℕ → ℕ → Found → Looked
-earlierAt t k (found.At i) = cond (ltb i k) (heldIn (slotAt t i)) Absent
-earlierAt t k (found.Free i) = Absent
-earlierAt t k found.Full = Absent
+-- ---- the slot of a point, past the last where it has none; the record in a slot, if that comes before slot k
+abbrev pub slotFound : ℕ → Found → ℕ
+slotFound n (found.At i) = i
+slotFound n (found.Free i) = n
+slotFound n found.Full = n
 
-unfoldable pub earlierOf : List ℕ → ℕ → Point → Looked
-earlierOf t k p = earlierAt t k (findOf t p)
+unfoldable pub slotIn : List ℕ → Point → ℕ
+slotIn t p = slotFound (slotsOf t) (findOf t p)
+
+-- a point and its slot
+abbrev pub placedOf : List ℕ → Point → Placed
+placedOf t p = record { at = p; slot = slotIn t p }
+
+unfoldable pub earlierIn : List ℕ → ℕ → ℕ → Looked
+earlierIn t k s = cond (ltb s k) (heldIn (slotAt t s)) Absent
+
+-- the record at a point, if it stands before slot k
+abbrev pub earlierOf : List ℕ → ℕ → Point → Looked
+earlierOf t k p = earlierIn t k (slotIn t p)
 
 abbrev pub heldAnd : (Record → Bool) → Looked → Bool
 heldAnd f Absent = false
@@ -72,9 +85,13 @@ nearIs t p u i = samePoint (adjacentAt u i) p && faced t u i
 unfoldable pub hasNear : List ℕ → Point → Record → Bool
 hasNear t p u = among (u .d) (nearIs t p u)
 
--- the vertex at q stands before slot k, and has the side to p
-unfoldable pub nearBefore : List ℕ → ℕ → Point → Point → Bool
-nearBefore t k p q = heldAnd (hasNear t p) (earlierOf t k q)
+-- the vertex in slot s stands before slot k, and has the side to p
+unfoldable pub nearIn : List ℕ → ℕ → Point → ℕ → Bool
+nearIn t k p s = heldAnd (hasNear t p) (earlierIn t k s)
+
+-- the vertex at q does
+abbrev pub nearBefore : List ℕ → ℕ → Point → Point → Bool
+nearBefore t k p q = nearIn t k p (slotIn t q)
 
 -- 1 where the side of v, in slot k, to its adjacent point j is counted there
 unfoldable pub nearCount : List ℕ → ℕ → Record → ℕ → ℕ
@@ -97,16 +114,51 @@ farSeen t k p q c = heldAnd (hasFar t p q) (earlierOf t k (acrossOf (factorOf c)
 unfoldable pub farBefore : List ℕ → ℕ → Point → Point → Bool
 farBefore t k p q = among 8 (farSeen t k p q)
 
--- the side of p and q is counted elsewhere: at one of its ends, or at a vertex across from it that stands before slot k
-unfoldable pub farElse : List ℕ → ℕ → Point → Point → Bool
-farElse t k p q = nearBefore t (slotsOf t) q p || (nearBefore t (slotsOf t) p q || (farBefore t k p q || farBefore t k q p))
+-- a vertex at a, before slot k, has the side of p and q, whichever of them is the opposite
+unfoldable pub hasEither : List ℕ → Point → Point → Record → Bool
+hasEither t p q u = hasFar t p q u || hasFar t q p u
 
--- 1 where it is not
-abbrev pub farOne : List ℕ → ℕ → Point → Point → ℕ
-farOne t k p q = bit (not (farElse t k p q))
+unfoldable pub apexSeen : List ℕ → ℕ → Point → Point → Point → Bool
+apexSeen t k p q a = heldAnd (hasEither t p q) (earlierOf t k a)
+
+-- one of the ends of p and q has the side, in whatever slot it stands
+unfoldable pub endHas : List ℕ → Point → Point → Bool
+endHas t p q = nearBefore t (slotsOf t) q p || nearBefore t (slotsOf t) p q
+
+-- "wide": the vertex stands at an apex of p and q
+abbrev pub isWide : Point → Point → Point → Bool
+isWide v p q = samePoint v (apexOf p q) || samePoint v (apexOf q p)
+
+-- a vertex at an apex has the side, in whatever slot, or one across from it before slot k
+unfoldable pub narrowElse : List ℕ → ℕ → Point → Point → Bool
+narrowElse t k p q =
+    apexSeen t (slotsOf t) p q (apexOf p q) || (apexSeen t (slotsOf t) p q (apexOf q p) || (farBefore t k p q || farBefore t k q p))
+
+-- a side that no end has is counted elsewhere than at v, in slot k: where v stands at an apex, by a vertex at the other one before slot k
+unfoldable pub acrossElse : List ℕ → ℕ → Point → Point → Point → Bool
+acrossElse t k v p q =
+    cond (samePoint v (apexOf p q)) (apexSeen t k p q (apexOf q p)) (cond (samePoint v (apexOf q p)) (apexSeen t k p q (apexOf p q)) (narrowElse t k p q))
+
+-- 1 where the side of p and q, across from the vertex at v in slot k, is counted there
+unfoldable pub farOne : List ℕ → ℕ → Point → Point → Point → ℕ
+farOne t k v p q = bit (not (endHas t p q || acrossElse t k v p q))
+
+-- where the face was counted before, its sides across that are not wide need not be looked at: an end has them, or they are counted elsewhere
+abbrev pub Spared : List ℕ → ℕ → Point → Point → Point → Bool → Type 0
+Spared t k v p q seen = seen ≡ true → isWide v p q ≡ false → endHas t p q || narrowElse t k p q ≡ true
+
+abbrev pub SparedAcross : List ℕ → ℕ → Point → Point → Point → Bool → Type 0
+SparedAcross t k v p q seen = seen ≡ true → isWide v p q ≡ false → narrowElse t k p q ≡ true
+
+-- a, o and b are the other three vertices of the face of corner j of v
+pub record Round (t : List ℕ) (v : Record) (j : ℕ) (a o b : Placed) : Type 0 where
+  pub adjacent : a ≡ placedOf t (adjacentAt v j)
+  pub chosen : chosenAt t v j ≡ At (o .at)
+  pub opposite : o .slot ≡ slotIn t (o .at)
+  pub next : b ≡ placedOf t (adjacentAt v (nextPlace (v .d) j))
 
 abbrev pub farAt : List ℕ → ℕ → Record → ℕ → Spot → ℕ
-farAt t k v j (At o) = farOne t k (adjacentAt v j) o + farOne t k (adjacentAt v (nextPlace (v .d) j)) o
+farAt t k v j (At o) = farOne t k (v .at) (adjacentAt v j) o + farOne t k (v .at) (adjacentAt v (nextPlace (v .d) j)) o
 farAt t k v j Nothing = 0
 
 -- how many of the two sides across corner j of v, in slot k, are counted there
@@ -133,11 +185,15 @@ cornerIs t u f i =
 unfoldable pub namesFace : List ℕ → Face → Record → Bool
 namesFace t f u = among (u .d) (cornerIs t u f)
 
--- the first vertex of f stands before slot k, and names it
-unfoldable pub faceSeen : List ℕ → ℕ → Face → Bool
-faceSeen t k f = heldAnd (namesFace t f) (earlierOf t k (f .at))
+-- the vertex in slot s stands before slot k, and names f
+unfoldable pub faceIn : List ℕ → ℕ → Face → ℕ → Bool
+faceIn t k f s = heldAnd (namesFace t f) (earlierIn t k s)
 
--- one of the three others does
+-- the first vertex of f does
+abbrev pub faceSeen : List ℕ → ℕ → Face → Bool
+faceSeen t k f = faceIn t k f (slotIn t (f .at))
+
+-- one of its three others does
 unfoldable pub faceBefore : List ℕ → ℕ → Face → Bool
 faceBefore t k f = faceSeen t k (turned f) || (faceSeen t k (turned (turned f)) || faceSeen t k (turned (turned (turned f))))
 

@@ -30,7 +30,8 @@ use Rattle.table.specs.MapLaws.{same-refl, same-true}
 use Rattle.table.specs.declared.slots.Slot.the-variants.{Holds}
 use Rattle.queries.specs.Queries.{chosenAt}
 use Rattle.counts.specs.Counts.{differentAfter, gather, each, nextPlace, face, faceWith, facesAt, turned, fits, sameFace, facesIn}
-use Rattle.counts.specs.Earlier.{sumBelow, spotIs, cornerIs, namesFace, faceSeen, faceBefore, faceOn, faceCount, cornerCount, starFaces, slotFaces}
+use Rattle.counts.specs.Earlier.{sumBelow, spotIs, cornerIs, namesFace, faceIn, faceSeen, faceBefore, faceOn}
+use Rattle.counts.specs.Earlier.{faceCount, cornerCount, starFaces, slotFaces}
 use Rattle.counts.specs.DifferentLaws.{slotTest, some-one, some-none, some-gather, some-each, different-nothing, different-place, different-star}
 use Rattle.counts.specs.DifferentLaws.{different-slots}
 use Rattle.counts.specs.EarlierLaws.{Passes, other-point, star-inner, earlier-yes, yes-earlier, slots-pass, pass-slots}
@@ -124,7 +125,7 @@ module _ (t : List ℕ) where
     pub chosen : chosenAt t u corner ≡ At opposite
     pub is : faceOn u corner opposite ≡ g
 
-  makes-names : (u : Record) (g : Face) → Makes u g → namesFace t g u ≡ true
+  pub makes-names : (u : Record) (g : Face) → Makes u g → namesFace t g u ≡ true
   unfolding namesFace cornerIs
   makes-names u g m = at-among (cornerIs t u g) (u .d) (m .corner) (m .below) (ap (λ (f : Face). cornerIs t u f (m .corner)) (sym (m .is)) ∙ corner)
     where
@@ -190,13 +191,13 @@ module _ (t : List ℕ) (o : InOrder t) where
 
     -- a vertex before slot k names the face g
     seen : (g : Face) {h : Record → Bool} (x : Passes t k h) → Makes t (x .rec) g → faceSeen t k g ≡ true
-    unfolding faceSeen
+    unfolding faceIn
     seen g x m =
         earlier-yes t o k top (namesFace t g) (g .at) (record
         { rec = x .rec; slot = x .slot; below = x .below; holds = x .holds; passes = makes-names t (x .rec) g m }) (ap (λ (f : Face). f .at) (m .is))
 
     seen-gives : (f g : Face) → SameRound f g → faceSeen t k g ≡ true → among k (λ i. slotTest (gives t f) (slotAt t i)) ≡ true
-    unfolding faceSeen
+    unfolding faceIn
     seen-gives f g r h =
         let y = yes-earlier t o k top (namesFace t g) (g .at) h in
         let x = y .0 in

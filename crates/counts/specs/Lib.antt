@@ -4,6 +4,8 @@ pub mod Count
 -- what the promises of the functions below cite besides
 pub mod Across
 pub mod Earlier
+pub mod Strides
+pub mod Choices
 -- their laws
 pub mod DifferentLaws
 pub mod SetLaws
@@ -15,6 +17,8 @@ pub mod FaceLaws
 pub mod SameLaws
 pub mod NearFarLaws
 pub mod EdgeLaws
+pub mod StrideLaws
+pub mod ToldLaws
 pub mod DegreeLaws
 pub mod AloneLaws
 pub mod CaseLaws

@@ -1,12 +1,12 @@
 -- The sides of a vertex's faces are those from it to an adjacent point (near), and those from an adjacent point to an opposite (far): `record-sides`.
--- Corner j has the near sides of place j and of the next, and two far ones. So the different sides of all faces are those of the near sides and then the
--- far ones, being the same ones in another order, some of them more often: `all-sides`.
--- `nearsAt`, `farsAt` these sides · `NearSide`, `FarSide` one of them · `near-has`, `has-near`, `far-has`, `has-far` as the code tests it · `near-gives`,
--- `gives-near`, `far-gives`, `gives-far` as one of the list.
+-- Corner j has the near sides of place j and of the next, and two far ones. So the different sides of all faces are those of the near sides, then of the
+-- far ones of one kind, then of the others, being the same ones in another order, some of them more often: `all-sides`.
+-- `nearsAt`, `farsAt` these sides, `Kind` which far ones · `NearSide`, `FarSide` one of them · `near-has`, `has-near`, `far-has`, `has-far` as the code
+-- tests it · `near-gives`, `gives-near`, `far-gives`, `gives-far` as one of the list · `far-kinds`, `each-kinds` by kind.
 -- Assumes nothing.
 use mathlib.Core.Path.{_≡_, refl, sym, ap, _∙_}
 use mathlib.Core.Logic.{_⊎_, inl, inr}
-use mathlib.Core.Bool.{Bool, true, false, cond, _&&_, _||_, or-true, or-false}
+use mathlib.Core.Bool.{Bool, true, false, cond, not, _&&_, _||_, or-true, or-false}
 use mathlib.Core.List.{List, [], _∷_, _++_}
 use Prim.Native.Nat.{ℕ, _+_, _-_, _<_}
 use native.Mathlib.Omega.{arith}
@@ -53,7 +53,7 @@ next-prev d j h = go (ℕ-discrete j 0)
     go (yes e) = ap (λ (b : Bool). nextPlace d (cond b (d - 1) (j - 1))) (eq-eqb j 0 e) ∙ last (d - 1) (omega arith) ∙ sym e
     go (no n) = ap (λ (b : Bool). nextPlace d (cond b (d - 1) (j - 1))) (ne-eqb j 0 n) ∙ inside (j - 1) (λ e. omega arith) ∙ omega arith
 
-prev-next : (d j : ℕ) → j < d → prevPlace d (nextPlace d j) ≡ j
+pub prev-next : (d j : ℕ) → j < d → prevPlace d (nextPlace d j) ≡ j
 prev-next d j h = go (ℕ-discrete (j + 1) d)
   where
     first : prevPlace d 0 ≡ d - 1
@@ -85,22 +85,39 @@ right-of a b h = ap (λ (x : Bool). a || x) h ∙ or-true a
 abbrev pub nearWith : Record → ℕ → Bool → List Side
 nearWith v j b = cond b (side (v .at) (adjacentAt v j) ∷ []) []
 
-abbrev pub farWith : Record → ℕ → Spot → List Side
-farWith v j (At o) = side (adjacentAt v j) o ∷ side (adjacentAt v (nextPlace (v .d) j)) o ∷ []
-farWith v j Nothing = []
+-- which of the far sides of a vertex are taken, by the vertex, the adjacent point and the opposite
+abbrev pub Kind : Type 0
+Kind = Point → Point → Point → Bool
+
+abbrev pub every : Kind
+every v p q = true
+
+abbrev pub other : Kind → Kind
+other c v p q = not (c v p q)
+
+abbrev pub taken : Kind → Point → Point → Point → List Side
+taken c v p q = cond (c v p q) (side p q ∷ []) []
+
+abbrev pub farWith : Kind → Record → ℕ → Spot → List Side
+farWith c v j (At o) = taken c (v .at) (adjacentAt v j) o ++ taken c (v .at) (adjacentAt v (nextPlace (v .d) j)) o
+farWith c v j Nothing = []
+
+some-taken : (f : Side → Bool) (s : Side) (b : Bool) → someOf f (cond b (s ∷ []) []) ≡ b && f s
+some-taken f s true = some-one f s
+some-taken f s false = some-none f
 
 module _ (t : List ℕ) where
   abbrev pub nearPlace : Record → ℕ → List Side
   nearPlace v j = nearWith v j (faced t v j)
 
-  abbrev pub farPlace : Record → ℕ → List Side
-  farPlace v j = farWith v j (chosenAt t v j)
+  abbrev pub farPlace : Kind → Record → ℕ → List Side
+  farPlace c v j = farWith c v j (chosenAt t v j)
 
   abbrev pub nearsAt : Record → List Side
   nearsAt v = gather (v .d) (nearPlace v)
 
-  abbrev pub farsAt : Record → List Side
-  farsAt v = gather (v .d) (farPlace v)
+  abbrev pub farsAt : Kind → Record → List Side
+  farsAt c v = gather (v .d) (farPlace c v)
 
   -- place i of u has the side to p
   pub record NearSide (u : Record) (p : Point) : Type 0 where
@@ -193,44 +210,73 @@ module _ (t : List ℕ) where
           ends (inl e) = inl (same-true (adjacentAt u i) p e)
           ends (inr e) = inr (same-true (adjacentAt u (nextPlace (u .d) i)) p e)
 
-  pub far-two : (s : Side) (u : Record) (i : ℕ) (o : Point) → someOf (sameSide s) (farWith u i (At o)) ≡ sameSide s (side (adjacentAt u i) o)
-      || sameSide s (side (adjacentAt u (nextPlace (u .d) i)) o)
-  far-two s u i o = ap (λ (b : Bool). sameSide s (side (adjacentAt u i) o) || b) (or-false (sameSide s (side (adjacentAt u (nextPlace (u .d) i)) o)))
+  pub far-two : (c : Kind) (s : Side) (u : Record) (i : ℕ) (o : Point) → someOf (sameSide s) (farWith c u i (At o))
+      ≡ c (u .at) (adjacentAt u i) o && sameSide s (side (adjacentAt u i) o)
+      || c (u .at) (adjacentAt u (nextPlace (u .d) i)) o && sameSide s (side (adjacentAt u (nextPlace (u .d) i)) o)
+  far-two c s u i o =
+      let a = adjacentAt u i in
+      let b = adjacentAt u (nextPlace (u .d) i) in
+      some-append (sameSide s) (taken c (u .at) a o) (taken c (u .at) b o)
+      ∙ (λ z. some-taken (sameSide s) (side a o) (c (u .at) a o) z || some-taken (sameSide s) (side b o) (c (u .at) b o) z)
 
-  pub far-gives : (s : Side) (u : Record) (p q : Point) → FarSide u p q → sameSide s (side p q) ≡ true → someOf (sameSide s) (farsAt u) ≡ true
-  far-gives s u p q x e =
-      some-gather (sameSide s) (u .d) (farPlace u)
-      ∙ at-among (λ i. someOf (sameSide s) (farPlace u i)) (u .d) i (x .below)
-      (ap (λ (z : Spot). someOf (sameSide s) (farWith u i z)) (x .chosen) ∙ far-two s u i q ∙ ends (x .is))
+  pub far-gives : (c : Kind) (s : Side) (u : Record) (p q : Point) → FarSide u p q → c (u .at) p q ≡ true → sameSide s (side p q) ≡ true
+      → someOf (sameSide s) (farsAt c u) ≡ true
+  far-gives c s u p q x k e =
+      some-gather (sameSide s) (u .d) (farPlace c u)
+      ∙ at-among (λ i. someOf (sameSide s) (farPlace c u i)) (u .d) i (x .below)
+      (ap (λ (z : Spot). someOf (sameSide s) (farWith c u i z)) (x .chosen) ∙ far-two c s u i q ∙ ends (x .is))
     where
       i : ℕ
       i = x .corner
 
-      before : Bool
-      before = sameSide s (side (adjacentAt u i) q)
+      is : Point → Bool
+      is a = c (u .at) a q && sameSide s (side a q)
 
-      after : Bool
-      after = sameSide s (side (adjacentAt u (nextPlace (u .d) i)) q)
+      has : is p ≡ true
+      has = λ z. k z && e z
 
-      ends : (adjacentAt u i ≡ p) ⊎ (adjacentAt u (nextPlace (u .d) i) ≡ p) → before || after ≡ true
-      ends (inl h) = left-of before after (ap (λ (a : Point). sameSide s (side a q)) h ∙ e)
-      ends (inr h) = right-of before after (ap (λ (a : Point). sameSide s (side a q)) h ∙ e)
+      ends : (adjacentAt u i ≡ p) ⊎ (adjacentAt u (nextPlace (u .d) i) ≡ p) → is (adjacentAt u i) || is (adjacentAt u (nextPlace (u .d) i)) ≡ true
+      ends (inl h) = left-of (is (adjacentAt u i)) (is (adjacentAt u (nextPlace (u .d) i))) (ap is h ∙ has)
+      ends (inr h) = right-of (is (adjacentAt u i)) (is (adjacentAt u (nextPlace (u .d) i))) (ap is h ∙ has)
 
-  pub gives-far : (s : Side) (u : Record) → someOf (sameSide s) (farsAt u) ≡ true → (p : Point) × (q : Point) × FarSide u p q × (sameSide s (side p q) ≡ true)
-  gives-far s u h =
-      let x = among-at (λ i. someOf (sameSide s) (farPlace u i)) (u .d) (sym (some-gather (sameSide s) (u .d) (farPlace u)) ∙ h) in
+  pub record Given (c : Kind) (s : Side) (u : Record) : Type 0 where
+    pub p : Point
+    pub q : Point
+    pub far : FarSide u p q
+    pub kind : c (u .at) p q ≡ true
+    pub same : sameSide s (side p q) ≡ true
+
+  pub gives-far : (c : Kind) (s : Side) (u : Record) → someOf (sameSide s) (farsAt c u) ≡ true → Given c s u
+  gives-far c s u h =
+      let x = among-at (λ i. someOf (sameSide s) (farPlace c u i)) (u .d) (sym (some-gather (sameSide s) (u .d) (farPlace c u)) ∙ h) in
       go (x .0) (x .1) (chosenAt t u (x .0)) refl (x .2)
     where
-      go : (i : ℕ) → i < u .d → (z : Spot) → chosenAt t u i ≡ z → someOf (sameSide s) (farWith u i z) ≡ true → (p : Point) × (q : Point) × FarSide u p q
-          × (sameSide s (side p q) ≡ true)
+      go : (i : ℕ) → i < u .d → (z : Spot) → chosenAt t u i ≡ z → someOf (sameSide s) (farWith c u i z) ≡ true → Given c s u
       go i l Nothing e g = absurd (not-both g (some-none (sameSide s)))
-      go i l (At o) e g = ends (one-of (sameSide s (side (adjacentAt u i) o)) (sameSide s (side (adjacentAt u (nextPlace (u .d) i)) o))
-          (sym (far-two s u i o) ∙ g))
+      go i l (At o) e g = ends (one-of (is a) (is b) (sym (far-two c s u i o) ∙ g))
         where
-          ends : (sameSide s (side (adjacentAt u i) o) ≡ true) ⊎ (sameSide s (side (adjacentAt u (nextPlace (u .d) i)) o) ≡ true) → (p : Point)
-              × (q : Point) × FarSide u p q × (sameSide s (side p q) ≡ true)
-          ends (inl k) = (adjacentAt u i, o, record { corner = i; below = l; chosen = e; is = inl refl }, k)
-          ends (inr k) = (adjacentAt u (nextPlace (u .d) i), o, record { corner = i; below = l; chosen = e; is = inr refl }, k)
+          a : Point
+          a = adjacentAt u i
+
+          b : Point
+          b = adjacentAt u (nextPlace (u .d) i)
+
+          is : Point → Bool
+          is a = c (u .at) a o && sameSide s (side a o)
+
+          given : (p : Point) → FarSide u p o → is p ≡ true → Given c s u
+          given p x k =
+              record {
+                p = p;
+                q = o;
+                far = x;
+                kind = both-left (c (u .at) p o) (sameSide s (side p o)) k;
+                same = both-right (c (u .at) p o) (sameSide s (side p o)) k;
+              }
+
+          ends : (is a ≡ true) ⊎ (is b ≡ true) → Given c s u
+          ends (inl k) = given a (record { corner = i; below = l; chosen = e; is = inl refl }) k
+          ends (inr k) = given b (record { corner = i; below = l; chosen = e; is = inr refl }) k
 
   -- ---- the sides of a vertex's faces are its near and its far ones
 
@@ -307,7 +353,7 @@ module _ (t : List ℕ) where
       go (inr h) = right-of before (after || last) (left-of after last (ap (λ (a : Point). sameSide s (side a q)) h ∙ e))
 
   pub record-sides : (s : Side) (u : Record) → someOf (λ f. someOf (sameSide s) (sidesOf f)) (facesAt t u) ≡ someOf (sameSide s) (nearsAt u)
-      || someOf (sameSide s) (farsAt u)
+      || someOf (sameSide s) (farsAt every u)
   unfolding faced
   record-sides s u = same-test (someOf (λ f. someOf (sameSide s) (sidesOf f)) (facesAt t u)) (near || far) there back
     where
@@ -315,7 +361,7 @@ module _ (t : List ℕ) where
       near = someOf (sameSide s) (nearsAt u)
 
       far : Bool
-      far = someOf (sameSide s) (farsAt u)
+      far = someOf (sameSide s) (farsAt every u)
 
       in-corner : (i : ℕ) (o : Point) → i < u .d → chosenAt t u i ≡ At o → sideIn s u i o ≡ true → near || far ≡ true
       in-corner i o l c g = first (one-of (nearAt s u i) (isFar s u i o || (isFar s u n o || nearAt s u n)) (sym (four-of s u i o) ∙ g))
@@ -327,7 +373,7 @@ module _ (t : List ℕ) where
           has = ap isPoint c
 
           third : (sameSide s (side (adjacentAt u n) o) ≡ true) ⊎ (sameSide s (side (u .at) (adjacentAt u n)) ≡ true) → near || far ≡ true
-          third (inl e) = right-of near far (far-gives s u (adjacentAt u n) o (record { corner = i; below = l; chosen = c; is = inr refl }) e)
+          third (inl e) = right-of near far (far-gives every s u (adjacentAt u n) o (record { corner = i; below = l; chosen = c; is = inr refl }) refl e)
           third (inr e) =
               left-of near far
               (near-gives s u (adjacentAt u n)
@@ -342,7 +388,7 @@ module _ (t : List ℕ) where
 
           second : (sameSide s (side (adjacentAt u i) o) ≡ true)
               ⊎ (sameSide s (side (adjacentAt u n) o) || sameSide s (side (u .at) (adjacentAt u n)) ≡ true) → near || far ≡ true
-          second (inl e) = right-of near far (far-gives s u (adjacentAt u i) o (record { corner = i; below = l; chosen = c; is = inl refl }) e)
+          second (inl e) = right-of near far (far-gives every s u (adjacentAt u i) o (record { corner = i; below = l; chosen = c; is = inl refl }) refl e)
           second (inr e) = third (one-of (sameSide s (side (adjacentAt u n) o)) (sameSide s (side (u .at) (adjacentAt u n))) e)
 
           first : (sameSide s (side (u .at) (adjacentAt u i)) ≡ true)
@@ -368,16 +414,54 @@ module _ (t : List ℕ) where
         where
           go : (near ≡ true) ⊎ (far ≡ true) → someOf (λ f. someOf (sameSide s) (sidesOf f)) (facesAt t u) ≡ true
           go (inl e) = let x = gives-near s u e in near-corner s u (x .0) (x .1) (x .2)
-          go (inr e) = let x = gives-far s u e in far-corner s u (x .0) (x .1) (x .2) (x .3)
+          go (inr e) = let x = gives-far every s u e in far-corner s u (x .p) (x .q) (x .far) (x .same)
 
-  -- so the sides of all faces are the near ones and the far ones of all vertices
-  pub all-sides : (rs : List Record) → different sameSide (each sidesOf (each (facesAt t) rs)) ≡ different sameSide (each nearsAt rs ++ each farsAt rs)
-  all-sides rs =
-      different-set sameSide sides-alike (each sidesOf (each (facesAt t) rs)) (each nearsAt rs ++ each farsAt rs)
+  -- the far sides of one kind, and those that are not of it
+  pub far-kinds : (c : Kind) (s : Side) (u : Record) → someOf (sameSide s) (farsAt every u) ≡ someOf (sameSide s) (farsAt c u)
+      || someOf (sameSide s) (farsAt (other c) u)
+  far-kinds c s u = same-test (someOf (sameSide s) (farsAt every u)) (one || rest) there back
+    where
+      one : Bool
+      one = someOf (sameSide s) (farsAt c u)
+
+      rest : Bool
+      rest = someOf (sameSide s) (farsAt (other c) u)
+
+      there : someOf (sameSide s) (farsAt every u) ≡ true → one || rest ≡ true
+      there h = let x = gives-far every s u h in go x (c (u .at) (x .p) (x .q)) refl
+        where
+          go : (x : Given every s u) (b : Bool) → c (u .at) (x .p) (x .q) ≡ b → one || rest ≡ true
+          go x true e = left-of one rest (far-gives c s u (x .p) (x .q) (x .far) e (x .same))
+          go x false e = right-of one rest (far-gives (other c) s u (x .p) (x .q) (x .far) (ap not e) (x .same))
+
+      back : one || rest ≡ true → someOf (sameSide s) (farsAt every u) ≡ true
+      back h = go (one-of one rest h)
+        where
+          go : (one ≡ true) ⊎ (rest ≡ true) → someOf (sameSide s) (farsAt every u) ≡ true
+          go (inl e) = let x = gives-far c s u e in far-gives every s u (x .p) (x .q) (x .far) refl (x .same)
+          go (inr e) = let x = gives-far (other c) s u e in far-gives every s u (x .p) (x .q) (x .far) refl (x .same)
+
+  -- those of the records of a list
+  pub each-kinds : (c : Kind) (s : Side) (rs : List Record) → someOf (sameSide s) (each (farsAt every) rs) ≡ someOf (sameSide s) (each (farsAt c) rs)
+      || someOf (sameSide s) (each (farsAt (other c)) rs)
+  each-kinds c s rs =
+      some-over (sameSide s) (farsAt every) rs
+      ∙ some-same (λ u. someOf (sameSide s) (farsAt every u)) (λ u. someOf (sameSide s) (farsAt c u) || someOf (sameSide s) (farsAt (other c) u)) rs
+      (far-kinds c s)
+      ∙ some-or (λ u. someOf (sameSide s) (farsAt c u)) (λ u. someOf (sameSide s) (farsAt (other c) u)) rs
+      ∙ (λ i. sym (some-over (sameSide s) (farsAt c) rs) i || sym (some-over (sameSide s) (farsAt (other c)) rs) i)
+
+  -- so the sides of all faces are the near ones of all vertices, then the far ones of a kind, then the others
+  pub all-sides : (c : Kind) (rs : List Record) → different sameSide (each sidesOf (each (facesAt t) rs))
+      ≡ different sameSide (each nearsAt rs ++ (each (farsAt c) rs ++ each (farsAt (other c)) rs))
+  all-sides c rs =
+      different-set sameSide sides-alike (each sidesOf (each (facesAt t) rs)) (each nearsAt rs ++ (each (farsAt c) rs ++ each (farsAt (other c)) rs))
       (λ s.
       some-over (sameSide s) sidesOf (each (facesAt t) rs) ∙ some-over (λ f. someOf (sameSide s) (sidesOf f)) (facesAt t) rs
       ∙ some-same (λ u. someOf (λ f. someOf (sameSide s) (sidesOf f)) (facesAt t u))
-      (λ u. someOf (sameSide s) (nearsAt u) || someOf (sameSide s) (farsAt u)) rs (record-sides s)
-      ∙ some-or (λ u. someOf (sameSide s) (nearsAt u)) (λ u. someOf (sameSide s) (farsAt u)) rs
-      ∙ (λ i. sym (some-over (sameSide s) nearsAt rs) i || sym (some-over (sameSide s) farsAt rs) i)
-      ∙ sym (some-append (sameSide s) (each nearsAt rs) (each farsAt rs)))
+      (λ u. someOf (sameSide s) (nearsAt u) || someOf (sameSide s) (farsAt every u)) rs (record-sides s)
+      ∙ some-or (λ u. someOf (sameSide s) (nearsAt u)) (λ u. someOf (sameSide s) (farsAt every u)) rs
+      ∙ (λ i. sym (some-over (sameSide s) nearsAt rs) i
+      || (sym (some-over (sameSide s) (farsAt every) rs) ∙ each-kinds c s rs
+      ∙ sym (some-append (sameSide s) (each (farsAt c) rs) (each (farsAt (other c)) rs))) i)
+      ∙ sym (some-append (sameSide s) (each nearsAt rs) (each (farsAt c) rs ++ each (farsAt (other c)) rs)))

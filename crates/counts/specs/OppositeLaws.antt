@@ -1,5 +1,6 @@
 -- The opposite of a corner as a point of the pattern table, the first or the second: `Opposite`, `chosen-opposite`. How far the points of a star lie,
--- as the machine wants it: `adjacent-bound`, `chosen-bound`; `size-wide`, `size-high`, `wide-bound`, `high-bound` what that says of a numerator.
+-- as the machine wants it: `adjacent-bound`, `chosen-bound`; `size-wide`, `size-high`, `wide-bound`, `high-bound`, `raised-bound` what that says of a
+-- numerator.
 -- Assumes nothing.
 use mathlib.Core.Path.{_≡_, refl, sym, ap, _∙_, subst}
 use mathlib.Core.Bool.{Bool, true, false, cond}
@@ -8,9 +9,10 @@ use Prim.Native.Nat.{ℕ, zero, suc, _+_, _*_, _-_, _^_, _≤_, _<_}
 use native.Mathlib.Omega.{arith}
 use native.Mathlib.Nat.{mul-assoc, le-trans, mul-le-mul, mul-le-mul-right, mul-le-mul-left, mul-one, one-le-pow, pow-le-pow-right}
 use lib.Dec.{lit≤, lit<}
-use lib.IntN.{natAbs}
+use lib.IntN.{ℤ, natAbs}
 use lib.Pow.{pow-add}
 use Rattle.laws.specs.Sizes.{abs-add, abs-mul}
+use Rattle.lattice.specs.Points.{lift}
 use Rattle.lattice.specs.Places.{wide, high, sum-wide, sum-high, sum-depth}
 use Rattle.lattice.specs.Bounds.{Near}
 use Rattle.lattice.specs.Patterns.{orient, patternOf, adjacentOf, onSpot}
@@ -81,6 +83,12 @@ wide-bound p w = grows (natAbs (p .a)) (7 - p .m .0) 600000 (w .wide)
 
 pub high-bound : (p : Point) → StarPoint p → natAbs (p .b) ≤ 600000
 high-bound p w = grows (natAbs (p .b)) (7 - p .m .0) 600000 (w .high)
+
+-- at a depth up to 7 its numerators are no larger
+pub raised-bound : (x : ℤ) (m d : ℕ) → d ≤ 7 → natAbs x * 3 ^ (7 - m) ≤ 600000 → natAbs (lift x m d) ≤ 600000
+raised-bound x m d h b =
+    let l : d - m ≤ 7 - m = omega arith in
+    subst (λ (n : ℕ). n ≤ 600000) (sym (abs-mul x (3 ^ (d - m)))) (le-trans (mul-le-mul-left (natAbs x) (pow-le-pow-right (lit< tt) l)) b)
 
 -- a point that a star steps to
 step-bound : (v : Record) → Inner v → (x : Point) → Near (v .n) x → StarPoint (stepOf (v .at) (v .n) x)

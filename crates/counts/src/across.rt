@@ -1,35 +1,35 @@
 // Where a vertex across from a side can stand: eight places seen from either end, each by a turn and a length from the side itself.
 ghost use mathlib.Core.Path.{_≡_};
-ghost use Prim.Native.Nat.{_*_, _-_, _^_, _≤_, _<_};
+ghost use Prim.Native.Nat.{_*_, _-_, _^_, _≤_, _<_, max};
 ghost use lib.IntN.{natAbs, pos};
 ghost use Rattle.lattice.specs.Points.{lift};
-ghost use Rattle.counts.specs.Across.{StarPoint, factor, factorOf, alongOf, acrossOf};
+ghost use Rattle.counts.specs.Across.{StarPoint, factor, factorOf, alongOf, acrossOf, apexOf};
 use lattice::Point;
 use lattice::normalise;
 
-// 3 to the 7 - m.
-fn to_seven(m: u8) -> i32
-    requires { ⌜ m ≤ 7 ⌝ }
-    ensures { λ r. ⌜ r ≡ pos (3 ^ (7 - m)) ⌝ }
+// 3 to the k.
+fn power(k: u8) -> i32
+    requires { ⌜ k ≤ 7 ⌝ }
+    ensures { λ r. ⌜ r ≡ pos (3 ^ k) ⌝ }
 {
-    match m {
-        0 => 2187,
-        1 => 729,
-        2 => 243,
-        3 => 81,
-        4 => 27,
-        5 => 9,
-        6 => 3,
-        _ => 1,
+    match k {
+        0 => 1,
+        1 => 3,
+        2 => 9,
+        3 => 27,
+        4 => 81,
+        5 => 243,
+        6 => 729,
+        _ => 2187,
     }
 }
 
-// A numerator of depth m, brought to depth 7.
-fn at_seven(x: i32, m: u8) -> i32
-    requires { ⌜ (m ≤ 7) × (natAbs x ≤ 600000) ⌝ }
-    ensures { λ r. ⌜ r ≡ lift x m 7 ⌝ }
+// A numerator of depth m, brought to depth d.
+fn raised(x: i32, m: u8, d: u8) -> i32
+    requires { ⌜ (m ≤ d) × ((d ≤ 7) × (natAbs x ≤ 600000)) ⌝ }
+    ensures { λ r. ⌜ r ≡ lift x m d ⌝ }
 {
-    x * to_seven(m)
+    x * power(d - m)
 }
 
 // From [a, b, 7] by [e, h, 7] times (x + yw)/3.
@@ -82,9 +82,30 @@ pub fn across(p: Point, q: Point, c: u8) -> Point
 {
     let m = p.m.0;
     let n = q.m.0;
-    let a = at_seven(p.a, m);
-    let b = at_seven(p.b, m);
-    let x = at_seven(q.a, n);
-    let y = at_seven(q.b, n);
+    let a = raised(p.a, m, 7);
+    let b = raised(p.b, m, 7);
+    let x = raised(q.a, n, 7);
+    let y = raised(q.b, n, 7);
     along(factor_x(c), factor_y(c), a, b, x - a, y - b)
+}
+
+fn deeper(m: u8, n: u8) -> u8
+    ensures { λ r. ⌜ r ≡ max m n ⌝ }
+{
+    if m < n { n } else { m }
+}
+
+// The third corner of the triangle with equal sides to the left of the way from p to q.
+pub fn apex(p: Point, q: Point) -> Point
+    requires { ⌜ StarPoint p × StarPoint q ⌝ }
+    ensures { λ r. ⌜ r ≡ apexOf p q ⌝ }
+{
+    let m = p.m.0;
+    let n = q.m.0;
+    let d = deeper(m, n);
+    let a = raised(p.a, m, d);
+    let b = raised(p.b, m, d);
+    let x = raised(q.a, n, d);
+    let y = raised(q.b, n, d);
+    normalise(a + b - y, x + y - a, d)
 }

@@ -1,23 +1,32 @@
 // E and F, in one pass over the corners: where a face was counted before, so were its sides across from the vertex.
 ghost use mathlib.Core.Path.{_≡_};
-ghost use mathlib.Core.Bool.{true};
+ghost use mathlib.Core.Bool.{true, not};
 ghost use Prim.Native.Nat.{_≤_, _<_};
+ghost use Rattle.lattice.specs.Stars.{adjacentAt};
 ghost use Rattle.lattice.specs.Records.{validOf};
 ghost use Rattle.lattice.specs.RecordLaws.{Inner};
+ghost use Rattle.lattice.specs.declared.patterns.Spot.the-variants.{At};
 ghost use Rattle.table.specs.Slots.{slotsOf, slotAt};
 ghost use Rattle.table.specs.Order.{InOrder};
 ghost use Rattle.table.specs.declared.slots.Slot.the-variants.{Holds};
-ghost use Rattle.counts.specs.Counts.{edgesIn, facesIn};
-ghost use Rattle.counts.specs.Earlier.{facesAndSides, cornerCount, starFaces, slotFaces, sideCount, starSides, slotSides};
-use crate::faces::face_before;
-use crate::faces::face_on;
+ghost use Rattle.counts.specs.Counts.{bit, nextPlace, edgesIn, facesIn};
+ghost use Rattle.counts.specs.Strides.{oppositeBy};
+ghost use Rattle.counts.specs.Earlier.{placedOf, Round, facesAndSides, cornerCount, starFaces, slotFaces, sideCount};
+ghost use Rattle.counts.specs.Earlier.{starSides, slotSides};
+use crate::choices::Choice;
+use crate::choices::choose;
+use crate::earlier::Placed;
+use crate::earlier::with_slot;
+use crate::faces::Face;
+use crate::faces::face_seen;
+use crate::faces::next_place;
+use crate::fits::fits_of;
 use crate::sides::far_count;
 use crate::sides::has_face;
 use crate::sides::near_count;
 use crate::sides::prev_place;
 use lattice::Record;
-use lattice::Spot;
-use queries::chosen;
+use lattice::adjacent_of;
 use table::Slot;
 use table::read_slot;
 
@@ -27,35 +36,71 @@ pub struct Counted {
     pub sides: u32,
 }
 
-// What is counted at corner j of v, in slot k: its face, the side from v to adjacent j, and the two sides across from v.
-fn count_corner(t: &[u8], v: Record, j: u8, k: usize, n: usize) -> Counted
+// 1 where a face is counted, else 0.
+fn new_face(seen: bool) -> u32
+    ensures { λ r. ⌜ (r ≡ bit (not seen)) × (r ≤ 1) ⌝ }
+{
+    if seen { 0 } else { 1 }
+}
+
+// What is counted at corner j of v, in slot k, with a face: from its adjacent point a to the opposite o, the first or the second, and the next adjacent
+// point b.
+fn count_face(
+    t: &[u8],
+    v: Record,
+    j: u8,
+    second: bool,
+    a: Placed,
+    o: Placed,
+    b: Placed,
+    k: usize,
+    n: usize,
+) -> Counted
     requires { ⌜ InOrder (now t) × ((n ≡ slotsOf (now t)) × (k < n)) ⌝ }
     requires { ⌜ Inner v × (j < v .d) ⌝ }
     requires { ⌜ slotAt (now t) k ≡ Holds v ⌝ }
+    requires { ⌜ Round (now t) v j a o b ⌝ }
+    requires { ⌜ oppositeBy v j second ≡ At (o .at) ⌝ }
     ensures { λ r. ⌜ (r ≡ facesAndSides (cornerCount (now (t .entry)) k v j) (sideCount (now (t .entry)) k v j)) × ((r .faces ≤ 1) × (r .sides ≤ 3)) ⌝ }
 {
-    match chosen(t, v, j, n) {
-        Spot::Nothing => {
+    let at = v.at;
+    let adjacent = a.at;
+    let opposite = o.at;
+    let next = b.at;
+    let face = Face {
+        at,
+        adjacent,
+        opposite,
+        next,
+    };
+    let fits = fits_of(t, v, j, second, a, o, b, k, n);
+    let near = near_count(t, v, j, a, true, 0 < fits.adjacent, k, n);
+    let seen = face_seen(t, face, a.slot, o.slot, b.slot, fits, k, n);
+    let faces = new_face(seen);
+    let sides = near + far_count(t, v, j, a, o, b, fits, seen, k, n);
+    Counted { faces, sides }
+}
+
+// What is counted at corner j of v, in slot k, between its adjacent points a and b: its face, the side from v to a, and the two sides across from v.
+fn count_corner(t: &[u8], v: Record, j: u8, a: Placed, b: Placed, k: usize, n: usize) -> Counted
+    requires { ⌜ InOrder (now t) × ((n ≡ slotsOf (now t)) × (k < n)) ⌝ }
+    requires { ⌜ Inner v × (j < v .d) ⌝ }
+    requires { ⌜ slotAt (now t) k ≡ Holds v ⌝ }
+    requires { ⌜ (a ≡ placedOf (now t) (adjacentAt v j)) × (b ≡ placedOf (now t) (adjacentAt v (nextPlace (v .d) j))) ⌝ }
+    ensures { λ r. ⌜ (r ≡ facesAndSides (cornerCount (now (t .entry)) k v j) (sideCount (now (t .entry)) k v j)) × ((r .faces ≤ 1) × (r .sides ≤ 3)) ⌝ }
+{
+    match choose(t, v, j, n) {
+        Choice::First(o) => count_face(t, v, j, false, a, o, b, k, n),
+        Choice::Second(o) => count_face(t, v, j, true, a, o, b, k, n),
+        Choice::Neither => {
             let has = has_face(t, v, prev_place(v.d, j), n);
-            let sides = near_count(t, v, j, has, k, n);
+            let sides = near_count(t, v, j, a, has, false, k, n);
             Counted { faces: 0, sides }
-        }
-        Spot::At(o) => {
-            let near = near_count(t, v, j, true, k, n);
-            if face_before(t, face_on(v, j, o), k, n) {
-                Counted {
-                    faces: 0,
-                    sides: near,
-                }
-            } else {
-                let sides = near + far_count(t, v, j, o, k, n);
-                Counted { faces: 1, sides }
-            }
         }
     }
 }
 
-// What is counted at v, in slot k.
+// What is counted at v, in slot k. Each adjacent point is searched for once, and the first once more.
 fn count_star(t: &[u8], v: Record, k: usize, n: usize) -> Counted
     requires { ⌜ InOrder (now t) × ((n ≡ slotsOf (now t)) × (k < n)) ⌝ }
     requires { ⌜ validOf v ≡ true ⌝ }
@@ -63,13 +108,19 @@ fn count_star(t: &[u8], v: Record, k: usize, n: usize) -> Counted
     ensures { λ r. ⌜ (r ≡ facesAndSides (starFaces (now (t .entry)) k v) (starSides (now (t .entry)) k v)) × ((r .faces ≤ 6) × (r .sides ≤ 18)) ⌝ }
 {
     let d = v.d;
+    if d == 0 {
+        return Counted { faces: 0, sides: 0 };
+    }
     let mut faces = 0;
     let mut sides = 0;
+    let mut a = with_slot(t, adjacent_of(v, 0), n);
     let mut j = 0;
     while j < d {
-        let c = count_corner(t, v, j, k, n);
+        let b = with_slot(t, adjacent_of(v, next_place(d, j)), n);
+        let c = count_corner(t, v, j, a, b, k, n);
         faces += c.faces;
         sides += c.sides;
+        a = b;
         j += 1;
     }
     Counted { faces, sides }

@@ -7,8 +7,11 @@ ghost use Rattle.lattice.specs.RecordLaws.{Inner};
 ghost use Rattle.table.specs.Slots.{Table, slotsOf};
 ghost use Rattle.table.specs.Order.{InOrder};
 ghost use Rattle.counts.specs.Counts.{nextPlace, turned};
-ghost use Rattle.counts.specs.Earlier.{spotIs, cornerIs, namesFace, faceSeen, faceBefore, faceOn};
+ghost use Rattle.counts.specs.Strides.{ToldOf};
+ghost use Rattle.counts.specs.Earlier.{spotIs, cornerIs, namesFace, slotIn, faceIn, faceBefore};
 use crate::earlier::earlier;
+use crate::fits::Fits;
+use crate::fits::told_earlier;
 use lattice::Point;
 use lattice::Record;
 use lattice::Spot;
@@ -43,22 +46,6 @@ fn turn(f: Face) -> Face
     let adjacent = f.opposite;
     let opposite = f.next;
     let next = f.at;
-    Face {
-        at,
-        adjacent,
-        opposite,
-        next,
-    }
-}
-
-// The face of corner j of v, with this opposite.
-pub fn face_on(v: Record, j: u8, opposite: Point) -> Face
-    requires { ⌜ Inner v × (j < v .d) ⌝ }
-    ensures { λ r. ⌜ r ≡ faceOn v j opposite ⌝ }
-{
-    let at = v.at;
-    let adjacent = adjacent_of(v, j);
-    let next = adjacent_of(v, next_place(v.d, j));
     Face {
         at,
         adjacent,
@@ -112,30 +99,60 @@ fn names_face(t: &[u8], u: Record, f: Face, n: usize) -> bool
     false
 }
 
-// Whether the first vertex of f stands before slot k and names f.
-fn face_seen(t: &[u8], f: Face, k: usize, n: usize) -> bool
+// Whether the vertex in slot s stands before slot k and names f.
+fn face_in(t: &[u8], f: Face, s: usize, k: usize, n: usize) -> bool
     requires { ⌜ InOrder (now t) × ((n ≡ slotsOf (now t)) × (k < n)) ⌝ }
-    ensures { λ r. ⌜ r ≡ faceSeen (now (t .entry)) k f ⌝ }
+    ensures { λ r. ⌜ r ≡ faceIn (now (t .entry)) k f s ⌝ }
 {
-    let p = f.at;
-    match earlier(t, p, k, n) {
+    match earlier(t, s, k, n) {
         Looked::Absent => false,
         Looked::Held(u) => names_face(t, u, f, n),
     }
 }
 
-// Whether one of the three other vertices of f does.
-pub fn face_before(t: &[u8], f: Face, k: usize, n: usize) -> bool
+// Whether one of the three other vertices of f, in these slots, does.
+fn face_before(
+    t: &[u8],
+    f: Face,
+    adjacent: usize,
+    opposite: usize,
+    next: usize,
+    k: usize,
+    n: usize,
+) -> bool
     requires { ⌜ InOrder (now t) × ((n ≡ slotsOf (now t)) × (k < n)) ⌝ }
+    requires { ⌜ (adjacent ≡ slotIn (now t) (f .adjacent)) × ((opposite ≡ slotIn (now t) (f .opposite)) × (next ≡ slotIn (now t) (f .next))) ⌝ }
     ensures { λ r. ⌜ r ≡ faceBefore (now (t .entry)) k f ⌝ }
 {
     let second = turn(f);
-    if face_seen(t, second, k, n) {
+    if face_in(t, second, adjacent, k, n) {
         return true;
     }
     let third = turn(second);
-    if face_seen(t, third, k, n) {
+    if face_in(t, third, opposite, k, n) {
         return true;
     }
-    face_seen(t, turn(third), k, n)
+    face_in(t, turn(third), next, k, n)
+}
+
+// The same where some of them are known to name it by their strides.
+pub fn face_seen(
+    t: &[u8],
+    f: Face,
+    adjacent: usize,
+    opposite: usize,
+    next: usize,
+    fits: Fits,
+    k: usize,
+    n: usize,
+) -> bool
+    requires { ⌜ InOrder (now t) × ((n ≡ slotsOf (now t)) × (k < n)) ⌝ }
+    requires { ⌜ (adjacent ≡ slotIn (now t) (f .adjacent)) × ((opposite ≡ slotIn (now t) (f .opposite)) × (next ≡ slotIn (now t) (f .next))) ⌝ }
+    requires { ⌜ ToldOf (now t) f adjacent opposite next fits ⌝ }
+    ensures { λ r. ⌜ r ≡ faceBefore (now (t .entry)) k f ⌝ }
+{
+    if told_earlier(fits, adjacent, opposite, next, k) {
+        return true;
+    }
+    face_before(t, f, adjacent, opposite, next, k, n)
 }

@@ -9,12 +9,15 @@ ghost use Rattle.table.specs.Order.{InOrder};
 ghost use Rattle.counts.specs.Counts.{countsOf};
 
 mod across;
+mod choices;
 mod corners;
 mod degrees;
 mod earlier;
 mod faces;
+mod fits;
 mod rows;
 mod sides;
+mod strides;
 
 use crate::corners::count_corners;
 use crate::degrees::count_degrees;

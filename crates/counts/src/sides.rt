@@ -1,22 +1,28 @@
 // The sides of the faces, each counted once by E (corners.rt). A side at a vertex, to an adjacent point, is counted at the first of its two ends that
 // has it in a face. A side across a corner, from an adjacent point to the opposite, is left to its ends if one of them has it so; else, as between
-// two vertices of the rim, it is counted at the first vertex across from it that has it.
+// two vertices of the rim, it is counted at the first vertex across from it that has it, those that make a triangle with equal sides with it, one on
+// either hand, before all others: nearly always there is no other, and one place to ask.
 ghost use mathlib.Core.Path.{_≡_};
 ghost use mathlib.Core.Bool.{true};
 ghost use Prim.Native.Nat.{_≤_, _<_};
 ghost use Rattle.lattice.specs.Records.{validOf};
 ghost use Rattle.lattice.specs.RecordLaws.{Inner};
-ghost use Rattle.lattice.specs.declared.patterns.Spot.the-variants.{At};
+ghost use Rattle.lattice.specs.Stars.{adjacentAt};
 ghost use Rattle.table.specs.Slots.{Table, slotsOf};
 ghost use Rattle.table.specs.Order.{InOrder};
 ghost use Rattle.queries.specs.Queries.{isPoint, chosenAt};
-ghost use Rattle.counts.specs.Across.{StarPoint};
-ghost use Rattle.counts.specs.Earlier.{prevPlace, faced, nearIs, hasNear, nearBefore, nearCount, farIs, hasFar, farSeen, farBefore, farElse};
-ghost use Rattle.counts.specs.Earlier.{farOne, farCount};
+ghost use Rattle.counts.specs.Across.{StarPoint, apexOf};
+ghost use Rattle.counts.specs.Earlier.{slotIn, placedOf, prevPlace, faced, nearIs, hasNear, nearIn, nearCount, farIs, hasFar, farSeen, farBefore};
+ghost use Rattle.counts.specs.Strides.{ToldRound};
+ghost use Rattle.counts.specs.Earlier.{hasEither, apexSeen, narrowElse, acrossElse, endHas, SparedAcross, Spared, Round, farOne, farCount};
 use crate::across::across;
+use crate::across::apex;
+use crate::earlier::Placed;
 use crate::earlier::earlier;
+use crate::earlier::slot_of;
 use crate::faces::next_place;
 use crate::faces::spot_is;
+use crate::fits::Fits;
 use lattice::Point;
 use lattice::Record;
 use lattice::Spot;
@@ -88,33 +94,56 @@ fn has_near(t: &[u8], u: Record, p: Point, n: usize) -> bool
     false
 }
 
-// Whether the vertex at q stands before slot k and has the side to p.
-fn near_before(t: &[u8], p: Point, q: Point, k: usize, n: usize) -> bool
+// Whether the vertex in slot s stands before slot k and has the side to p.
+fn near_in(t: &[u8], p: Point, s: usize, k: usize, n: usize) -> bool
     requires { ⌜ InOrder (now t) × ((n ≡ slotsOf (now t)) × (k ≤ n)) ⌝ }
-    ensures { λ r. ⌜ r ≡ nearBefore (now (t .entry)) k p q ⌝ }
+    ensures { λ r. ⌜ r ≡ nearIn (now (t .entry)) k p s ⌝ }
 {
-    match earlier(t, q, k, n) {
+    match earlier(t, s, k, n) {
         Looked::Absent => false,
         Looked::Held(u) => has_near(t, u, p, n),
     }
 }
 
-// 1 where the side of v, in slot k, to its adjacent point j is counted there, else 0; has tells whether one of the two corners there has a face.
-pub fn near_count(t: &[u8], v: Record, j: u8, has: bool, k: usize, n: usize) -> u32
+// The same where known tells that the vertex in slot s has the side, wherever that stands.
+fn near_known(t: &[u8], p: Point, s: usize, known: bool, k: usize, n: usize) -> bool
+    requires { ⌜ InOrder (now t) × ((n ≡ slotsOf (now t)) × (k ≤ n)) ⌝ }
+    requires { ⌜ (known ≡ true → nearIn (now t) (slotsOf (now t)) p s ≡ true) ⌝ }
+    ensures { λ r. ⌜ r ≡ nearIn (now (t .entry)) k p s ⌝ }
+{
+    if k <= s {
+        return false;
+    }
+    if known {
+        return true;
+    }
+    near_in(t, p, s, k, n)
+}
+
+// 1 where the side of v, in slot k, to its adjacent point a at place j is counted there, else 0; has tells whether one of the two corners there has a
+// face, known that the vertex at a has the side.
+pub fn near_count(
+    t: &[u8],
+    v: Record,
+    j: u8,
+    a: Placed,
+    has: bool,
+    known: bool,
+    k: usize,
+    n: usize,
+) -> u32
     requires { ⌜ InOrder (now t) × ((n ≡ slotsOf (now t)) × (k < n)) ⌝ }
-    requires { ⌜ Inner v × (j < v .d) ⌝ }
+    requires { ⌜ a ≡ placedOf (now t) (adjacentAt v j) ⌝ }
     requires { ⌜ has ≡ faced (now t) v j ⌝ }
+    requires { ⌜ (known ≡ true → nearIn (now t) (slotsOf (now t)) (v .at) (a .slot) ≡ true) ⌝ }
     ensures { λ r. ⌜ (r ≡ nearCount (now (t .entry)) k v j) × (r ≤ 1) ⌝ }
 {
     let p = v.at;
     if !has {
         return 0;
     }
-    if near_before(t, p, adjacent_of(v, j), k, n) {
-        0
-    } else {
-        1
-    }
+    let before = near_known(t, p, a.slot, known, k, n);
+    if before { 0 } else { 1 }
 }
 
 // ---- sides across from a vertex
@@ -160,7 +189,8 @@ fn far_seen(t: &[u8], p: Point, q: Point, c: u8, k: usize, n: usize) -> bool
     requires { ⌜ StarPoint p × (StarPoint q × (c < 8)) ⌝ }
     ensures { λ r. ⌜ r ≡ farSeen (now (t .entry)) k p q c ⌝ }
 {
-    match earlier(t, across(p, q, c), k, n) {
+    let s = slot_of(t, across(p, q, c), n);
+    match earlier(t, s, k, n) {
         Looked::Absent => false,
         Looked::Held(u) => has_far(t, u, p, q, n),
     }
@@ -182,16 +212,41 @@ fn far_before(t: &[u8], p: Point, q: Point, k: usize, n: usize) -> bool
     false
 }
 
-// Whether the side of p and q is counted elsewhere: at one of its ends, or at a vertex across from it that stands before slot k.
-fn far_else(t: &[u8], p: Point, q: Point, k: usize, n: usize) -> bool
-    requires { ⌜ InOrder (now t) × ((n ≡ slotsOf (now t)) × (k < n)) ⌝ }
-    requires { ⌜ StarPoint p × StarPoint q ⌝ }
-    ensures { λ r. ⌜ r ≡ farElse (now (t .entry)) k p q ⌝ }
+// Whether u has the side of p and q across from it, whichever of them is the opposite.
+fn has_either(t: &[u8], u: Record, p: Point, q: Point, n: usize) -> bool
+    requires { ⌜ Table (now t) n ⌝ }
+    requires { ⌜ validOf u ≡ true ⌝ }
+    ensures { λ r. ⌜ r ≡ hasEither (now (t .entry)) p q u ⌝ }
 {
-    if near_before(t, q, p, n, n) {
+    if has_far(t, u, p, q, n) {
         return true;
     }
-    if near_before(t, p, q, n, n) {
+    has_far(t, u, q, p, n)
+}
+
+// Whether a vertex at a stands before slot k and does.
+fn apex_seen(t: &[u8], p: Point, q: Point, a: Point, k: usize, n: usize) -> bool
+    requires { ⌜ InOrder (now t) × ((n ≡ slotsOf (now t)) × (k ≤ n)) ⌝ }
+    ensures { λ r. ⌜ r ≡ apexSeen (now (t .entry)) k p q a ⌝ }
+{
+    let s = slot_of(t, a, n);
+    match earlier(t, s, k, n) {
+        Looked::Absent => false,
+        Looked::Held(u) => has_either(t, u, p, q, n),
+    }
+}
+
+// Whether the side of p and q is counted elsewhere than at a vertex in slot k that stands at none of its apexes, left and right.
+fn narrow_else(t: &[u8], p: Point, q: Point, left: Point, right: Point, k: usize, n: usize) -> bool
+    requires { ⌜ InOrder (now t) × ((n ≡ slotsOf (now t)) × (k < n)) ⌝ }
+    requires { ⌜ StarPoint p × StarPoint q ⌝ }
+    requires { ⌜ (left ≡ apexOf p q) × (right ≡ apexOf q p) ⌝ }
+    ensures { λ r. ⌜ r ≡ narrowElse (now (t .entry)) k p q ⌝ }
+{
+    if apex_seen(t, p, q, left, n, n) {
+        return true;
+    }
+    if apex_seen(t, p, q, right, n, n) {
         return true;
     }
     if far_before(t, p, q, k, n) {
@@ -200,23 +255,111 @@ fn far_else(t: &[u8], p: Point, q: Point, k: usize, n: usize) -> bool
     far_before(t, q, p, k, n)
 }
 
-// 1 where the side of p and q, across from the vertex in slot k, is counted there, else 0.
-fn far_one(t: &[u8], p: Point, q: Point, k: usize, n: usize) -> u32
+// Whether the side of p and q, which no end has, is counted elsewhere than at the vertex at v, in slot k; seen tells whether its face was counted before.
+fn across_else(t: &[u8], v: Point, p: Point, q: Point, seen: bool, k: usize, n: usize) -> bool
     requires { ⌜ InOrder (now t) × ((n ≡ slotsOf (now t)) × (k < n)) ⌝ }
     requires { ⌜ StarPoint p × StarPoint q ⌝ }
-    ensures { λ r. ⌜ (r ≡ farOne (now (t .entry)) k p q) × (r ≤ 1) ⌝ }
+    requires { ⌜ SparedAcross (now t) k v p q seen ⌝ }
+    ensures { λ r. ⌜ r ≡ acrossElse (now (t .entry)) k v p q ⌝ }
 {
-    if far_else(t, p, q, k, n) { 0 } else { 1 }
+    let left = apex(p, q);
+    let right = apex(q, p);
+    if same_point(v, left) {
+        return apex_seen(t, p, q, right, k, n);
+    }
+    if same_point(v, right) {
+        return apex_seen(t, p, q, left, k, n);
+    }
+    if seen {
+        return true;
+    }
+    narrow_else(t, p, q, left, right, k, n)
 }
 
-// How many of the two sides across corner j of v, in slot k, whose opposite is o, are counted there.
-pub fn far_count(t: &[u8], v: Record, j: u8, o: Point, k: usize, n: usize) -> u32
+// Whether one of the ends of a side has it.
+fn end_has(t: &[u8], p: Placed, q: Placed, n: usize) -> bool
+    requires { ⌜ InOrder (now t) × (n ≡ slotsOf (now t)) ⌝ }
+    requires { ⌜ (p .slot ≡ slotIn (now t) (p .at)) × (q .slot ≡ slotIn (now t) (q .at)) ⌝ }
+    ensures { λ r. ⌜ r ≡ endHas (now (t .entry)) (p .at) (q .at) ⌝ }
+{
+    if near_in(t, q.at, p.slot, n, n) {
+        return true;
+    }
+    near_in(t, p.at, q.slot, n, n)
+}
+
+// 1 where the side of p and q, across from the vertex at v in slot k, is counted there, else 0; known tells that an end has it, seen whether its face
+// was counted before.
+fn far_one(
+    t: &[u8],
+    v: Point,
+    p: Placed,
+    q: Placed,
+    known: bool,
+    seen: bool,
+    k: usize,
+    n: usize,
+) -> u32
+    requires { ⌜ InOrder (now t) × ((n ≡ slotsOf (now t)) × (k < n)) ⌝ }
+    requires { ⌜ StarPoint (p .at) × StarPoint (q .at) ⌝ }
+    requires { ⌜ (p .slot ≡ slotIn (now t) (p .at)) × (q .slot ≡ slotIn (now t) (q .at)) ⌝ }
+    requires { ⌜ (known ≡ true → endHas (now t) (p .at) (q .at) ≡ true) ⌝ }
+    requires { ⌜ Spared (now t) k v (p .at) (q .at) seen ⌝ }
+    ensures { λ r. ⌜ (r ≡ farOne (now (t .entry)) k v (p .at) (q .at)) × (r ≤ 1) ⌝ }
+{
+    if known {
+        return 0;
+    }
+    if end_has(t, p, q, n) {
+        return 0;
+    }
+    let a = p.at;
+    let b = q.at;
+    let elsewhere = across_else(t, v, a, b, seen, k, n);
+    if elsewhere { 0 } else { 1 }
+}
+
+// How many of the two sides across corner j of v, in slot k, are counted there: from a and from b, beside it, to its opposite o; fits tells what these
+// are known to have.
+pub fn far_count(
+    t: &[u8],
+    v: Record,
+    j: u8,
+    a: Placed,
+    o: Placed,
+    b: Placed,
+    fits: Fits,
+    seen: bool,
+    k: usize,
+    n: usize,
+) -> u32
     requires { ⌜ InOrder (now t) × ((n ≡ slotsOf (now t)) × (k < n)) ⌝ }
     requires { ⌜ Inner v × (j < v .d) ⌝ }
-    requires { ⌜ chosenAt (now t) v j ≡ At o ⌝ }
+    requires { ⌜ Round (now t) v j a o b ⌝ }
+    requires { ⌜ ToldRound (now t) v j a o b fits ⌝ }
+    requires { ⌜ Spared (now t) k (v .at) (a .at) (o .at) seen × Spared (now t) k (v .at) (b .at) (o .at) seen ⌝ }
     ensures { λ r. ⌜ (r ≡ farCount (now (t .entry)) k v j) × (r ≤ 2) ⌝ }
 {
-    let before = far_one(t, adjacent_of(v, j), o, k, n);
-    let after = far_one(t, adjacent_of(v, next_place(v.d, j)), o, k, n);
+    let p = v.at;
+    let before = far_one(
+        t,
+        p,
+        a,
+        o,
+        (0 < fits.adjacent) | (0 < fits.opposite),
+        seen,
+        k,
+        n,
+    );
+    let after = far_one(
+        t,
+        p,
+        b,
+        o,
+        (0 < fits.next) | (0 < fits.opposite),
+        seen,
+        k,
+        n,
+    );
     before + after
 }

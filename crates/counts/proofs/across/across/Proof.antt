@@ -3,7 +3,7 @@ use mathlib.Core.Path.{_≡_, sym, ap, subst, _∙_}
 use Prim.Native.Nat.{ℕ, _≤_}
 use native.Mathlib.Omega.{arith}
 use borrow.Author.Needs.{needs}
-use lib.Dec.{T}
+use lib.Dec.{T, lit≤}
 use lib.IntN.{ℤ, natAbs}
 use mir.Syntax.{w32}
 use mir.Val.{toZ, ofZ, SFits}
@@ -37,25 +37,25 @@ seven-high p w = omega (arith, size-high p, w .high)
 small : (z : ℤ) → natAbs z ≤ 600000 → natAbs (toZ w32 (ofZ w32 z)) ≤ 600000
 small z h = sized-back (whole z 600000 h) tt
 
-at-seven-requires : tie.Need-at-seven-requires
-at-seven-requires c κs = let s = c .before in let p = s .args .p in let w = s .pre .0 in (w .depth, small (p .a) (wide-bound p w))
+raised-requires : tie.Need-raised-requires
+raised-requires c κs = let s = c .before in let p = s .args .p in let w = s .pre .0 in (w .depth, (lit≤ tt, small (p .a) (wide-bound p w)))
 
-at-seven-requires-2 : tie.Need-at-seven-requires-2
-at-seven-requires-2 c κs = let s = c .before .before .before in let p = s .args .p in let w = s .pre .0 in (w .depth, small (p .b) (high-bound p w))
+raised-requires-2 : tie.Need-raised-requires-2
+raised-requires-2 c κs = let s = c .before .before .before in let p = s .args .p in let w = s .pre .0 in (w .depth, (lit≤ tt, small (p .b) (high-bound p w)))
 
-at-seven-requires-3 : tie.Need-at-seven-requires-3
-at-seven-requires-3 c κs =
+raised-requires-3 : tie.Need-raised-requires-3
+raised-requires-3 c κs =
     let s = c .before .before .before .before .before in
     let q = s .args .q in
     let w = s .pre .1 .0 in
-    (w .depth, small (q .a) (wide-bound q w))
+    (w .depth, (lit≤ tt, small (q .a) (wide-bound q w)))
 
-at-seven-requires-4 : tie.Need-at-seven-requires-4
-at-seven-requires-4 c κs =
+raised-requires-4 : tie.Need-raised-requires-4
+raised-requires-4 c κs =
     let s = c .before .before .before .before .before .before .before in
     let q = s .args .q in
     let w = s .pre .1 .0 in
-    (w .depth, small (q .b) (high-bound q w))
+    (w .depth, (lit≤ tt, small (q .b) (high-bound q w)))
 
 -- what the calls gave, as numbers with a bound
 module _ (c : tie.After-factor-y) where
@@ -63,25 +63,25 @@ module _ (c : tie.After-factor-y) where
   s = c .before .before .before .before .before .before .before .before .before .before
 
   abbrev a : Mx w32
-  a = numerator (s .args .p .a) (s .args .p .m .0) (c .before .before .before .before .before .before .before .before .at-seven .result)
-      (record { sfits = c .before .before .before .before .before .before .before .before .at-seven .ok })
-      (c .before .before .before .before .before .before .before .before .at-seven .ensures)
+  a = numerator (s .args .p .a) (s .args .p .m .0) (c .before .before .before .before .before .before .before .before .raised .result)
+      (record { sfits = c .before .before .before .before .before .before .before .before .raised .ok })
+      (c .before .before .before .before .before .before .before .before .raised .ensures)
       (wide-bound (s .args .p) (s .pre .0)) (seven-wide (s .args .p) (s .pre .0))
 
   abbrev b : Mx w32
-  b = numerator (s .args .p .b) (s .args .p .m .0) (c .before .before .before .before .before .before .at-seven2 .result)
-      (record { sfits = c .before .before .before .before .before .before .at-seven2 .ok })
-      (c .before .before .before .before .before .before .at-seven2 .ensures)
+  b = numerator (s .args .p .b) (s .args .p .m .0) (c .before .before .before .before .before .before .raised2 .result)
+      (record { sfits = c .before .before .before .before .before .before .raised2 .ok })
+      (c .before .before .before .before .before .before .raised2 .ensures)
       (high-bound (s .args .p) (s .pre .0)) (seven-high (s .args .p) (s .pre .0))
 
   abbrev x : Mx w32
-  x = numerator (s .args .q .a) (s .args .q .m .0) (c .before .before .before .before .at-seven3 .result)
-      (record { sfits = c .before .before .before .before .at-seven3 .ok }) (c .before .before .before .before .at-seven3 .ensures)
+  x = numerator (s .args .q .a) (s .args .q .m .0) (c .before .before .before .before .raised3 .result)
+      (record { sfits = c .before .before .before .before .raised3 .ok }) (c .before .before .before .before .raised3 .ensures)
       (wide-bound (s .args .q) (s .pre .1 .0)) (seven-wide (s .args .q) (s .pre .1 .0))
 
   abbrev y : Mx w32
-  y = numerator (s .args .q .b) (s .args .q .m .0) (c .before .before .at-seven4 .result)
-      (record { sfits = c .before .before .at-seven4 .ok }) (c .before .before .at-seven4 .ensures)
+  y = numerator (s .args .q .b) (s .args .q .m .0) (c .before .before .raised4 .result)
+      (record { sfits = c .before .before .raised4 .ok }) (c .before .before .raised4 .ensures)
       (high-bound (s .args .q) (s .pre .1 .0)) (seven-high (s .args .q) (s .pre .1 .0))
 
   f : toZ w32 (ofZ w32 (c .before .factor-x .result)) ≡ factorOf (s .args .c) .x
@@ -107,10 +107,10 @@ pub across-spec : {M : Type 1} → statement M
 across-spec =
     tie.close
     (tie.spec
-    at-seven-requires
-    at-seven-requires-2
-    at-seven-requires-3
-    at-seven-requires-4
+    raised-requires
+    raised-requires-2
+    raised-requires-3
+    raised-requires-4
     (λ c κs. search needs)
     (λ c κs. search needs)
     (λ c. need (x c -ᵐ a c) tt)

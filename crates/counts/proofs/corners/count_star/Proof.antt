@@ -1,70 +1,150 @@
--- `counts::count_star` meets its promise. The invariant: the corners so far are counted. Assumes nothing.
-use mathlib.Core.Path.{_≡_, ap, _∙_}
-use Prim.Native.Nat.{_≤_, _-_}
+-- `counts::count_star` meets its promise: nothing without a star. The invariant: the corners so far are counted, and a is the next adjacent
+-- point. Assumes nothing.
+use mathlib.Core.Path.{_≡_, refl, ap, sym, _∙_}
+use mathlib.Core.Bool.{Bool, true, false, cond}
+use Prim.Native.Nat.{ℕ, _≤_, _-_}
 use native.Mathlib.Omega.{arith}
 use borrow.Author.Needs.{needs}
+use borrow.Author.Tests.{ne-eqb}
+use lib.Dec.{eqb}
+use Rattle.lattice.specs.Stars.{adjacentAt}
 use Rattle.lattice.specs.RecordLaws.{Inner}
-use Rattle.counts.specs.Earlier.{sumBelow, facesAndSides, cornerCount, sideCount}
+use Rattle.counts.specs.Counts.{nextPlace}
+use Rattle.counts.specs.Earlier.{sumBelow, placedOf, facesAndSides, cornerCount, sideCount}
+use Rattle.counts.specs.DifferentLaws.{sum-none}
 use Rattle.counts.specs.EarlierLaws.{valid-inner, valid-degree}
 use Rattle.counts.specs.CaseLaws.{Summed, summed-start, summed-more}
 use Rattle.counts.specs.declared.corners.Counted.{Counted}
+use Rattle.counts.specs.declared.earlier.Placed.{Placed}
 use Rattle.counts.proofs.corners.count_star.Statement.{statement}
 use Rattle.counts.proofs.corners.count_star.Tie as tie
 
+-- past the last place comes the first
+abbrev round : ℕ → ℕ → ℕ
+round d j = cond (eqb j d) 0 j
+
+round-first : (d : ℕ) → 0 ≡ round d 0
+round-first d = go (eqb 0 d)
+  where
+    go : (b : Bool) → _≡_ {A = ℕ} 0 (cond b 0 0)
+    go true = refl
+    go false = refl
+
 abbrev Inv-loop : tie.InvT-loop
-Inv-loop t v k n d faces₀ sides₀ j₀ faces sides j = (j ≤ v .d) × (Summed (cornerCount t k v) 1 j faces × Summed (sideCount t k v) 3 j sides)
+Inv-loop t v k n d faces₀ sides₀ a₀ j₀ faces sides a j =
+    (j ≤ v .d) × (Summed (cornerCount t k v) 1 j faces × (Summed (sideCount t k v) 3 j sides × (a ≡ placedOf t (adjacentAt v (round (v .d) j)))))
 
 abbrev μ-loop : tie.MeasureT-loop
-μ-loop t v k n d faces₀ sides₀ j₀ faces sides j = v .d - j
+μ-loop t v k n d faces₀ sides₀ a₀ j₀ faces sides a j = v .d - j
+
+returns : tie.Need-returns Inv-loop μ-loop
+returns c =
+    let a = c .before .before .args in
+    let none : (f : ℕ → ℕ) → 0 ≡ sumBelow f (a .v .d) = λ f. sym (sum-none f) ∙ ap (sumBelow f) (sym (c .if1 .taken)) in
+    ((λ i. facesAndSides (none (cornerCount (a .t .now) (a .k) (a .v)) i) (none (sideCount (a .t .now) (a .k) (a .v)) i)), (omega arith, omega arith))
+
+adjacent-of-requires : tie.Need-adjacent-of-requires Inv-loop μ-loop
+adjacent-of-requires c κs =
+    let s = c .before .before in
+    (valid-inner (s .args .v) 0 (s .pre .1 .0) (omega (arith, c .if1 .left)), omega (arith, c .if1 .left))
 
 loop-holds : tie.Need-loop-holds Inv-loop μ-loop
-loop-holds c = let a = c .before .args in
-    (omega arith, (summed-start (cornerCount (a .t .now) (a .k) (a .v)) 1, summed-start (sideCount (a .t .now) (a .k) (a .v)) 3))
+loop-holds c =
+    let a = c .before .before .before .before .args in
+    let t = a .t .now in (
+      omega arith,
+      (
+        summed-start (cornerCount t (a .k) (a .v)) 1,
+        (
+          summed-start (sideCount t (a .k) (a .v)) 3,
+          c .with-slot .ensures ∙ ap (placedOf t) (c .before .adjacent-of .ensures ∙ ap (adjacentAt (a .v)) (round-first (a .v .d))),
+        ),
+      ),
+    )
 
-star : (c : tie.In-loop Inv-loop μ-loop) → Inner (c .before .before .before .args .v)
-star c = let s = c .before .before .before in valid-inner (s .args .v) (c .before .loop .j) (s .pre .1 .0) (omega (arith, c .loop-test .taken))
+-- in the loop there is a star
+module _ (c : tie.In-loop Inv-loop μ-loop) where
+  abbrev s : tie.Start Inv-loop μ-loop
+  s = c .before .before .before .before .before .before
+
+  star : Inner (s .args .v)
+  star = valid-inner (s .args .v) (c .before .loop .j) (s .pre .1 .0) (omega (arith, c .loop-test .taken))
+
+adjacent-of-requires-2 : tie.Need-adjacent-of-requires-2 Inv-loop μ-loop
+adjacent-of-requires-2 c κs = (star (c .before), c .next-place .ensures .1)
+
+-- the next adjacent point
+module _ (c : tie.After-with-slot2 Inv-loop μ-loop) where
+  abbrev loop : tie.In-loop Inv-loop μ-loop
+  loop = c .before .before .before
+
+  next : c .with-slot2 .result ≡ placedOf (s loop .args .t .now) (adjacentAt (s loop .args .v) (nextPlace (s loop .args .v .d) (loop .before .loop .j)))
+  next = c .with-slot2 .ensures
+      ∙ ap (placedOf (s loop .args .t .now)) (c .before .adjacent-of2 .ensures ∙ ap (adjacentAt (s loop .args .v)) (c .before .before .next-place .ensures .0))
 
 count-corner-requires : tie.Need-count-corner-requires Inv-loop μ-loop
-count-corner-requires c κs = let s = c .before .before .before in (s .pre .0, ((star c, omega (arith, c .loop-test .taken)), s .pre .1 .1))
+count-corner-requires c κs =
+    let i = loop c in
+    let z = s i in
+    let a = z .args in
+    let j = i .before .loop .j in
+    let n = ne-eqb j (a .v .d) (λ e. omega (arith, i .loop-test .taken)) in (
+      z .pre .0,
+      (
+        (star i, omega (arith, i .loop-test .taken)),
+        (
+          z .pre .1 .1,
+          (i .before .loop .inv .1 .1 .1 ∙ ap (λ (b : Bool). placedOf (a .t .now) (adjacentAt (a .v) (cond b 0 j))) n, next c),
+        ),
+      ),
+    )
 
 add-faces : tie.Need-add-faces Inv-loop μ-loop
 add-faces c =
-    let i = c .before .before in
+    let i = loop (c .before .before) in
     let l = i .before .loop .inv in
     record { fits = omega (arith, l .1 .0 .most, l .0, star i .top, c .before .count-corner .ensures .1 .0) }
 
 add-sides : tie.Need-add-sides Inv-loop μ-loop
 add-sides c =
-    let i = c .before .before .before in
+    let i = loop (c .before .before .before) in
     let l = i .before .loop .inv in
-    record { fits = omega (arith, l .1 .1 .most, l .0, star i .top, c .before .before .count-corner .ensures .1 .1) }
+    record { fits = omega (arith, l .1 .1 .0 .most, l .0, star i .top, c .before .before .count-corner .ensures .1 .1) }
+
+add-j : tie.Need-add-j Inv-loop μ-loop
+add-j c = let i = loop (c .before .before .before) in record { fits = omega (arith, i .loop-test .taken, star i .top) }
 
 loop-again : tie.Need-loop-again Inv-loop μ-loop
 loop-again c =
     let r = c .before .before in
-    let i = r .before in
-    let l = i .before in
-    let a = l .before .before .args in
+    let i = loop (r .before) in
+    let l = i .before .loop in
+    let a = s i .args in
+    let t = a .t .now in
     let e = r .count-corner .ensures in (
       omega (arith, i .loop-test .taken),
       (
-        summed-more (cornerCount (a .t .now) (a .k) (a .v)) 1 (l .loop .j) (l .loop .faces) (r .count-corner .result .faces) (l .loop .inv .1 .0)
-            (ap (λ (x : Counted). x .faces) (e .0)) (e .1 .0),
-        summed-more (sideCount (a .t .now) (a .k) (a .v)) 3 (l .loop .j) (l .loop .sides) (r .count-corner .result .sides) (l .loop .inv .1 .1)
-            (ap (λ (x : Counted). x .sides) (e .0)) (e .1 .1),
+        summed-more (cornerCount t (a .k) (a .v)) 1 (l .j) (l .faces) (r .count-corner .result .faces) (l .inv .1 .0) (ap (λ (x : Counted). x .faces) (e .0))
+            (e .1 .0),
+        (
+          summed-more (sideCount t (a .k) (a .v)) 3 (l .j) (l .sides) (r .count-corner .result .sides) (l .inv .1 .1 .0)
+              (ap (λ (x : Counted). x .sides) (e .0)) (e .1 .1),
+          next (r .before),
+        ),
       ),
     )
 
-returns : tie.Need-returns Inv-loop μ-loop
-returns c =
-    let l = c .before in
-    let s = l .before .before in
-    let a = s .args in
-    let e : l .loop .j ≡ a .v .d = omega (arith, l .loop .inv .0, c .loop-test .left) in
-    let d = valid-degree (a .v) (s .pre .1 .0) in (
-      (λ i. facesAndSides ((l .loop .inv .1 .0 .is ∙ ap (sumBelow (cornerCount (a .t .now) (a .k) (a .v))) e) i)
-          ((l .loop .inv .1 .1 .is ∙ ap (sumBelow (sideCount (a .t .now) (a .k) (a .v))) e) i)),
-      (omega (arith, l .loop .inv .1 .0 .most, l .loop .inv .0, d), omega (arith, l .loop .inv .1 .1 .most, l .loop .inv .0, d)),
+returns-2 : tie.Need-returns-2 Inv-loop μ-loop
+returns-2 c =
+    let l = c .before .loop in
+    let z = c .before .before .before .before .before .before in
+    let a = z .args in
+    let t = a .t .now in
+    let e : l .j ≡ a .v .d = omega (arith, l .inv .0, c .loop-test .left) in
+    let d = valid-degree (a .v) (z .pre .1 .0) in (
+      (λ i. facesAndSides ((l .inv .1 .0 .is ∙ ap (sumBelow (cornerCount t (a .k) (a .v))) e) i)
+          ((l .inv .1 .1 .0 .is ∙ ap (sumBelow (sideCount t (a .k) (a .v))) e) i)),
+      (omega (arith, l .inv .1 .0 .most, l .inv .0, d), omega (arith, l .inv .1 .1 .0 .most, l .inv .0, d)),
     )
 
 pub count-star-spec : {M : Type 1} → statement M
@@ -73,11 +153,17 @@ count-star-spec =
     (tie.spec
     Inv-loop
     μ-loop
+    returns
+    adjacent-of-requires
+    (λ c κs. search needs)
     loop-holds
+    (λ c κs. search needs)
+    adjacent-of-requires-2
+    (λ c κs. search needs)
     count-corner-requires
     add-faces
     add-sides
-    (λ c. search needs)
+    add-j
     (λ c. search needs)
     loop-again
-    returns)
+    returns-2)

@@ -1,0 +1,112 @@
+-- `counts::count_face` meets its promise: the side to the adjacent point, the face, the two sides across. Assumes nothing.
+use mathlib.Core.Path.{_≡_, ap, sym, _∙_, subst}
+use Prim.Native.Nat.{_+_, _<_}
+use native.Mathlib.Omega.{arith}
+use borrow.Author.Needs.{needs}
+use borrow.Author.Tests.{ltb-true}
+use Rattle.lattice.specs.declared.points.Point.{Point}
+use Rattle.table.specs.Slots.{slotsOf}
+use Rattle.queries.specs.Queries.{isPoint}
+use Rattle.counts.specs.Counts.{face}
+use Rattle.counts.specs.Earlier.{facesAndSides, Spared, faceBefore, faceOn}
+use Rattle.counts.specs.EarlierLaws.{placed-at, placed-slot}
+use Rattle.counts.specs.EdgeLaws.{far-spared}
+use Rattle.counts.specs.Strides.{ToldOf}
+use Rattle.counts.specs.CaseLaws.{faced-first, corner-counted}
+use Rattle.counts.specs.declared.faces.Face.{Face}
+use Rattle.counts.proofs.corners.count_face.Statement.{statement}
+use Rattle.counts.proofs.corners.count_face.Tie as tie
+
+-- the face that is asked for is the corner's
+module _ (s : tie.Start) where
+  abbrev asked : Face
+  asked = face (s .args .v .at) (s .args .a .at) (s .args .o .at) (s .args .b .at)
+
+  is : asked ≡ faceOn (s .args .v) (s .args .j) (s .args .o .at)
+  is = λ i. face (s .args .v .at) (placed-at (s .args .t .now) _ _ (s .pre .1 .1 .1 .0 .adjacent) i) (s .args .o .at)
+      (placed-at (s .args .t .now) _ _ (s .pre .1 .1 .1 .0 .next) i)
+
+near-count-requires : tie.Need-near-count-requires
+near-count-requires c κs =
+    let f = c .before in
+    let s = f .before .before .before .before .before .before in
+    let a = s .args in
+    let r = s .pre .1 .1 .1 .0 in (
+      s .pre .0,
+      (
+        r .adjacent,
+        (
+          faced-first (a .t .now) (a .v) (a .j) (ap isPoint (r .chosen)),
+          λ h. f .fits-of .ensures .adjacent .next (ltb-true 0 (f .fits-of .result .adjacent) h),
+        ),
+      ),
+    )
+
+face-seen-requires : tie.Need-face-seen-requires
+face-seen-requires c κs =
+    let f = c .before .before in
+    let s = f .before .before .before .before .before .before in
+    let a = s .args in
+    let t = a .t .now in
+    let r = s .pre .1 .1 .1 .0 in (
+      s .pre .0,
+      (
+        (placed-slot t _ _ (r .adjacent), (r .opposite, placed-slot t _ _ (r .next))),
+        subst (λ (g : Face). ToldOf t g (a .a .slot) (a .o .slot) (a .b .slot) (f .fits-of .result)) (sym (is s)) (f .fits-of .ensures),
+      ),
+    )
+
+far-count-requires : tie.Need-far-count-requires
+far-count-requires c κs =
+    let b = c .before in
+    let f = b .before .before .before in
+    let s = f .before .before .before .before .before .before in
+    let a = s .args in
+    let t = a .t .now in
+    let r = s .pre .1 .1 .1 .0 in
+    let l : a .k < slotsOf t = omega (arith, s .pre .0 .1 .0, s .pre .0 .1 .1) in
+    let x = far-spared t (s .pre .0 .0) (a .k) (a .v) l (s .pre .1 .1 .0) (a .j) (a .o .at) (b .face-seen .result) (r .chosen)
+    (b .face-seen .ensures ∙ ap (faceBefore t (a .k)) (is s)) in (
+      s .pre .0,
+      (
+        s .pre .1 .0,
+        (
+          r,
+          (
+            f .fits-of .ensures,
+            (
+              subst (λ (p : Point). Spared t (a .k) (a .v .at) p (a .o .at) (b .face-seen .result)) (sym (placed-at t _ _ (r .adjacent))) (x .0),
+              subst (λ (p : Point). Spared t (a .k) (a .v .at) p (a .o .at) (b .face-seen .result)) (sym (placed-at t _ _ (r .next))) (x .1),
+            ),
+          ),
+        ),
+      ),
+    )
+
+returns : tie.Need-returns
+returns c =
+    let w = c .before in
+    let b = w .before in
+    let n = b .before in
+    let s = n .before .before .before .before .before .before .before .before in
+    let a = s .args in
+    let e = n .near-count .ensures in
+    let f = c .far-count .ensures in (
+      (λ i. facesAndSides
+          ((w .new-face .ensures .0
+          ∙ corner-counted (a .t .now) (a .k) (a .v) (a .j) (a .o .at) (s .pre .1 .1 .1 .0 .chosen) (asked s) (is s) _ (sym (b .face-seen .ensures))) i)
+          (e .0 i + f .0 i)),
+      (w .new-face .ensures .1, omega (arith, e .1, f .1)),
+    )
+
+pub count-face-spec : {M : Type 1} → statement M
+count-face-spec =
+    tie.close
+    (tie.spec
+    (λ c κs. search needs)
+    near-count-requires
+    face-seen-requires
+    (λ c κs. search needs)
+    far-count-requires
+    (λ c. search needs)
+    returns)

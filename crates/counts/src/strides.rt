@@ -1,0 +1,111 @@
+// Strides, the ways from a vertex to an adjacent point and from there to an opposite, each as one number: twelve times the level, from 1 on, and the
+// direction. Whether another vertex has a corner with the points of a face is then a comparison of small numbers: no point is worked out, none
+// searched for.
+ghost use mathlib.Core.Path.{_≡_};
+ghost use mathlib.Core.Bool.{Bool};
+ghost use Prim.Native.Nat.{_≤_, _<_};
+ghost use Rattle.lattice.specs.RecordLaws.{Inner};
+ghost use Rattle.counts.specs.Strides.{rowOf, adjacentRow, sideRow, otherRow, strideOf, backOf, Fit};
+use crate::faces::next_place;
+use lattice::Record;
+
+// The row of degree d.
+fn row(d: u8, three: u64, four: u64, five: u64, six: u64) -> u64
+    ensures { λ r. ⌜ r ≡ rowOf d three four five six ⌝ }
+{
+    match d {
+        3 => three,
+        4 => four,
+        5 => five,
+        _ => six,
+    }
+}
+
+// The strides of a star at orientation 0 and level 0, six bits a place from the lowest on, 63 where there is none: to the adjacent points.
+pub fn adjacents(d: u8) -> u64
+    ensures { λ r. ⌜ r ≡ adjacentRow d ⌝ }
+{
+    row(d, 0x1440c, 0x85f40c, 0x217dd6cc, 0x59449038c)
+}
+
+// From the adjacent point of a corner to its first or second opposite.
+pub fn sides(d: u8, second: bool) -> u64
+    ensures { λ r. ⌜ r ≡ sideRow d second ⌝ }
+{
+    if second {
+        row(d, 0xb1c3, 0xfe1fc3, 0x3f85f77f, 0x31651240e)
+    } else {
+        row(d, 0xc510, 0x8ee510, 0x23baca90, 0x66385f75b)
+    }
+}
+
+// From the next adjacent point to it.
+pub fn others(d: u8, second: bool) -> u64
+    ensures { λ r. ⌜ r ≡ otherRow d second ⌝ }
+{
+    if second {
+        row(d, 0x9141, 0xfdffc1, 0x3f7dd6ff, 0x59449038c)
+    } else {
+        row(d, 0x1440c, 0x52a74c, 0x14aa8999, 0x85f75b663)
+    }
+}
+
+// The stride at place j of a row, at orientation k and level n; 0 where there is none.
+pub fn stride(row: u64, j: u8, k: u8, n: u8) -> u8
+    requires { ⌜ (j < 6) × ((k < 12) × (n ≤ 12)) ⌝ }
+    ensures { λ r. ⌜ (r ≡ strideOf row j k n) × (r ≤ 240) ⌝ }
+{
+    let r = ((row >> (6 * j)) % 64) as u8;
+    if r == 63 {
+        return 0;
+    }
+    12 * (n + r / 12) + (k + r % 12) % 12
+}
+
+// The same stride the other way.
+pub fn back(c: u8) -> u8
+    requires { ⌜ c ≤ 240 ⌝ }
+    ensures { λ r. ⌜ r ≡ backOf c ⌝ }
+{
+    if c % 12 < 6 { c + 6 } else { c - 6 }
+}
+
+// The place of a star's row that has this stride, or d.
+fn place_of(row: u64, d: u8, k: u8, n: u8, c: u8) -> u8
+    requires { ⌜ (d ≤ 6) × ((k < 12) × (n ≤ 12)) ⌝ }
+    ensures { λ r. ⌜ (r ≤ d) × (r < d → strideOf row r k n ≡ c) ⌝ }
+{
+    let mut i = 0;
+    while i < d {
+        if stride(row, i, k, n) == c {
+            return i;
+        }
+        i += 1;
+    }
+    d
+}
+
+// Whether a corner of u has the strides x and y to its adjacent points and z from the first of them to an opposite: 2 where that is the first opposite,
+// 1 where it is the second, 0 where no corner was found.
+pub fn fit(u: Record, x: u8, y: u8, z: u8) -> u8
+    requires { ⌜ Inner u × (u .k < 12) ⌝ }
+    ensures { λ r. ⌜ Fit u x y z r ⌝ }
+{
+    let d = u.d;
+    let k = u.k;
+    let n = u.n.0;
+    let i = place_of(adjacents(d), d, k, n, x);
+    if i == d {
+        return 0;
+    }
+    if stride(adjacents(d), next_place(d, i), k, n) != y {
+        return 0;
+    }
+    if stride(sides(d, false), i, k, n) == z {
+        return 2;
+    }
+    if stride(sides(d, true), i, k, n) == z {
+        return 1;
+    }
+    0
+}
