@@ -26,7 +26,8 @@ enum { STACK = 128 * 1024, PAGE = 4096, GUARDS = 64, GUARD = 0xa7, BUFFERS = 4, 
 
 enum call {
     NORMALISE, STAR, BASE, SUBDIVIDE, SUBDIVIDE_ALL, NEIGHBOURS, FACES,
-    WRITE_FULL, WRITE_REDUCED, READ_FULL, READ_REDUCED, CENSUS, NEIGHBOURS_ALL, FACES_ALL, COUNTS, FINDINGS, STACK_USED
+    WRITE_FULL, WRITE_REDUCED, READ_FULL, READ_REDUCED, CENSUS, NEIGHBOURS_ALL, FACES_ALL, COUNTS, FINDINGS, BRING_TO_SIX,
+    STACK_USED
 };
 
 struct request {
@@ -104,6 +105,7 @@ static uint8_t call(const struct request *r, uint8_t **p, int32_t *points, uint6
     case FACES_ALL: return fb_faces_all(p[0], n[0], (const int32_t *)p[1], n[1] / 4, (int32_t *)p[2], n[2] / 4);
     case COUNTS: return fb_counts(p[0], n[0], (uint32_t *)points);
     case FINDINGS: return fb_findings(p[0], n[0], p[1], n[1], p[2], n[2], value, second);
+    case BRING_TO_SIX: return fb_bring_to_six(p[0], n[0], p[1], n[1], r->a, r->b, r->m);
     case STACK_USED: *value = stack_used(); return 0;
     default: _exit(2);
     }

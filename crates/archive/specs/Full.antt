@@ -9,7 +9,8 @@ use native.Mathlib.Omega.{arith}
 use lib.ListN.{length}
 use Rattle.lattice.specs.declared.points.Point.{Point}
 use Rattle.lattice.specs.declared.records.Record.{Record}
-use Rattle.table.specs.Slots.{slotsOf}
+use Rattle.table.specs.Slots.{lengthsFit, slotsOf}
+use Rattle.table.specs.SlotLaws.{lengths-table}
 use Rattle.table.specs.Order.{InOrder}
 use Rattle.table.specs.Entries.{lookUp, recordsOf}
 use Rattle.table.specs.MapLaws.{lookup-point, lookup-valid, records-looked, looked-records}
@@ -20,8 +21,7 @@ use Rattle.writers.specs.Files.{before, sorted, fullFile}
 use Rattle.writers.specs.FileLaws.{sorted-rises, sorted-holds, holds-sorted, sorted-one}
 use Rattle.mesh.specs.Grown.{Grown}
 use Rattle.grown.specs.Grown.{is-grown, grown-is, grown-same}
-use Rattle.readers.specs.BeginLaws.{lengths-table}
-use Rattle.readers.specs.Readers.{TablesAfter, lengthsFit, accepted, refused, readFullOf}
+use Rattle.readers.specs.Readers.{TablesAfter, accepted, refused, readFullOf}
 use Rattle.readers.specs.ReadLaws.{Valid, Lined, read-lines, lines-read, lines-one}
 use Rattle.readers.specs.RestoreLaws.{Within}
 use Rattle.archive.specs.Outcomes.{FullRead, full-ends, full-zero}

@@ -18,7 +18,8 @@ use Rattle.lattice.specs.declared.points.Point.{Point}
 use Rattle.lattice.specs.declared.records.Record.{Record}
 use Rattle.growth.specs.Sheets.{vertex}
 use Rattle.growth.specs.Growth.{grown-adjacent}
-use Rattle.table.specs.Slots.{slotsOf}
+use Rattle.table.specs.Slots.{lengthsFit, slotsOf}
+use Rattle.table.specs.SlotLaws.{lengths-table}
 use Rattle.table.specs.Order.{InOrder}
 use Rattle.table.specs.Entries.{lookUp, recordsOf}
 use Rattle.table.specs.RecordLaws.{apart-fewer}
@@ -35,8 +36,7 @@ use Rattle.grown.specs.Steps.{sheet-held}
 use Rattle.grown.specs.Tables.{grown-sheet}
 use Rattle.grown.specs.Grown.{grown-is, grown-same}
 use Rattle.lattice.specs.Subdivision.{bornOf}
-use Rattle.readers.specs.BeginLaws.{lengths-table}
-use Rattle.readers.specs.Readers.{With, restoreAll, lengthsFit, accepted, refused, readReducedOf}
+use Rattle.readers.specs.Readers.{With, restoreAll, accepted, refused, readReducedOf}
 use Rattle.readers.specs.Additions.{Adds, adds-none, adds-slots, held-absent, held-same}
 use Rattle.readers.specs.ReadLaws.{Valid, Lined, read-lines, lines-read}
 use Rattle.readers.specs.RestoreLaws.{Restores, RestoredOf, restore-all, Within, In, Lacks, in-within, restores-into}

@@ -13,11 +13,11 @@ use lib.ListN.{length}
 use Rattle.laws.specs.Each.{both-left}
 use Rattle.laws.specs.Some.{someOf}
 use Rattle.lattice.specs.declared.records.Record.{Record}
-use Rattle.table.specs.Slots.{Table, fitsLength, slotsOf, clearedOf}
+use Rattle.table.specs.Slots.{Table, fitsLength, lengthsFit, slotsOf, clearedOf}
 use Rattle.table.specs.SlotLaws.{table-test, test-table}
 use Rattle.writers.specs.Files.{redundant}
 use Rattle.grown.specs.Grown.{isGrown}
-use Rattle.readers.specs.Readers.{Lines, Read, Fault, readLines, Restored, With, Stopped, restoreAll, TablesAfter, tablesAfter, refused, accepted, lengthsFit}
+use Rattle.readers.specs.Readers.{Lines, Read, Fault, readLines, Restored, With, Stopped, restoreAll, TablesAfter, tablesAfter, refused, accepted}
 use Rattle.readers.specs.Readers.{endFull, endRestored, endReduced, readFullOf, readReducedOf}
 use Rattle.readers.specs.FaultLaws.{fault-number, stop-number}
 

@@ -12,7 +12,8 @@ use lib.ListN.{length}
 use Rattle.laws.specs.Some.{someOf, some-at, at-some, none-at, at-none}
 use Rattle.lattice.specs.declared.points.Point.{Point}
 use Rattle.lattice.specs.declared.records.Record.{Record}
-use Rattle.table.specs.Slots.{slotsOf}
+use Rattle.table.specs.Slots.{lengthsFit, slotsOf}
+use Rattle.table.specs.SlotLaws.{table-lengths}
 use Rattle.table.specs.Order.{InOrder}
 use Rattle.table.specs.Entries.{lookUp, recordsOf}
 use Rattle.table.specs.MapLaws.{records-looked, looked-records, records-count}
@@ -22,8 +23,7 @@ use Rattle.writers.specs.Files.{before, sorted, redundant, leaveOut, reducedFil
 use Rattle.writers.specs.FileLaws.{left-rises, left-holds, holds-left, left-one}
 use Rattle.mesh.specs.Grown.{Grown}
 use Rattle.grown.specs.Grown.{is-grown}
-use Rattle.readers.specs.BeginLaws.{table-lengths}
-use Rattle.readers.specs.Readers.{TablesAfter, lengthsFit, accepted, refused, readReducedOf}
+use Rattle.readers.specs.Readers.{TablesAfter, accepted, refused, readReducedOf}
 use Rattle.archive.specs.Outcomes.{ReducedRead, reduced-zero, reduced-twelve}
 use Rattle.archive.specs.Returns.{Returns, accepted-returns}
 use Rattle.text.specs.LineCount.{linesIn, lines-in}
@@ -111,7 +111,7 @@ reduced-one t u g h e p = go (decLt (slotsOf t) (slotsOf u))
   where
     both : (table : List ℕ) → InOrder table → length (recordsOf t) ≤ slotsOf table → length (recordsOf u) ≤ slotsOf table → lookUp t p ≡ lookUp u p
     both table o a b =
-        let fit = table-lengths table table (o .fits) refl in
+        let fit = table-lengths table table (slotsOf table) (o .fits) refl in
         let x = reduced-returns t table table g fit a in
         let y = reduced-returns u table table h fit b in
         sym (x .same p) ∙ ap (λ (f : List ℕ). lookUp (readReducedOf table table f .table) p) e ∙ y .same p

@@ -9,9 +9,9 @@ use Prim.Native.Nat.{ℕ, _*_}
 use lib.Dec.{eqb, ltb}
 use lib.ListN.{length, drop, replicate}
 use Rattle.laws.specs.Choices.{unless}
-use Rattle.table.specs.Slots.{slotWidth}
+use Rattle.table.specs.Slots.{lengthsFit, slotWidth}
 use Rattle.text.specs.Decimal.{tab, feed, digits, ended}
-use Rattle.readers.specs.Readers.{TablesAfter, tablesAfter, refused, lengthsFit, readFullOf}
+use Rattle.readers.specs.Readers.{TablesAfter, tablesAfter, refused, readFullOf}
 use Rattle.counts.specs.Counts.{countsOf}
 use Rattle.counts.specs.declared.Counts.{Counts}
 

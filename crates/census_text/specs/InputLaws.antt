@@ -13,7 +13,7 @@ use lib.Dec.{eqb, ltb}
 use lib.ListN.{length}
 use Rattle.lattice.specs.declared.records.Record.{Record}
 use Rattle.laws.specs.Each.{both-left}
-use Rattle.table.specs.Slots.{fitsLength, slotsOf, clearedOf}
+use Rattle.table.specs.Slots.{fitsLength, lengthsFit, slotsOf, clearedOf}
 use Rattle.table.specs.SlotLaws.{test-table}
 use Rattle.table.specs.Search.{findOf}
 use Rattle.table.specs.Order.{InOrder}
@@ -23,7 +23,7 @@ use Rattle.text.specs.declared.line.Line.{Line}
 use Rattle.text.specs.declared.line.Line.the-variants.{Good, Bad, End}
 use Rattle.grown.specs.Grown.{isGrown}
 use Rattle.readers.specs.Readers.{Lines, Read, Fault, after, above, noSlot, lineRead, linesFrom, readLines, TablesAfter, tablesAfter, refused, accepted}
-use Rattle.readers.specs.Readers.{lengthsFit, endFull, readFullOf}
+use Rattle.readers.specs.Readers.{endFull, readFullOf}
 use Rattle.readers.specs.BeginLaws.{Prepared, prepared-unfit, prepared-fit, full-unfit}
 use Rattle.readers.specs.FaultLaws.{fault-number}
 use Rattle.readers.specs.ReadLaws.{read-lines}

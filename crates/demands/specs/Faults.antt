@@ -20,7 +20,7 @@ use Rattle.laws.specs.Some.{someOf}
 use Rattle.lattice.specs.Records.{validOf}
 use Rattle.lattice.specs.Subdivision.{bornOf}
 use Rattle.lattice.specs.declared.records.Record.{Record}
-use Rattle.table.specs.Slots.{clearedOf}
+use Rattle.table.specs.Slots.{lengthsFit, clearedOf}
 use Rattle.table.specs.Search.{findOf}
 use Rattle.table.specs.Entries.{enterOf}
 use Rattle.table.specs.declared.probe.Found.{Found}
@@ -33,7 +33,7 @@ use Rattle.grown.specs.Grown.{isGrown}
 use Rattle.writers.specs.Files.{redundant}
 use Rattle.readers.specs.Readers.{Lines, Read, Fault, after, noSlot, lineRead, linesFrom, readLines}
 use Rattle.readers.specs.Readers.{Restored, With, Stopped, restoreAt, restore, restoreTo, restoreAll}
-use Rattle.readers.specs.Readers.{lengthsFit, endFull, endReduced, endRestored, readFullOf, readReducedOf}
+use Rattle.readers.specs.Readers.{endFull, endReduced, endRestored, readFullOf, readReducedOf}
 use Rattle.readers.specs.Readers as read
 use Rattle.demands.specs.Numbers.{Rule, _⇒_, firstOf}
 use Rattle.demands.specs.ReadNumbers.{lineRules, line-refused, line-passed, numberIn, isFault, stopNumber, isStopped, isAbsent, restore-number}

@@ -23,5 +23,7 @@ pub mod Returns
 pub mod Findings
 -- document 02's ticket 3: what a search tells
 pub mod Search
+-- document 02's ticket 4: a vertex brought to degree 6
+pub mod Bring
 -- the starred examples
 pub mod Starred

@@ -17,7 +17,8 @@ use Rattle.laws.specs.Each.{not-both}
 use Rattle.laws.specs.Some.{someOf}
 use Rattle.lattice.specs.Records.{validOf}
 use Rattle.lattice.specs.declared.records.Record.{Record}
-use Rattle.table.specs.Slots.{clearedOf}
+use Rattle.table.specs.Slots.{lengthsFit, clearedOf}
+use Rattle.table.specs.SlotLaws.{lengths-table}
 use Rattle.table.specs.Search.{findOf}
 use Rattle.table.specs.Entries.{enterOf, lookUp}
 use Rattle.table.specs.MapLaws.{clear-absent}
@@ -34,9 +35,8 @@ use Rattle.growth.specs.Growth.{grown-some}
 use Rattle.local.specs.Sheet.{asOption, sheetOf}
 use Rattle.grown.specs.Tables.{grown-sheet}
 use Rattle.grown.specs.Grown.{isGrown, is-grown, grown-is}
-use Rattle.readers.specs.BeginLaws.{lengths-table}
 use Rattle.readers.specs.Readers.{Lines, Read, Fault, after, above, noSlot, lineRead, linesFrom, readLines}
-use Rattle.readers.specs.Readers.{Restored, With, Stopped, restoreAt, restore, restoreAll, lengthsFit}
+use Rattle.readers.specs.Readers.{Restored, With, Stopped, restoreAt, restore, restoreAll}
 use Rattle.readers.specs.Readers.{endFull, endReduced, endRestored, readFullOf, readReducedOf}
 use Rattle.readers.specs.Readers as read
 use Rattle.census_text.specs.Census.{readInputOf, mostInput}

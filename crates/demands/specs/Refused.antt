@@ -25,7 +25,7 @@ use Rattle.table.specs.Entries.{lookUp}
 use Rattle.table.specs.declared.entries.Looked.{Looked}
 use Rattle.table.specs.declared.entries.Looked.the-variants.{Absent, Held}
 use Rattle.queries.specs.Queries.{neighboursOf, facesOf, facesGiven, queryLooked, adjacentsThere, cornersThere}
-use Rattle.table.specs.Slots.{fitsLength, clearedOf}
+use Rattle.table.specs.Slots.{fitsLength, lengthsFit, clearedOf}
 use Rattle.table.specs.Order.{inOrderOf}
 use Rattle.base.specs.Base.{Laid, Room, NoRoom, baseOf, unpaired, badPlace, centresIn, laidOf, fromLaid}
 use Rattle.base.specs.Base as laid
@@ -36,7 +36,7 @@ use Rattle.writers.specs.Files.{writeOf, putOf, redundant}
 use Rattle.writers.specs.Files as written
 use Rattle.grown.specs.Grown.{isGrown}
 use Rattle.readers.specs.Readers.{Lines, Read, Fault, readLines, Restored, With, Stopped, restoreAll}
-use Rattle.readers.specs.Readers.{lengthsFit, endFull, endReduced, endRestored, readFullOf, readReducedOf}
+use Rattle.readers.specs.Readers.{endFull, endReduced, endRestored, readFullOf, readReducedOf}
 use Rattle.readers.specs.FaultLaws.{fault-number, stop-number}
 use Rattle.readers.specs.Readers as read
 use Rattle.census_text.specs.Census.{putText, textOf, readInputOf, mostInput, freeTable, programText}

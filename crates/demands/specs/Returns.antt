@@ -15,13 +15,13 @@ use lib.Dec.{ltb}
 use lib.ListN.{length, take, drop}
 use lib.Seq.{take-append-seam}
 use Rattle.lattice.specs.declared.points.Point.{Point}
-use Rattle.table.specs.Slots.{slotsOf}
+use Rattle.table.specs.Slots.{lengthsFit, slotsOf}
 use Rattle.table.specs.Order.{InOrder, inOrderOf}
 use Rattle.table.specs.MapLaws.{order-test}
 use Rattle.table.specs.Entries.{lookUp, recordsOf}
 use Rattle.mesh.specs.Grown.{Grown}
 use Rattle.writers.specs.Files.{OutputAfter, outputAfter, writeOf, putOf, writeReducedOf, reducedFile}
-use Rattle.readers.specs.Readers.{lengthsFit, readReducedOf}
+use Rattle.readers.specs.Readers.{readReducedOf}
 use Rattle.archive.specs.Returns.{Returns}
 pub use Rattle.archive.specs.Reduced.{reduced-one, reduced-returns, reduced-accepted, reduced-count, kept-twelve, twelve-kept}
 pub use Rattle.archive.specs.Full.{full-one, full-returns, full-accepted, full-count}

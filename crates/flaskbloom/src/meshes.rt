@@ -2,6 +2,7 @@
 ghost use mathlib.Core.Path.{_≡_};
 ghost use Rattle.base.specs.Base.{baseAfter, baseOf};
 ghost use Rattle.mesh.specs.Subdivide.{subdivideOf, subdivideAllOf};
+ghost use Rattle.bring.specs.Bring.{bringAfter, bringToSix};
 
 // Lays hexagons into a cleared table, or 1, 2, 8; place: the first bad centre, else 0.
 #[no_mangle]
@@ -32,4 +33,12 @@ pub extern "C" fn fb_subdivide_all(table: &mut [u8], points: &[i32], done: &mut 
     let made = mesh::subdivide_all(table, points);
     *done = made.done;
     made.number
+}
+
+// Brings the vertex at [a, b, m] to degree 6 by the subdivisions that this asks for, or 1, 3, 14, 5, 7, 16, 8, the table then as it was.
+#[no_mangle]
+pub extern "C" fn fb_bring_to_six(table: &mut [u8], scratch: &mut [u8], a: i32, b: i32, m: u8) -> u8
+    ensures { λ r. ⌜ bringAfter r (now (table .exit)) (now (scratch .exit)) ≡ bringToSix (now (table .entry)) (now (scratch .entry)) a b m ⌝ }
+{
+    bring::bring(table, scratch, a, b, m)
 }

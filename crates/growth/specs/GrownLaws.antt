@@ -132,7 +132,7 @@ pub record Closed (R : Sheet) : Type 0 where
 none-below : 0 < 0 → ⊥
 none-below h = omega arith
 
-more-same : (q : Point) (c : Counts) → more q c q ≡ suc (c q)
+pub more-same : (q : Point) (c : Counts) → more q c q ≡ suc (c q)
 unfolding more same?
 more-same q c = rw (same-refl q) (omega arith)
 

@@ -28,5 +28,5 @@ pub mod LocalGrown
 pub mod GrownLocal
 -- no neighbour query is torn
 pub mod Neighbours
--- M6, for ticket 4
+-- what the crate `bring` cites
 pub mod Bring

@@ -13,6 +13,7 @@ mod rows;
 mod stars;
 mod updates;
 
+pub use numbers::AT_THE_RIM;
 pub use numbers::BAD_FINDING;
 pub use numbers::BAD_LIST;
 pub use numbers::BOUNDARY;

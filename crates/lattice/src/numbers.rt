@@ -44,3 +44,6 @@ pub const BOUNDARY: u8 = 14;
 
 // A line of a findings list malformed: document 02, ticket 1.
 pub const BAD_FINDING: u8 = 15;
+
+// What has to be subdivided comes to a boundary vertex.
+pub const AT_THE_RIM: u8 = 16;

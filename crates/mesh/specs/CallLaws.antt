@@ -1,6 +1,6 @@
 -- The cases of a subdivision, refusal by refusal, and what each test leaves for the next.
 -- `standing-ready`, `centre-inner`, `ready-whole` what is known past 4 and 5, and past 7 and 8 · `vertex-4` .. `vertex-0` the outcome in each case ·
--- `call-1`, `call-3`, `call-vertex` the call's.
+-- `call-1`, `call-3`, `call-looked`, `call-vertex` the call's · `looked-standing` a vertex as it is looked up.
 -- Assumes nothing.
 use mathlib.Core.Path.{_≡_, refl, sym, _∙_, ap}
 use mathlib.Core.Bool.{Bool, true, false, cond, _&&_, not}
@@ -21,11 +21,11 @@ use Rattle.lattice.specs.Records.{validOf}
 use Rattle.geometry.specs.SubdivisionLaws.{centre-valid}
 use Rattle.lattice.specs.RecordLaws.{Inner, inner, valid-level}
 use Rattle.lattice.specs.Points.{normalOf}
-use Rattle.table.specs.OrderLaws.{test-order}
 use Rattle.table.specs.Entries.{lookUp, isHeld, replaceOf}
 use Rattle.table.specs.MapLaws.{room, lookup-point, lookup-valid}
-use Rattle.table.specs.Order.{inOrderOf}
+use Rattle.table.specs.Order.{InOrder, inOrderOf}
 use Rattle.table.specs.Slots.{freeSlots}
+use Rattle.lattice.specs.declared.points.Point.{Point}
 use Rattle.lattice.specs.declared.records.Record.{Record}
 use Rattle.table.specs.declared.entries.Looked.{Looked}
 use Rattle.table.specs.declared.entries.Looked.the-variants.{Absent, Held}
@@ -112,7 +112,7 @@ module _ (t : List ℕ) (a b : ℤ) (m : ℕ) where
   unfolding subdivideOf
   call-1 h = ap (λ (x : Bool). cond x (subdivideLooked t (lookUp t (normalOf a b m))) (meshAfter 1 t)) (sym h)
 
-  call-looked : inOrderOf t ≡ true → (l : Looked) → lookUp t (normalOf a b m) ≡ l → subdivideLooked t l ≡ subdivideOf t a b m
+  pub call-looked : inOrderOf t ≡ true → (l : Looked) → lookUp t (normalOf a b m) ≡ l → subdivideLooked t l ≡ subdivideOf t a b m
   unfolding subdivideOf
   call-looked h l e = ap (subdivideLooked t) (sym e) ∙ ap (λ (x : Bool). cond x (subdivideLooked t (lookUp t (normalOf a b m))) (meshAfter 1 t)) (sym h)
 
@@ -122,10 +122,9 @@ module _ (t : List ℕ) (a b : ℤ) (m : ℕ) where
   pub call-vertex : inOrderOf t ≡ true → (v : Record) → lookUp t (normalOf a b m) ≡ Held v → subdivideVertex t v ≡ subdivideOf t a b m
   call-vertex h v e = call-looked h (Held v) e
 
-  pub call-standing : inOrderOf t ≡ true → (v : Record) → lookUp t (normalOf a b m) ≡ Held v → Standing t v
-  call-standing h v e =
-      let o = test-order t h in
-      record { order = o; held = ap (lookUp t) (lookup-point t o (normalOf a b m) v e) ∙ e }
+-- a vertex as it is looked up
+pub looked-standing : (t : List ℕ) → InOrder t → (p : Point) (v : Record) → lookUp t p ≡ Held v → Standing t v
+looked-standing t o p v e = record { order = o; held = ap (lookUp t) (lookup-point t o p v e) ∙ e }
 
 pub after-parts : {x y : MeshAfter} → x ≡ y → (x .number ≡ y .number) × (x .bytes ≡ y .bytes)
 after-parts e = (ap (λ (o : MeshAfter). o .number) e, ap (λ (o : MeshAfter). o .bytes) e)

@@ -18,7 +18,7 @@ use Rattle.lattice.specs.Subdivision.{newOf}
 use Rattle.lattice.specs.Points.{normalOf}
 use Rattle.table.specs.OrderLaws.{order-test}
 use Rattle.table.specs.Entries.{lookUp}
-use Rattle.table.specs.MapLaws.{room}
+use Rattle.table.specs.MapLaws.{room, test-order}
 use Rattle.table.specs.Order.{inOrderOf}
 use Rattle.table.specs.Slots.{freeSlots, Table}
 use Rattle.lattice.specs.declared.records.Record.{Record}
@@ -28,7 +28,7 @@ use Rattle.table.specs.SlotLaws.{table-same}
 use Rattle.mesh.specs.SubdivideLaws.{Ready, Intact, subdivided-order, subdivided-free}
 use Rattle.mesh.specs.WriteLaws.{subdivided-length}
 use Rattle.mesh.specs.CallLaws.{standing-ready, ready-whole, vertex-4, vertex-5, vertex-6, vertex-7-old, vertex-7-new, vertex-8, vertex-0}
-use Rattle.mesh.specs.CallLaws.{call-1, call-3, call-vertex, call-standing}
+use Rattle.mesh.specs.CallLaws.{call-1, call-3, call-vertex, looked-standing}
 use Rattle.mesh.specs.Subdivide.{adjacentFits, newFits, subdivided, MeshAfter, meshAfter, subdivideVertex, subdivideOf}
 use Rattle.laws.specs.Triples.{triplesIn, isByte}
 use Rattle.mesh.specs.Subdivide.{subdivideTriple, subdivideFrom, subdivideAllOf, Many}
@@ -47,7 +47,7 @@ module _ (t : List ℕ) (a b : ℤ) (m : ℕ) where
     is p = p ∙ call-vertex t a b m h v e
 
     r : Ready t v
-    r = standing-ready t v (call-standing t a b m h v e) six low
+    r = standing-ready t v (looked-standing t (test-order t h) (normalOf a b m) v e) six low
 
     tested : (s : Bool) → upto 6 (λ j. leb (newOf v j .at .m .0) 6) ≡ s → (o : Bool) → upto 6 (adjacentFits t v) ≡ o → (n : Bool) → upto 6 (newFits t v) ≡ n
         → Dec (freeSlots t < 6) → Subdivision t a b m

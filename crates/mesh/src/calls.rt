@@ -5,7 +5,8 @@ ghost use Prim.Native.Nat.{_+_, _*_, _≤_, _<_};
 ghost use lib.ListN.{length};
 ghost use Rattle.table.specs.Slots.{Table, freeSlots};
 ghost use Rattle.table.specs.Order.{inOrderOf};
-ghost use Rattle.mesh.specs.Subdivide.{subdivideVertex, subdivideOf, subdivideTriple, subdivideAllOf};
+ghost use Rattle.table.specs.Entries.{lookUp};
+ghost use Rattle.mesh.specs.Subdivide.{subdivideVertex, subdivideLooked, subdivideOf, subdivideTriple, subdivideAllOf};
 ghost use Rattle.mesh.specs.WriteLaws.{Standing};
 ghost use Rattle.mesh.specs.Met.{InSlot};
 use crate::checks::adjacents_fit;
@@ -19,6 +20,7 @@ use lattice::NO_RECORD;
 use lattice::NO_ROOM;
 use lattice::NOT_IN_ORDER;
 use lattice::NOT_SIX;
+use lattice::Point;
 use lattice::Record;
 use lattice::TOO_DEEP;
 use lattice::TORN;
@@ -69,13 +71,13 @@ fn subdivide_vertex(t: &mut [u8], v: Record, i: usize, n: usize, free: usize) ->
     DONE
 }
 
-// The subdivision at a point of a table in order, of whose slots so many are free.
-fn subdivide_ordered(t: &mut [u8], a: i32, b: i32, m: u8, n: usize, free: usize) -> u8
+// The subdivision of what stands at a point of a table in order, of whose slots so many are free.
+pub fn subdivide_at(t: &mut [u8], p: Point, n: usize, free: usize) -> u8
     requires { ⌜ Table (now t) n × ((inOrderOf (now t) ≡ true) × (free ≡ freeSlots (now t))) ⌝ }
-    ensures { λ r. ⌜ r ≡ subdivideOf (now (t .entry)) a b m .number ⌝ }
-    ensures { λ r. ⌜ now (t .exit) ≡ subdivideOf (now (t .entry)) a b m .bytes ⌝ }
+    ensures { λ r. ⌜ r ≡ subdivideLooked (now (t .entry)) (lookUp (now (t .entry)) p) .number ⌝ }
+    ensures { λ r. ⌜ now (t .exit) ≡ subdivideLooked (now (t .entry)) (lookUp (now (t .entry)) p) .bytes ⌝ }
 {
-    match find(t, normalise(a, b, m), n) {
+    match find(t, p, n) {
         Found::At(i) => match held_in(t, i) {
             Looked::Absent => NO_RECORD,
             Looked::Held(v) => subdivide_vertex(t, v, i, n, free),
@@ -83,6 +85,15 @@ fn subdivide_ordered(t: &mut [u8], a: i32, b: i32, m: u8, n: usize, free: usize)
         Found::Free(_) => NO_RECORD,
         Found::Full => NO_RECORD,
     }
+}
+
+// The same at a point as a request gives it.
+fn subdivide_ordered(t: &mut [u8], a: i32, b: i32, m: u8, n: usize, free: usize) -> u8
+    requires { ⌜ Table (now t) n × ((inOrderOf (now t) ≡ true) × (free ≡ freeSlots (now t))) ⌝ }
+    ensures { λ r. ⌜ r ≡ subdivideOf (now (t .entry)) a b m .number ⌝ }
+    ensures { λ r. ⌜ now (t .exit) ≡ subdivideOf (now (t .entry)) a b m .bytes ⌝ }
+{
+    subdivide_at(t, normalise(a, b, m), n, free)
 }
 
 // Subdivides the vertex at a point, whatever its spelling, or refuses by document 01's numbers 1, 3, 4, 5, 6, 7, 8, with no byte changed.

@@ -1,21 +1,18 @@
--- How both readers begin, by cases: `lengths-table`, `table-lengths` lengths that fit · `Prepared` the length test, and both tables cleared:
+-- How both readers begin, by cases: `Prepared` the length test, and both tables cleared:
 -- `none-unfit`, `other-unfit`, `both-fit` and back, `prepared-unfit`, `prepared-fit` · `Begun` that, and the lines: `begun-unfit`, `begun-fault`,
 -- `begun-read` and back, `begun-filled` · `full-unfit` lengths refused · `fault-full`, `fault-reduced` a fault is what both answer.
 -- Assumes nothing.
 use mathlib.Core.Path.{_≡_, refl, sym, ap, _∙_}
-use mathlib.Core.Bool.{Bool, true, false, cond, _&&_}
+use mathlib.Core.Bool.{Bool, true, false, cond}
 use mathlib.Core.List.{List}
 use Prim.Native.Nat.{ℕ}
 use native.Mathlib.Omega.{arith}
-use borrow.Author.Tests.{eq-eqb, ne-eqb}
-use lib.Dec.{eqb}
 use lib.ListN.{length}
-use Rattle.laws.specs.Each.{and-false, both-left}
 use Rattle.lattice.specs.declared.records.Record.{Record}
-use Rattle.table.specs.Slots.{Table, fitsLength, slotsOf, clearedOf}
+use Rattle.table.specs.Slots.{Table, lengthsFit, slotsOf, clearedOf}
 use Rattle.table.specs.MapLaws.{table-of}
-use Rattle.table.specs.SlotLaws.{table-test, test-table, slots-table, no-slots}
-use Rattle.readers.specs.Readers.{Lines, Read, Fault, readLines, tablesAfter, refused, lengthsFit, endFull, endReduced, readFullOf, readReducedOf}
+use Rattle.table.specs.SlotLaws.{slots-table, table-lengths, lengths-none, lengths-other}
+use Rattle.readers.specs.Readers.{Lines, Read, Fault, readLines, tablesAfter, refused, endFull, endReduced, readFullOf, readReducedOf}
 use Rattle.readers.specs.ReadLaws.{Lined, read-lines}
 use Rattle.readers.specs.LineSteps.{EndsAs, ends-read, ends-fault}
 
@@ -27,22 +24,16 @@ pub data Prepared (t s t′ s′ : List ℕ) (n : ℕ) : Type 0 where
   fit : (n ≡ 0 → ⊥) → lengthsFit t s ≡ true → t′ ≡ clearedOf t → s′ ≡ clearedOf s → Table t n → Prepared t s t′ s′ n
 
 module _ (t s : List ℕ) where
-  pub lengths-table : lengthsFit t s ≡ true → Table t (slotsOf t)
-  lengths-table h = test-table t (both-left (fitsLength (length t)) (eqb (length s) (length t)) h)
-
-  pub table-lengths : Table t (slotsOf t) → length s ≡ length t → lengthsFit t s ≡ true
-  table-lengths w e = λ i. table-test t (slotsOf t) w i && eq-eqb (length s) (length t) e i
-
   pub none-unfit : slotsOf t ≡ 0 → Prepared t s t s 0
-  none-unfit e = unfit refl (ap (λ (b : Bool). b && eqb (length s) (length t)) (no-slots t e)) refl refl
+  none-unfit e = unfit refl (lengths-none t s e) refl refl
 
   pub other-unfit : (length s ≡ length t → ⊥) → Prepared t s t s 0
-  other-unfit e = unfit refl (ap (λ (b : Bool). fitsLength (length t) && b) (ne-eqb (length s) (length t) e) ∙ and-false (fitsLength (length t))) refl refl
+  other-unfit e = unfit refl (lengths-other t s e) refl refl
 
   pub both-fit : (n : ℕ) → n ≡ slotsOf t → (n ≡ 0 → ⊥) → length s ≡ length t → (t′ s′ : List ℕ) → t′ ≡ clearedOf t → s′ ≡ clearedOf s → Prepared t s t′ s′ n
   both-fit n e some l t′ s′ f g =
       let w = slots-table t n e some in
-      fit some (λ i. table-test t n w i && eq-eqb (length s) (length t) l i) f g w
+      fit some (table-lengths t s n w l) f g w
 
   -- the two cases, by the answer
   pub prepared-unfit : {t′ s′ : List ℕ} {n : ℕ} → Prepared t s t′ s′ n → n ≡ 0 → (lengthsFit t s ≡ false) × (t′ ≡ t) × (s′ ≡ s)

@@ -2,7 +2,7 @@
 -- `Lines`, `readLines` the lines of a file entered, or refused · `Restored`, `restoreAll` what a reduced file leaves out, entered · `TablesAfter` number,
 -- line, table and scratch.
 -- Assumes nothing.
-use mathlib.Core.Bool.{Bool, true, false, cond, _&&_}
+use mathlib.Core.Bool.{Bool, true, false, cond}
 use mathlib.Core.List.{List, [], _∷_}
 use mathlib.Core.Option.{Option, none, some}
 use Prim.Native.Nat.{ℕ, zero, suc, _+_}
@@ -12,7 +12,7 @@ use Rattle.laws.specs.Choices.{unless}
 use Rattle.laws.specs.Some.{someOf}
 use Rattle.lattice.specs.Records.{validOf}
 use Rattle.lattice.specs.Subdivision.{bornOf}
-use Rattle.table.specs.Slots.{fitsLength, clearedOf}
+use Rattle.table.specs.Slots.{lengthsFit, clearedOf}
 use Rattle.table.specs.Search.{findOf}
 use Rattle.table.specs.Entries.{enterOf}
 use Rattle.text.specs.Line.{lineAt}
@@ -111,15 +111,12 @@ refused number line t s = tablesAfter number line (clearedOf t) (clearedOf s)
 abbrev pub accepted : List ℕ → List ℕ → TablesAfter
 accepted u s = tablesAfter 0 0 u (clearedOf s)
 
--- "A reader is lent a table and a scratch table of equal length. Lengths that don't fit are refused with both untouched"
-abbrev pub lengthsFit : List ℕ → List ℕ → Bool
-lengthsFit t s = fitsLength (length t) && eqb (length s) (length t)
-
 -- "then 11"
 abbrev pub endFull : List ℕ → List ℕ → Lines → TablesAfter
 endFull t s (Fault number line) = refused number line t s
 endFull t s (Read rs u) = unless (isGrown u) (refused 11 0 t s) (accepted u s)
 
+-- "A reader is lent a table and a scratch table of equal length. Lengths that don't fit are refused with both untouched"
 unfoldable pub readFullOf : List ℕ → List ℕ → List ℕ → TablesAfter
 readFullOf t s f = unless (lengthsFit t s) (tablesAfter 1 0 t s) (endFull t s (readLines f (clearedOf t)))
 

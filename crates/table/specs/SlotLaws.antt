@@ -1,7 +1,7 @@
 -- The laws of the slots. What stands above cites these and never opens a byte.
--- `table-slots`, `slots-table`, `test-table` the fit of a length · `free-words`, `slot-free`, `slot-held` a slot read word by word · `slot-written`
--- one written in three parts · `put-same`, `put-other`, `put-length` a slot written and read back · `free-none`, `free-more` a count of free slots ·
--- `cleared-free` · `home-below` · `slot-same` equal bytes, equal slots.
+-- `table-slots`, `slots-table`, `test-table` the fit of a length, `lengths-..` of two · `free-words`, `slot-free`, `slot-held` a slot read word by word ·
+-- `slot-written` one written in three parts · `put-same`, `put-other`, `put-length` a slot written and read back · `free-none`, `free-more` a count of
+-- free slots · `cleared-free` · `home-below` · `slot-same` equal bytes, equal slots.
 -- Assumes nothing.
 use mathlib.Core.Path.{_≡_, refl, sym, ap, _∙_}
 use mathlib.Core.Bool.{Bool, true, false, cond, _&&_}
@@ -20,11 +20,12 @@ use mir.Facts.{toZ-ofZ, fits-ofZ}
 use Rattle.laws.specs.Words.{wordAt, wordBytes, word-back, word-of}
 use Rattle.laws.specs.Sets.{sets-append, getD-sets-below, getD-sets-above, getD-sets-in}
 use Rattle.laws.specs.Residue.{mod-below}
-use Rattle.laws.specs.Each.{both-left, both-right, upto-each, upto-fails, same-test}
+use Rattle.laws.specs.Each.{and-false, both-left, both-right, upto-each, upto-fails, same-test}
 use Rattle.lattice.specs.Points.{pt}
 use Rattle.lattice.specs.declared.points.Point.{Point}
 use Rattle.lattice.specs.declared.records.Record.{Record}
-use Rattle.table.specs.Slots.{slotWidth, Table, fitsLength, slotsIn, slotsOf, freeAt, signed, recordAt, slotAt, recordBytes, putSlot, isFree, freeBelow}
+use Rattle.table.specs.Slots.{slotWidth, Table, fitsLength, lengthsFit, slotsIn, slotsOf, freeAt, signed, recordAt, slotAt, recordBytes}
+use Rattle.table.specs.Slots.{putSlot, isFree, freeBelow}
 use Rattle.table.specs.Reading.{Word, allOnes}
 use Rattle.table.specs.Ranges.{Writes}
 use Rattle.table.specs.Search.{weightOf, homeOf}
@@ -70,6 +71,20 @@ no-slots t z = go (fitsLength (length t)) refl
     go : (b : Bool) → fitsLength (length t) ≡ b → fitsLength (length t) ≡ false
     go true x = absurd (omega (arith, test-table t x .least))
     go false x = x
+
+-- a table and a scratch table
+module _ (t s : List ℕ) where
+  pub lengths-table : lengthsFit t s ≡ true → Table t (slotsOf t)
+  lengths-table h = test-table t (both-left (fitsLength (length t)) (eqb (length s) (length t)) h)
+
+  pub table-lengths : (n : ℕ) → Table t n → length s ≡ length t → lengthsFit t s ≡ true
+  table-lengths n w e = λ i. table-test t n w i && eq-eqb (length s) (length t) e i
+
+  pub lengths-none : slotsOf t ≡ 0 → lengthsFit t s ≡ false
+  lengths-none e = ap (λ (b : Bool). b && eqb (length s) (length t)) (no-slots t e)
+
+  pub lengths-other : (length s ≡ length t → ⊥) → lengthsFit t s ≡ false
+  lengths-other e = ap (λ (b : Bool). fitsLength (length t) && b) (ne-eqb (length s) (length t) e) ∙ and-false (fitsLength (length t))
 
 pub table-same : (t u : List ℕ) (n : ℕ) → length u ≡ length t → Table t n → Table u n
 table-same t u n e w = record { long = e ∙ w .long; least = w .least; most = w .most }

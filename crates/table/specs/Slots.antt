@@ -1,6 +1,6 @@
 -- Document 01, "Table in memory", to "A free slot is twelve bytes of 255": the bytes of a table, slot by slot.
--- `slotWidth` · `Table t n` t is a table of n slots, `slotsOf` how many · `slotAt` what a slot holds, `putSlot` a slot written · `clearedOf` all free
--- · `freeSlots` their number.
+-- `slotWidth` · `Table t n` t is a table of n slots, `slotsOf` how many, `lengthsFit` two tables of one length · `slotAt` what a slot holds, `putSlot` a
+-- slot written · `clearedOf` all free · `freeSlots` their number.
 -- Assumes nothing.
 use mathlib.Core.Path.{_≡_}
 use mathlib.Core.Bool.{Bool, cond, _&&_}
@@ -32,6 +32,10 @@ pub record Table (t : List ℕ) (n : ℕ) : Type 0 where
 -- the same as a test of a length
 abbrev pub fitsLength : ℕ → Bool
 fitsLength l = eqb (l % slotWidth) 0 && (leb 16 (l / slotWidth) && leb (l / slotWidth) 65536)
+
+-- "lent a table and a scratch table of equal length": t and s fit
+abbrev pub lengthsFit : List ℕ → List ℕ → Bool
+lengthsFit t s = fitsLength (length t) && eqb (length s) (length t)
 
 -- the number of slots in so many bytes, 0 where that length doesn't fit
 unfoldable pub slotsIn : ℕ → ℕ

@@ -12,6 +12,7 @@ mod sheets;
 
 use bars::{GROWN_FROM, GROWTH, READS, WRITES};
 use clock::{Bench, Task};
+use differential::bring::deepest;
 use differential::rng::Rng;
 use flaskbloom::slices as library;
 use plain::lattice::{Point, Star};
@@ -57,6 +58,7 @@ fn main() {
     let levels = levels();
     let (table, _) = levels.last().expect("six levels");
     subdivision(&mut bench, &levels);
+    bring(&mut bench);
     queries(&mut bench, table);
     many(&mut bench, table);
     counts(&mut bench, table);
@@ -185,6 +187,24 @@ fn subdivision(bench: &mut Bench, levels: &[(Vec<u8>, Vec<i32>)]) {
     };
     let task = Task { name: "subdivide, one call in 65,536 slots", unit: "call", units: 1 };
     bench.run(task, &mut || one(library::subdivide), &mut || one(plain::subdivide), None);
+}
+
+type Bring = fn(&mut [u8], &mut [u8], i32, i32, u8) -> u8;
+
+/// The deepest chain, twelve vertices under way at once: among few slots, where the subdivisions cost, and among many, where the test of the
+/// table does.
+fn bring(bench: &mut Bench) {
+    for (slots, name) in [(4_096, "bring_to_six, in 4,096 slots"), (MOST, "bring_to_six, in 65,536 slots")] {
+        let (table, [a, b, m]) = deepest(slots);
+        let brought = |bring: Bring| {
+            let (mut table, mut scratch) = (table.clone(), table.clone());
+            let time = clock::time(|| assert_eq!(bring(&mut table, &mut scratch, a, b, m as u8), 0));
+            (time, table)
+        };
+        assert!(brought(library::bring_to_six).1 == brought(plain::bring_to_six).1);
+        let task = Task { name, unit: "subdivision", units: 63 };
+        bench.run(task, &mut || brought(library::bring_to_six).0, &mut || brought(plain::bring_to_six).0, None);
+    }
 }
 
 type Query = fn(&[u8], i32, i32, u8) -> (u8, [i32; 19]);

@@ -1,6 +1,7 @@
 //! bladeplan: blade plans at the command line. Thin over the proved library, whose calls answer what is asked of a plan; what little is worked
 //! out here instead is listed in docs/DECISIONS.md.
 
+mod asked;
 mod commands;
 mod counted;
 mod draw;

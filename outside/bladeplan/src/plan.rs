@@ -109,6 +109,26 @@ impl Plan {
         })
     }
 
+    /// The full file of this plan with the vertices at these points brought to six neighbours in turn, and subdivided where that is asked; and how
+    /// many subdivisions each took. Refused, how many were done.
+    pub fn refined(&self, points: &[Point], subdivide: bool) -> Outcome<Result<(Vec<u8>, Vec<usize>), RefusedAt>> {
+        let file = self.full()?;
+        let most = self.records.len().saturating_add(points.len().saturating_mul(NEW_VERTICES));
+        let refined = sizes::growing(most, |slots| {
+            let mut table = Table::read_full(slots, &file)?;
+            let mut taken = Vec::new();
+            for (at, p) in points.iter().enumerate() {
+                let one = refine(&mut table, *p, subdivide);
+                taken.push(one.map_err(|refusal| RefusedAt { refusal, at: at as u64 })?);
+            }
+            Ok((table, taken))
+        });
+        Ok(match refined {
+            Ok((table, taken)) => Ok((table.write_full().map_err(|refusal| self.refused(refusal))?, taken)),
+            Err(refused) => Err(refused),
+        })
+    }
+
     /// V, E, F and the vertices by degree.
     pub fn counts(&self) -> Outcome<Counts> {
         self.table.counts().map_err(|refusal| self.refused(refusal))
@@ -140,6 +160,15 @@ impl Plan {
         };
         self.records.iter().zip(answers).map(one).collect()
     }
+}
+
+/// One vertex brought to six neighbours, and subdivided where that is asked: how many subdivisions it took.
+fn refine(table: &mut Table, p: Point, subdivide: bool) -> Result<usize, Refusal> {
+    let taken = table.bring_to_six(p)?;
+    if subdivide {
+        table.subdivide(p)?;
+    }
+    Ok(taken + usize::from(subdivide))
 }
 
 /// Where a point stands in a file.

@@ -91,7 +91,7 @@ fn words(refusal: Refusal) -> &'static str {
         Refusal::TooDeep => "never comes",
         Refusal::Torn => {
             "the mesh is torn there: something that must be beside the vertex is missing or does not fit. \
-             It never comes of a subdivision or the neighbours in a mesh that was grown"
+             It never comes of a subdivision, of the neighbours or of bringing to six in a mesh that was grown"
         }
         Refusal::TooFewSlots => "too few free slots in the table; of the census, an input of over 65,536 bytes",
         Refusal::BadLine => "that line of the file is malformed, or its record is not valid",
@@ -101,6 +101,7 @@ fn words(refusal: Refusal) -> &'static str {
         Refusal::OutputShort => "the output is shorter than the file, or has no room for all the answers; nothing was written",
         Refusal::DegreeZero => "asked of a vertex at the rim, which has no star",
         Refusal::BadFinding => "that line is no finding: number, a, b, m and note, tabs between, each within its limits",
+        Refusal::AtTheRim => "what has to be subdivided first comes to a vertex at the rim, which has no star",
     }
 }
 
@@ -110,7 +111,7 @@ mod tests {
     use Refusal::*;
 
     const SOME: [Refusal; 7] = [NotInOrder, BadCentre, NoRecord, NotDegreeSix, LevelTwelve, TooDeep, Torn];
-    const OTHERS: [Refusal; 8] = [TooFewSlots, BadLine, NotAbove, NotGrown, RedundantKept, OutputShort, DegreeZero, BadFinding];
+    const OTHERS: [Refusal; 9] = [TooFewSlots, BadLine, NotAbove, NotGrown, RedundantKept, OutputShort, DegreeZero, BadFinding, AtTheRim];
 
     #[test]
     fn the_words_are_the_readme_s() {

@@ -73,6 +73,31 @@ fn subdivide() {
 }
 
 #[test]
+fn refine() {
+    let desk = Desk::with_plan("refine");
+    desk.put("seven.txt", "0\t0\n1\t1\n-1\t2\n-2\t1\n-1\t-1\n1\t-2\n2\t-1\n");
+    desk.good("lay seven.txt -o seven.full");
+    let ran = desk.run("refine seven.full 0,0,2 1,0 0,0");
+    let told = "bladeplan: refine: 0,0,2 took 3 subdivisions\nbladeplan: refine: 1,0,0 took none\nbladeplan: refine: 0,0,0 took none\n";
+    assert_eq!((ran.status, ran.err), (0, format!("{told}bladeplan: refine: 31 vertices in, 49 vertices out\n")));
+    assert_eq!(ran.out, desk.good("subdivide seven.full 1,0 -1,1 0,-1"));
+    let finer = desk.run("refine seven.full 1,0 0,0 --subdivide -o seven.full");
+    let told = "bladeplan: refine: 1,0,0 took 1 subdivision\nbladeplan: refine: 0,0,0 took 3 subdivisions\n";
+    assert_eq!(finer.err, format!("{told}bladeplan: refine: 31 vertices in, 55 vertices out\n"));
+    assert_eq!(desk.run("refine seven.full 0,0 --quiet").err, "");
+    let sixteen = "refused with 16: what has to be subdivided first comes to a vertex at the rim, which has no star";
+    desk.refused("refine base.full 1,0 0,0,3 -o base.full", 16, &format!("base.full, point 0,0,3: {sixteen}"));
+    desk.refused("refine base.full 2,0", 14, "base.full, point 2,0,0: refused with 14: asked of a vertex at the rim, which has no star");
+    desk.refused("refine base.full 5,5", 3, "base.full, point 5,5,0: refused with 3: no vertex stands at that point");
+    desk.put("list", "1,0\n\n0,0\n");
+    desk.refused("refine base.full --list list", 16, &format!("base.full, point 0,0,0 (list, line 3): {sixteen}"));
+    let deep = format!("subdivide base.full {}-o deep.full", "1,0 ".repeat(12));
+    desk.good(&deep);
+    desk.refused("refine deep.full 1,0 --subdivide", 5, "deep.full, point 1,0,0: refused with 5: it is subdivided as deep as it goes");
+    assert_eq!(desk.good("refine deep.full 1,0"), desk.get("deep.full"));
+}
+
+#[test]
 fn queries() {
     let desk = Desk::with_plan("queries");
     assert_eq!(desk.good("neighbours plan.full 3,0,1"), "4,0,1\n3,1,1\n2,1,1\n2,0,1\n3,-1,1\n4,-1,1\n");

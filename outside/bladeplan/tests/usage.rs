@@ -6,7 +6,7 @@ use common::{Desk, Ran, COMMANDS};
 use std::ffi::OsString;
 use std::os::unix::ffi::OsStringExt;
 
-const STATUSES: std::ops::RangeInclusive<i32> = 0..=15;
+const STATUSES: std::ops::RangeInclusive<i32> = 0..=16;
 const PANIC: i32 = 101;
 
 #[test]
@@ -45,6 +45,10 @@ fn wrong_command_lines() {
         "findings - -",
         "findings plan.full list.txt more",
         "subdivide plan.full",
+        "refine plan.full",
+        "refine plan.full 1",
+        "refine plan.full --subdivide",
+        "refine - --list -",
         "subdivide - --list -",
         "subdivide plan.full 1",
         "normalise",

@@ -28,6 +28,7 @@ enum Call {
     FacesAll,
     Counts,
     Findings,
+    BringToSix,
     StackUsed,
 }
 
@@ -193,6 +194,9 @@ impl Caller for Library {
     }
     fn subdivide_all(&self, table: &mut [u8], points: &[i32]) -> (u8, u64) {
         self.ask(Call::SubdivideAll, NO_FIELDS, &mut [table], &[&numbers(points)]).value()
+    }
+    fn bring_to_six(&self, table: &mut [u8], scratch: &mut [u8], a: i32, b: i32, m: u8) -> u8 {
+        self.ask(Call::BringToSix, at(a, b, m), &mut [table, scratch], &[]).number
     }
     fn neighbours(&self, table: &[u8], a: i32, b: i32, m: u8) -> (u8, Points) {
         self.ask(Call::Neighbours, at(a, b, m), &mut [], &[table]).points()

@@ -12,6 +12,7 @@ pub trait Caller: Sync {
     fn base(&self, table: &mut [u8], centres: &[i32]) -> (u8, u64);
     fn subdivide(&self, table: &mut [u8], a: i32, b: i32, m: u8) -> u8;
     fn subdivide_all(&self, table: &mut [u8], points: &[i32]) -> (u8, u64);
+    fn bring_to_six(&self, table: &mut [u8], scratch: &mut [u8], a: i32, b: i32, m: u8) -> u8;
     fn neighbours(&self, table: &[u8], a: i32, b: i32, m: u8) -> (u8, Points);
     fn faces(&self, table: &[u8], a: i32, b: i32, m: u8) -> (u8, Points);
     fn neighbours_all(&self, table: &[u8], points: &[i32], answers: &mut [i32]) -> u8;
@@ -70,6 +71,9 @@ impl Caller for Mesher {
     fn subdivide_all(&self, table: &mut [u8], points: &[i32]) -> (u8, u64) {
         told(mesher::subdivide_all(table, points))
     }
+    fn bring_to_six(&self, table: &mut [u8], scratch: &mut [u8], a: i32, b: i32, m: u8) -> u8 {
+        told(mesher::bring_to_six(table, scratch, a, b, m)).0
+    }
     fn neighbours(&self, table: &[u8], a: i32, b: i32, m: u8) -> (u8, Points) {
         told(mesher::neighbours(table, a, b, m))
     }
@@ -125,6 +129,9 @@ impl Caller for Slipped {
     fn subdivide_all(&self, table: &mut [u8], points: &[i32]) -> (u8, u64) {
         slips::with(self.0, || Mesher.subdivide_all(table, points))
     }
+    fn bring_to_six(&self, table: &mut [u8], scratch: &mut [u8], a: i32, b: i32, m: u8) -> u8 {
+        slips::with(self.0, || Mesher.bring_to_six(table, scratch, a, b, m))
+    }
     fn neighbours(&self, table: &[u8], a: i32, b: i32, m: u8) -> (u8, Points) {
         slips::with(self.0, || Mesher.neighbours(table, a, b, m))
     }
@@ -179,6 +186,9 @@ impl Caller for Plain {
     }
     fn subdivide_all(&self, table: &mut [u8], points: &[i32]) -> (u8, u64) {
         plain::subdivide_all(table, points)
+    }
+    fn bring_to_six(&self, table: &mut [u8], scratch: &mut [u8], a: i32, b: i32, m: u8) -> u8 {
+        plain::bring_to_six(table, scratch, a, b, m)
     }
     fn neighbours(&self, table: &[u8], a: i32, b: i32, m: u8) -> (u8, Points) {
         plain::neighbours(table, a, b, m)

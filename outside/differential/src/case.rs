@@ -11,6 +11,7 @@ pub enum Case {
     Base { table: Vec<u8>, centres: Vec<i32> },
     Subdivide { table: Vec<u8>, point: ([i32; 2], u8) },
     SubdivideAll { table: Vec<u8>, points: Vec<i32> },
+    BringToSix { table: Vec<u8>, scratch: Vec<u8>, point: ([i32; 2], u8) },
     Neighbours { table: Vec<u8>, point: ([i32; 2], u8) },
     Faces { table: Vec<u8>, point: ([i32; 2], u8) },
     NeighboursAll { table: Vec<u8>, points: Vec<i32>, answers: Vec<i32> },
@@ -90,6 +91,7 @@ impl Case {
             Case::Base { .. } => "base",
             Case::Subdivide { .. } => "subdivide",
             Case::SubdivideAll { .. } => "subdivide_all",
+            Case::BringToSix { .. } => "bring_to_six",
             Case::Neighbours { .. } => "neighbours",
             Case::Faces { .. } => "faces",
             Case::NeighboursAll { .. } => "neighbours_all",
@@ -122,6 +124,10 @@ impl Case {
             Case::SubdivideAll { table, points } => {
                 let mut table = Lent::new(table);
                 (count(caller.subdivide_all(table.get(), points)), vec![table])
+            }
+            Case::BringToSix { table, scratch, point: ([a, b], m) } => {
+                let (mut table, mut scratch) = (Lent::new(table), Lent::new(scratch));
+                ((caller.bring_to_six(table.get(), scratch.get(), *a, *b, *m), vec![]), vec![table, scratch])
             }
             Case::Neighbours { table, point: ([a, b], m) } => {
                 let mut table = Lent::new(table);
@@ -200,6 +206,7 @@ impl std::fmt::Display for Case {
             Case::Subdivide { table, point } | Case::Neighbours { table, point } | Case::Faces { table, point } => {
                 write!(f, "{point:?} in {}", shown(table))
             }
+            Case::BringToSix { table, scratch, point } => write!(f, "{point:?}, scratch {}, in {}", scratch.len(), shown(table)),
             Case::SubdivideAll { table, points } => write!(f, "{:?} in {}", &points[..points.len().min(60)], shown(table)),
             Case::NeighboursAll { table, points, answers } | Case::FacesAll { table, points, answers } => {
                 write!(f, "{:?}, room for {}, in {}", &points[..points.len().min(60)], answers.len(), shown(table))

@@ -56,6 +56,10 @@ const NO_FINDING: [&str; 13] = [
     "a line without its line feed",
 ];
 
+/// Why a vertex can't be brought to degree 6 by what is torn: number 7. (That it ends below degree 6 never comes.)
+const NOT_BROUGHT: [&str; 4] =
+    ["a neighbour is absent", "a neighbour of degree 6 at another level", "a neighbour not one level lower", "a subdivision is torn"];
+
 type Key = (&'static str, u8, &'static str);
 
 #[derive(Default)]
@@ -146,6 +150,14 @@ pub fn expected() -> Vec<Key> {
         keys(&["read_reduced"], 11, &["a restored record isn't valid"]),
         keys(&["read_reduced"], 12, &["a redundant record was kept"]),
         keys(&["census"], 8, &["input over 65,536 bytes"]),
+        keys(&["bring_to_six"], 0, &["done", "done already"]),
+        keys(&["bring_to_six"], 1, &[&not_in_order[..], &["scratch of another length"]].concat()),
+        keys(&["bring_to_six"], 3, &["no record at the point"]),
+        keys(&["bring_to_six"], 14, &["degree 0"]),
+        keys(&["bring_to_six"], 5, &["level is 12"]),
+        keys(&["bring_to_six"], 7, &NOT_BROUGHT),
+        keys(&["bring_to_six"], 16, &["a neighbour on the rim"]),
+        keys(&["bring_to_six"], 8, &["fewer than six free slots"]),
         keys(&["findings"], 0, &["done, an empty list", "done, all lost", "done, none lost", "done, some lost"]),
         keys(&["findings"], 1, &not_in_order),
         keys(&["findings"], 15, &NO_FINDING),

@@ -184,6 +184,32 @@ impl Cases {
         Case::SubdivideAll { table, points }
     }
 
+    /// Mostly of a vertex of degree 3 to 5, now and then one that is made to meet a neighbour of another level, or one at level 12; now and then with
+    /// a scratch table of another length.
+    fn bring(&mut self) -> Case {
+        let (mut table, mut records) = self.table();
+        let rng = &mut self.rng;
+        let mut among: Vec<Record> = match rng.below(12) {
+            0 => records.clone(),
+            1 => records.iter().filter(|r| r.n == 12).copied().collect(),
+            2..=4 => records.iter().filter(|r| (3..6).contains(&r.d)).copied().collect(),
+            _ => far_from_the_rim(&records),
+        };
+        if rng.once_in(6) {
+            if let Some(v) = misplaced(rng, &mut records) {
+                let slots = slots_for(rng, records.len());
+                (table, among) = (laid(rng, &records, slots), vec![v]);
+            }
+        }
+        let point = request(rng, &among, false);
+        let scratch = match rng.below(20) {
+            0 => *rng.pick(&[0, table.len() + SLOT, table.len() + 1, table.len().saturating_sub(SLOT)]),
+            _ => table.len(),
+        };
+        let scratch = self.garbage(scratch);
+        Case::BringToSix { table, scratch, point }
+    }
+
     fn query_all(&mut self, faces: bool) -> Case {
         let (table, records) = self.table();
         let rng = &mut self.rng;
@@ -269,7 +295,7 @@ impl Iterator for Cases {
             let i = self.rng.below(POOL);
             self.pool[i] = grown(&mut self.rng, most);
         }
-        Some(match self.rng.below(108) {
+        Some(match self.rng.below(120) {
             0..=2 => {
                 let (p, m) = request(&mut self.rng, &self.pool[0], false);
                 Case::Normalise(p, m)
@@ -313,6 +339,7 @@ impl Iterator for Cases {
                 Case::ReadReduced { table: self.garbage(table), scratch: self.garbage(scratch), file: made.bytes }
             }
             96..=99 => self.census(),
+            100..=111 => self.bring(),
             _ => self.findings(),
         })
     }

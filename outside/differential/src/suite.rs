@@ -2,6 +2,7 @@
 //!
 //! FLASKBLOOM_SEED sets the seed (a number, or `now`), FLASKBLOOM_CASES the number of random cases.
 
+pub use crate::bring::*;
 use crate::caller::{inside, why, Caller, Mesher};
 use crate::case::{difference, Case, Outcome};
 use crate::coverage::Coverage;
@@ -411,6 +412,8 @@ pub fn small_stack(caller: &dyn Caller) {
     let (points, answers) = (vec![1, 0, 0, 3, 0, 1], vec![0; 40]);
     run(Case::NeighboursAll { table: table.clone(), points: points.clone(), answers: answers.clone() });
     run(Case::FacesAll { table: table.clone(), points, answers });
+    let (deep, [a, b, m]) = deepest(slots);
+    assert_eq!(run(Case::BringToSix { table: deep, scratch: blank.clone(), point: ([a, b], m as u8) }).number, 0);
     assert_eq!(run(Case::Counts { table: table.clone() }).number, 0);
     let list = findings_list(&mut Rng::new(seed() ^ 0x16), &stored(&table), 60_000);
     run(Case::Findings { table: table.clone(), out: vec![0; list.len()], list });
@@ -440,6 +443,7 @@ macro_rules! suite {
         $crate::suite!($caller; random_cases, fuzzed_readers, all_stars, single_edits, single_bytes, every_length);
         $crate::suite!($caller; nearly_grown_files, deep_meshes, large_meshes, crowded_tables, small_stack);
         $crate::suite!($caller; edges_at_the_rim, edges_of_edited_tables, edges_of_scattered_stars);
+        $crate::suite!($caller; bring_refusals_in_order, bring_every_vertex, bring_deepest);
         $crate::suite!($caller; findings_malformed, findings_done, findings_refusals_in_order, findings_bytes, fuzzed_findings, long_findings);
     };
 }

@@ -12,6 +12,7 @@
 //! ```
 //!
 //! `Table` owns its slots; `Refusal` is the documents' numbers; `normalise` and `star` need no mesh; `census` is the program's text.
+//! `Table::bring_to_six` makes a vertex of any degree ready to be subdivided, by the subdivisions that this asks for.
 //! Every call but `normalise`, `star` and the reading of fields first tests the whole table, in time linear in its slots: to subdivide
 //! many points use `subdivide_all`, which tests it once; to ask of many, `neighbours_all`, `opposites_all` and `faces_all`. `Table::counts` has
 //! the census's numbers of a table of any size.
@@ -44,7 +45,7 @@ pub struct Record {
     pub level: u8,
 }
 
-/// Why a call was refused: the numbers of document 01's table, and document 02's 15.
+/// Why a call was refused: the numbers of document 01's table, and document 02's 15 and 16.
 #[derive(Clone, Copy, PartialEq, Eq, Hash, Debug)]
 #[repr(u8)]
 pub enum Refusal {
@@ -63,10 +64,11 @@ pub enum Refusal {
     OutputShort = 13,
     DegreeZero = 14,
     BadFinding = 15,
+    AtTheRim = 16,
 }
 
 impl Refusal {
-    const ALL: [Refusal; 15] = [
+    const ALL: [Refusal; 16] = [
         Refusal::NotInOrder,
         Refusal::BadCentre,
         Refusal::NoRecord,
@@ -82,6 +84,7 @@ impl Refusal {
         Refusal::OutputShort,
         Refusal::DegreeZero,
         Refusal::BadFinding,
+        Refusal::AtTheRim,
     ];
 
     /// The documents' number.
@@ -116,6 +119,7 @@ impl fmt::Display for Refusal {
             Refusal::OutputShort => "the output is shorter than the file",
             Refusal::DegreeZero => "a boundary vertex has no star",
             Refusal::BadFinding => "a findings line is malformed",
+            Refusal::AtTheRim => "what has to be subdivided comes to a boundary vertex",
         })
     }
 }
@@ -277,6 +281,15 @@ impl Table {
     /// Subdivides in turn, up to the first refusal; `at` then says how many were made, and those stand.
     pub fn subdivide_all(&mut self, list: &[Point]) -> Result<(), RefusedAt> {
         placed(slices::subdivide_all(&mut self.bytes, &flat(list)))
+    }
+
+    /// Brings a vertex to degree 6 by the subdivisions that this asks for, or changes nothing: says how many were made. It lends a scratch
+    /// table of its own.
+    pub fn bring_to_six(&mut self, p: Point) -> Result<usize, Refusal> {
+        let before = self.records().count();
+        let mut scratch = vec![255; self.bytes.len()];
+        Refusal::of(slices::bring_to_six(&mut self.bytes, &mut scratch, p.a, p.b, p.m))?;
+        Ok((self.records().count() - before) / 6)
     }
 
     /// The adjacent vertices, counter-clockwise.

@@ -6,6 +6,7 @@ extern "C" {
     pub fn fb_base(table: *mut u8, table_len: usize, centres: *const i32, count: usize, place: *mut u64) -> u8;
     pub fn fb_subdivide(table: *mut u8, table_len: usize, a: i32, b: i32, m: u8) -> u8;
     pub fn fb_subdivide_all(table: *mut u8, table_len: usize, points: *const i32, count: usize, done: *mut u64) -> u8;
+    pub fn fb_bring_to_six(table: *mut u8, table_len: usize, scratch: *mut u8, scratch_len: usize, a: i32, b: i32, m: u8) -> u8;
     pub fn fb_neighbours(table: *const u8, table_len: usize, a: i32, b: i32, m: u8, points: *mut i32) -> u8;
     pub fn fb_faces(table: *const u8, table_len: usize, a: i32, b: i32, m: u8, points: *mut i32) -> u8;
     pub fn fb_neighbours_all(table: *const u8, table_len: usize, points: *const i32, count: usize, answers: *mut i32, room: usize) -> u8;

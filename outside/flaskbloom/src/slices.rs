@@ -36,6 +36,10 @@ pub fn subdivide_all(table: &mut [u8], points: &[i32]) -> (u8, u64) {
     (unsafe { raw::fb_subdivide_all(table.as_mut_ptr(), table.len(), points.as_ptr(), points.len(), &mut done) }, done)
 }
 
+pub fn bring_to_six(table: &mut [u8], scratch: &mut [u8], a: i32, b: i32, m: u8) -> u8 {
+    unsafe { raw::fb_bring_to_six(table.as_mut_ptr(), table.len(), scratch.as_mut_ptr(), scratch.len(), a, b, m) }
+}
+
 pub fn neighbours(table: &[u8], a: i32, b: i32, m: u8) -> (u8, Points) {
     let mut points = NO_POINTS;
     (unsafe { raw::fb_neighbours(table.as_ptr(), table.len(), a, b, m, points.as_mut_ptr()) }, points)

@@ -62,6 +62,20 @@ fn subdividing() {
 }
 
 #[test]
+fn brought_to_degree_six() {
+    let mut sheet = Table::base(64, &[[0, 0], [1, 1], [-1, 2], [-2, 1], [-1, -1], [1, -2], [2, -1]]).unwrap();
+    assert_eq!(sheet.bring_to_six(Point::new(0, 0, 0)), Ok(3));
+    assert_eq!(at(&sheet, 0, 0, 0), Some((6, 1, 1)));
+    assert_eq!(sheet.bring_to_six(Point::new(0, 0, 2)), Ok(0));
+    let mut sheet = three();
+    assert_eq!(sheet.bring_to_six(Point::new(0, 0, 0)), Err(Refusal::AtTheRim));
+    assert_eq!(sheet, three());
+    assert_eq!(sheet.bring_to_six(Point::new(2, 0, 0)), Err(Refusal::DegreeZero));
+    assert_eq!(sheet.bring_to_six(Point::new(5, 5, 0)), Err(Refusal::NoRecord));
+    assert_eq!(Table::from_bytes(vec![1; 192]).bring_to_six(Point::new(0, 0, 0)), Err(Refusal::NotInOrder));
+}
+
+#[test]
 fn many_queries() {
     let mut sheet = three();
     sheet.subdivide(Point::new(1, 0, 0)).unwrap();
@@ -90,7 +104,7 @@ fn bases_refused() {
     assert_eq!(Table::base(16, &[[0, 0], [1, 0]]), Err(RefusedAt { refusal: Refusal::BadCentre, at: 1 }));
     assert_eq!(Table::base(15, &[[0, 0]]), Err(RefusedAt { refusal: Refusal::NotInOrder, at: 0 }));
     assert_eq!(Table::from_bytes(vec![1; 192]).write_full(), Err(Refusal::NotInOrder));
-    assert_eq!((Refusal::DegreeZero.number(), Refusal::BadFinding.number()), (14, 15));
+    assert_eq!((Refusal::DegreeZero.number(), Refusal::BadFinding.number(), Refusal::AtTheRim.number()), (14, 15, 16));
 }
 
 #[test]

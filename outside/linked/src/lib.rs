@@ -21,6 +21,9 @@ impl Caller for Library {
     fn subdivide_all(&self, table: &mut [u8], points: &[i32]) -> (u8, u64) {
         slices::subdivide_all(table, points)
     }
+    fn bring_to_six(&self, table: &mut [u8], scratch: &mut [u8], a: i32, b: i32, m: u8) -> u8 {
+        slices::bring_to_six(table, scratch, a, b, m)
+    }
     fn neighbours(&self, table: &[u8], a: i32, b: i32, m: u8) -> (u8, Points) {
         slices::neighbours(table, a, b, m)
     }

@@ -115,7 +115,7 @@ fn found(slots: &Slots, a: i32, b: i32, m: u8) -> Result<Record, Refused> {
 }
 
 /// One subdivision of an opened table.
-fn subdivided(slots: &mut Slots, mesh: &mut Mesh, a: i32, b: i32, m: u8) -> Result<(), Refused> {
+pub fn subdivided(slots: &mut Slots, mesh: &mut Mesh, a: i32, b: i32, m: u8) -> Result<(), Refused> {
     let v = found(slots, a, b, m)?;
     let full = Refused(8, "fewer than six free slots");
     let least = if made(Slip::SixFreeRefused) { 7 } else { 6 };
@@ -145,6 +145,38 @@ pub fn subdivide(table: &mut [u8], a: i32, b: i32, m: u8) -> Answer<()> {
     match outcome {
         Ok(()) => done(()),
         Err(Refused(number, why)) => refused(number, why, ()),
+    }
+}
+
+/// The vertex at the point brought to degree 6, on a table and a scratch table; the table as it was where it can't be.
+pub fn bring_to_six(table: &mut [u8], scratch: &mut [u8], a: i32, b: i32, m: u8) -> Answer<()> {
+    if !length_fits(table.len()) {
+        return refused(1, "length doesn't fit", ());
+    }
+    if scratch.len() != table.len() {
+        return refused(1, "scratch of another length", ());
+    }
+    if !made(Slip::BringScratchLeft) {
+        scratch.fill(255);
+    }
+    let mut half_done = None;
+    let outcome = opened(table).and_then(|(mut slots, mut mesh)| {
+        let v = found(&slots, a, b, m)?;
+        let outcome = crate::bring::brought(&mut slots, &mut mesh, &v);
+        half_done = Some(slots);
+        outcome
+    });
+    match (outcome, half_done) {
+        (Ok(subdivisions), Some(slots)) => {
+            slots.store(table);
+            Answer { number: 0, why: if subdivisions.is_empty() { "done already" } else { "done" }, value: () }
+        }
+        (Err(Refused(number, why)), Some(slots)) if made(Slip::BringNotUndone) => {
+            slots.store(table);
+            refused(number, why, ())
+        }
+        (Err(Refused(number, why)), _) => refused(number, why, ()),
+        (Ok(_), None) => unreachable!("what was brought was looked up"),
     }
 }
 

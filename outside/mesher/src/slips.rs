@@ -70,9 +70,20 @@ pub enum Slip {
     ListBeforeTable,
     RoomBeforeFindings,
     RoomByList,
+    WideOnOneSide,
+    NeighboursBackwards,
+    LastNeighbourForgotten,
+    TwoLevelsLower,
+    RimByLevel,
+    RimTaken,
+    AnyLevelSubdivided,
+    StarsAtTheStart,
+    LevelTwelveFirst,
+    BringScratchLeft,
+    BringNotUndone,
 }
 
-pub const ALL: [Slip; 65] = [
+pub const ALL: [Slip; 76] = [
     Slip::FartherOpposite,
     Slip::PlusFourTwice,
     Slip::NewNotNormalised,
@@ -138,6 +149,17 @@ pub const ALL: [Slip; 65] = [
     Slip::ListBeforeTable,
     Slip::RoomBeforeFindings,
     Slip::RoomByList,
+    Slip::WideOnOneSide,
+    Slip::NeighboursBackwards,
+    Slip::LastNeighbourForgotten,
+    Slip::TwoLevelsLower,
+    Slip::RimByLevel,
+    Slip::RimTaken,
+    Slip::AnyLevelSubdivided,
+    Slip::StarsAtTheStart,
+    Slip::LevelTwelveFirst,
+    Slip::BringScratchLeft,
+    Slip::BringNotUndone,
 ];
 
 thread_local! {

@@ -17,7 +17,7 @@ pub struct Corner {
 }
 
 /// The angles round a vertex, counter-clockwise from its first edge, in units of 30 degrees: ccc, cbab, baaab, aaaaaa.
-fn angles(d: u8) -> &'static [i64] {
+pub fn angles(d: u8) -> &'static [i64] {
     match d {
         3 => &[4, 4, 4],
         4 => &[4, 3, 2, 3],

@@ -2,9 +2,9 @@
 //! sort_unstable, one pass for number 11. What the library's speed is measured against, and a third opinion in the tests.
 //!
 //! `lattice` points and stars; `table` slots; `mesh` base, subdivision, queries; `files` writers, readers; `grown` the local check;
-//! `counts` a table's numbers, the census.
-//! `counts` the census; `findings` the list joined with the plan.
+//! `bring` a vertex brought to degree 6; `counts` a table's numbers, the census; `findings` the list joined with the plan.
 
+pub mod bring;
 pub mod counts;
 pub mod files;
 pub mod findings;
@@ -13,6 +13,7 @@ pub mod lattice;
 pub mod mesh;
 pub mod table;
 
+pub use bring::bring_to_six;
 pub use counts::{census, counts};
 pub use files::{read_full, read_reduced, write_full, write_reduced};
 pub use findings::findings;

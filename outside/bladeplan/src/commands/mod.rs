@@ -8,6 +8,7 @@ mod findings;
 mod lattice;
 mod lay;
 mod queries;
+mod refine;
 mod subdivide;
 
 use crate::draw;
@@ -16,6 +17,7 @@ use crate::words::Command;
 pub const ALL: &[&Command] = &[
     &lay::COMMAND,
     &subdivide::COMMAND,
+    &refine::COMMAND,
     &queries::NEIGHBOURS,
     &queries::FACES,
     &lattice::NORMALISE,

@@ -1,13 +1,9 @@
 //! `subdivide`: a plan refined at points.
 
+use crate::asked::Asked;
 use crate::counted;
-use crate::lists::List;
-use crate::place::Place;
-use crate::plan::Plan;
-use crate::points::{point, point_word};
-use crate::trouble::{Outcome, Trouble};
+use crate::trouble::Outcome;
 use crate::words::{Command, Words};
-use flaskbloom::Point;
 
 pub const COMMAND: Command = Command {
     name: "subdivide",
@@ -28,31 +24,7 @@ example: twice round the pit at 1,0
 };
 
 fn run(words: &Words) -> Outcome<()> {
-    let (plan_word, point_words) = words.plain.split_first().ok_or_else(|| COMMAND.wrong("no plan is given"))?;
-    let mut wanted = point_words.iter().map(|word| point_word(&COMMAND, word)).collect::<Outcome<Vec<Point>>>()?;
-    let typed = wanted.len();
-    if typed == 0 && !words.has("--list") {
-        return Err(COMMAND.wrong("no point is given"));
-    }
-    let plan = Plan::load(plan_word)?;
-    let list = words.value("--list").map(List::load).transpose()?;
-    if let Some(list) = &list {
-        wanted.extend(list.parsed(point)?);
-    }
-    let file = plan.subdivided(&wanted)?.map_err(|refused| {
-        let at = usize::try_from(refused.at).unwrap_or(usize::MAX);
-        let line = list.as_ref().zip(at.checked_sub(typed)).map(|(list, item)| list.place(item));
-        Trouble::refused(place(&plan, wanted.get(at), line), refused.refusal)
-    })?;
-    counted::write(&COMMAND, words, &counted::vertices(&plan, "in"), &file)
-}
-
-/// The point at fault, as it was spelled, and the list's line where it has one.
-fn place(plan: &Plan, p: Option<&Point>, line: Option<Place>) -> Place {
-    let name = plan.name.clone();
-    match (p, line) {
-        (Some(p), None) => Place::Point(name, *p),
-        (Some(p), Some(line)) => Place::Listed(name, *p, Box::new(line)),
-        (None, _) => Place::File(name),
-    }
+    let asked = Asked::load(&COMMAND, words)?;
+    let file = asked.plan.subdivided(&asked.points)?.map_err(|refused| asked.refused(refused))?;
+    counted::write(&COMMAND, words, &counted::vertices(&asked.plan, "in"), &file)
 }

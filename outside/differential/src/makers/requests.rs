@@ -28,6 +28,18 @@ pub fn request(rng: &mut Rng, records: &[Record], degree_six: bool) -> ([i32; 2]
     ([p.a, p.b], p.m)
 }
 
+/// Of the vertices of degree 3 to 5 the tenth that is nearest the middle: there the rim is far.
+pub fn far_from_the_rim(records: &[Record]) -> Vec<Record> {
+    let away = |r: &Record| {
+        let (a, b, scale) = (r.a as i64, r.b as i64, 9i64.pow(r.m as u32));
+        (a * a + a * b + b * b) * 1_000 / scale
+    };
+    let mut lower: Vec<Record> = records.iter().filter(|r| (3..6).contains(&r.d)).copied().collect();
+    lower.sort_by_key(|r| (away(r), r.m, r.a, r.b));
+    lower.truncate(lower.len().div_ceil(10));
+    lower
+}
+
 /// A base list, good or with a fault.
 pub fn base_list(rng: &mut Rng) -> Vec<i32> {
     let most = *rng.pick(&[1, 3, 8, 30]);

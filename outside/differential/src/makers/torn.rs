@@ -106,6 +106,17 @@ fn tear_beside(rng: &mut Rng, list: &mut Vec<Record>, v: Record) {
     }
 }
 
+/// A neighbour of degree 6 of a vertex of degree 3 to 5, put at another level: that vertex, where there is one.
+pub fn misplaced(rng: &mut Rng, list: &mut [Record]) -> Option<Record> {
+    let lower: Vec<Record> = list.iter().filter(|r| (3..6).contains(&r.d)).copied().collect();
+    let v = *lower.get(rng.below(lower.len().max(1)))?;
+    let beside = star(&v).first()?.adjacent;
+    let u = list.iter_mut().find(|r| r.d == 6 && Spot::of(r.point()) == beside)?;
+    u.n = (u.n + 1 + rng.below(4) as u8) % 13;
+    u.k = u.n % 2;
+    Some(v)
+}
+
 fn add(rng: &mut Rng, list: &mut Vec<Record>, spot: Spot) {
     let p = spot.point();
     if in_reach(p) && list.iter().all(|r| r.point() != p) {

@@ -1,121 +1,23 @@
--- `mesh::calls::subdivide_ordered` meets its promise: by where the search for the request's point ended. Assumes nothing.
+-- `mesh::calls::subdivide_ordered` meets its promise: it is the subdivision at the normalised point. Assumes nothing.
 use borrow.Author.Needs.{needs}
 use mathlib.Core.Path.{_≡_, sym, _∙_, ap}
 use mathlib.Core.List.{List}
 use Prim.Native.Nat.{ℕ}
 use Rattle.laws.specs.Machine.{asked₂}
 use Rattle.lattice.specs.Points.{normalOf}
-use Rattle.lattice.specs.declared.points.Point.{Point}
-use Rattle.table.specs.Search.{findOf}
-use Rattle.table.specs.Entries.{lookedAt, lookUp}
-use Rattle.table.specs.OrderLaws.{test-order}
-use Rattle.table.specs.MapLaws.{at-room, lookup-point}
-use Rattle.table.specs.declared.probe.Found.{Found}
-use Rattle.table.specs.declared.entries.Looked.the-variants.{Held}
-use Rattle.table.specs.declared.probe.Found.the-variants as found
+use Rattle.table.specs.Entries.{lookUp}
+use Rattle.mesh.specs.CallLaws.{call-looked, after-parts}
 use Rattle.mesh.proofs.calls.subdivide_ordered.Statement.{statement}
-use Rattle.mesh.specs.CallLaws.{call-3, call-vertex, call-standing, after-parts}
 use Rattle.mesh.proofs.calls.subdivide_ordered.Tie as tie
-
--- past the search
-module _ (f : tie.After-find) where
-  abbrev s : tie.Start
-  s = f .before .before .before .before
-
-  abbrev t : List ℕ
-  t = s .args .t .now
-
-  abbrev point : Point
-  point = normalOf (s .args .a) (s .args .b) (s .args .m)
-
-  ended : (o : Found) → f .find .result ≡ o → findOf t point ≡ o
-  ended o e =
-      ap (findOf t) (asked₂ (λ x y. normalOf x y (s .args .m)) (s .fits .a) (s .fits .b) (f .before .normalise .ensures)) ∙ sym (f .find .ensures .0) ∙ e
-
-  looked : (o : Found) → f .find .result ≡ o → lookUp t point ≡ lookedAt t o
-  unfolding lookUp
-  looked o e = ap (lookedAt t) (ended o e)
-
-held-in-requires : tie.Need-held-in-requires
-held-in-requires c κs =
-    let k = c .before .before in
-    let f = k .before .before in
-    at-room (t f) (s f .args .n) (s f .pre .0) (point f) (k .i .given .0 .0) (ended f _ (k .i .given .1))
-
--- past the slot where it ended
-abbrev searched : tie.After-held-in → tie.After-find
-searched h = h .before .before .before .before .before
-
--- what the slot holds is what stands at the point
-in-slot : (h : tie.After-held-in) → lookUp (t (searched h)) (point (searched h)) ≡ h .held-in .result
-in-slot h = let k = h .before .before .before in looked (searched h) (found.At (k .i .given .0 .0)) (k .i .given .1) ∙ sym (h .held-in .ensures)
-
--- the vertex there
-vertex : (k : tie.After-v) → let f = searched (k .before .before) in lookUp (t f) (point f) ≡ Held (k .v .given .0 .0)
-vertex k = in-slot (k .before .before) ∙ k .v .given .1
-
-subdivide-vertex-requires : tie.Need-subdivide-vertex-requires
-subdivide-vertex-requires c κs =
-    let k = c .before .before in
-    let h = k .before .before in
-    let f = searched h in
-    let a = s f .args in
-    let v = k .v .given .0 .0 in
-    let i = h .before .before .before .i .given in
-    let o = s f .pre .1 .0 in (
-      s f .pre .0,
-      (
-        call-standing (t f) (a .a) (a .b) (a .m) o v (vertex k),
-        (ap (findOf (t f)) (lookup-point (t f) (test-order (t f) o) (point f) v (vertex k)) ∙ ended f _ (i .1), s f .pre .1 .1),
-      ),
-    )
 
 returns : tie.Need-returns
 returns c =
-    let h = c .before .before in
-    let f = searched h in
-    let a = s f .args in
-    after-parts (call-3 (t f) (a .a) (a .b) (a .m) (s f .pre .1 .0) (in-slot h ∙ c .enum-told .given .1))
-
-returns-2 : tie.Need-returns-2
-returns-2 c =
     let w = c .before .before in
-    let k = w .before .before .before in
-    let f = searched (k .before .before) in
-    let a = s f .args in
-    let p = after-parts (call-vertex (t f) (a .a) (a .b) (a .m) (s f .pre .1 .0) (k .v .given .0 .0) (vertex k)) in
-    (w .subdivide-vertex .ensures .0 ∙ p .0, w .subdivide-vertex .ensures .1 ∙ p .1)
-
-returns-3 : tie.Need-returns-3
-returns-3 c =
-    let f = c .before .before in
-    let a = s f .args in
-    after-parts (call-3 (t f) (a .a) (a .b) (a .m) (s f .pre .1 .0) (looked f (found.Free _) (c .enum-told2 .given .1)))
-
-returns-4 : tie.Need-returns-4
-returns-4 c =
-    let f = c .before .before in
-    let a = s f .args in
-    after-parts (call-3 (t f) (a .a) (a .b) (a .m) (s f .pre .1 .0) (looked f found.Full (c .enum-told3 .given .1)))
+    let s = w .before .before .before .before in
+    let a = s .args in
+    let point = asked₂ (λ x y. normalOf x y (a .m)) (s .fits .a) (s .fits .b) (w .before .normalise .ensures) in
+    let p = after-parts (call-looked (a .t .now) (a .a) (a .b) (a .m) (s .pre .1 .0) _ (ap (lookUp (a .t .now)) point)) in
+    (w .subdivide-at .ensures .0 ∙ p .0, w .subdivide-at .ensures .1 ∙ p .1)
 
 pub subdivide-ordered-spec : {M : Type 1} → statement M
-subdivide-ordered-spec =
-    tie.close
-    (tie.spec
-    (λ c κs. search needs)
-    (λ c κs. search needs)
-    (λ c. search needs)
-    held-in-requires
-    (λ c. search needs)
-    (λ c. search needs)
-    subdivide-vertex-requires
-    (λ c. search needs)
-    (λ c. search needs)
-    (λ c. search needs)
-    returns
-    (λ c. search needs)
-    returns-2
-    (λ c. search needs)
-    returns-3
-    (λ c. search needs)
-    returns-4)
+subdivide-ordered-spec = tie.close (tie.spec (λ c κs. search needs) (λ c κs. search needs) (λ c. search needs) returns)
