@@ -84,7 +84,7 @@ pub data Finish (t : List ℕ) (p : Point) (n : ℕ) (o : MeshAfter) : Type 0 wh
       → ((x : Division) → List·Memᴰ x l → (k : List Division) → Reaching t p k → List·Memᴰ x k)
       → ((x : Division) → ((k : List Division) → Reaching t p k → List·Memᴰ x k) → List·Memᴰ x l)
       → Finish t p n o
-  -- 16: after some accepted subdivisions a boundary vertex stood where the definition answers 16; and no sequence reaches the goal, in no room
+  -- 16 (where the chain reaches a boundary vertex: Boundary): no sequence reaches the goal, in no room
   rim : (l : List Division) (s : List ℕ) (u : Record) → o .number ≡ 16 → o .bytes ≡ t → Run t l s → lookUp s (u .at) ≡ Held u → u .d ≡ 0
       → ((k : List Division) → Reaching t p k → ⊥) → Finish t p n o
   -- 8: after some accepted subdivisions fewer than six slots were free; then each sequence that reaches the goal wants more slots than t has free

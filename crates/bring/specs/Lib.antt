@@ -5,6 +5,7 @@ pub mod Examples
 pub mod ChainLaws
 pub mod CallLaws
 pub mod Numbers
+pub mod Boundary
 -- on grown tables
 pub mod Ways
 pub mod Runs

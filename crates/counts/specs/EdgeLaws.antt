@@ -1,8 +1,12 @@
--- Each side of the faces is counted once: `edges-counted`. Where a face was counted before, its far sides need not be looked at: `far-counted-before`.
+-- Each side of the faces is counted once: `edges-counted`. Where a face was counted before, its far sides that are not wide need not be looked at:
+-- `far-spared`.
 --
--- Put all near sides first, then all far ones (NearFarLaws). A near side was there before exactly where its other end stands earlier and has it
--- (`nears-told`). A far side was there before exactly where one of its ends has it, in whatever slot, or where a vertex across from it stands earlier and
--- has it (`fars-told`); such a vertex can stand at sixteen places only (AcrossLaws). In one star the near sides are different, and so are the far ones.
+-- Put all near sides first, then the far ones whose vertex stands at an apex of them (wide), then the other far ones (NearFarLaws). A near side was there
+-- before exactly where its other end stands earlier and has it (`nears-told`). A far side was there before where one of its ends has it, in whatever slot;
+-- a wide one else where a vertex at the other apex stands earlier and has it (`wides-told`); another one else where a vertex at an apex has it, in
+-- whatever slot, or a vertex across from it stands earlier and has it (`fars-told`), which can stand at sixteen places only (AcrossLaws). In one star the
+-- near sides are different, and so are the far ones. Where the apexes lie does not matter here: any place that p and q determine would do, with that of q
+-- and p.
 -- Assumes nothing.
 use mathlib.Core.Path.{_≡_, refl, sym, ap, _∙_, subst}
 use mathlib.Core.Logic.{_⊎_, inl, inr}

@@ -4,22 +4,22 @@
 -- Assumes nothing.
 use mathlib.Core.Path.{_≡_, refl, sym, ap, _∙_, subst}
 use mathlib.Core.Bool.{Bool, true, false, cond, not, _&&_, _||_, or-true}
-use mathlib.Core.List.{List, [], _∷_}
-use Prim.Native.Nat.{ℕ, zero, suc, _+_, _*_, _-_, _/_, _%_, _^_, _≤_, _<_}
+use mathlib.Core.List.{[], _∷_}
+use Prim.Native.Nat.{ℕ, zero, suc, _+_, _*_, _-_, _/_, _%_, _≤_, _<_}
 use native.Mathlib.Omega.{arith}
 use native.Mathlib.Decide.{ℕ-discrete, decLt}
 use borrow.Author.Tests.{eq-eqb, ne-eqb, lt-ltb, le-ltb}
-use lib.Dec.{T, eqb, ltb}
+use lib.Dec.{T, eqb}
 use lib.IntN.{ℤ, pos, _+ℤ_}
 use lib.ListN.{getD}
 use Rattle.laws.specs.Rules.{Test, run, Means, _≡?_, _≡ᶻ?_, _≤?_, _&_, _⇒_, sound, rule2, upto, upto-at}
 use Rattle.laws.specs.Choices.{of-true}
 use Rattle.laws.specs.Each.{never}
-use Rattle.lattice.specs.Points.{pt, by3, isNormal, lift, sumOf}
-use Rattle.lattice.specs.Places.{wide, high, Low, normal-low}
+use Rattle.lattice.specs.Points.{pt, by3, isNormal, lift}
+use Rattle.lattice.specs.Places.{wide, high, Low}
 use Rattle.lattice.specs.Patterns.{orient, three, four, five, six, rowsOf, patternOf, adjacentOf, onSpot}
 use Rattle.lattice.specs.PatternLaws.{orient-depth}
-use Rattle.lattice.specs.Stars.{scaleOf, stepOf, adjacentAt, firstAt, secondAt}
+use Rattle.lattice.specs.Stars.{scaleOf, stepOf, adjacentAt, firstAt}
 use Rattle.lattice.specs.Ranks.{moveOf, level}
 use Rattle.lattice.specs.RecordLaws.{Inner}
 use Rattle.lattice.specs.declared.points.Point.{Point}
@@ -30,7 +30,7 @@ use Rattle.geometry.specs.GeometryLaws.{scale-lift, move-back, sum-sum}
 use Rattle.geometry.specs.SideLaws.{vector}
 use Rattle.geometry.specs.StarSteps.{turnOf, downOf, star-step}
 use Rattle.counts.specs.Counts.{bit, nextPlace}
-use Rattle.counts.specs.OppositeLaws.{oppositeOf, Opposite, adjacent-depth, opposite-depth}
+use Rattle.counts.specs.OppositeLaws.{oppositeOf, adjacent-depth, opposite-depth}
 use Rattle.counts.specs.Strides.{adjacentRow, sideRow, otherRow, partOf, strideWith, strideOf, walkOf, backOf, oppositeBy}
 use Rattle.counts.specs.FaceLaws.{next-below}
 

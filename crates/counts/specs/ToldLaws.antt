@@ -25,9 +25,7 @@ use Rattle.geometry.specs.GeometryLaws.{low-normal}
 use Rattle.table.specs.Slots.{slotsOf, slotAt}
 use Rattle.table.specs.Order.{InOrder}
 use Rattle.table.specs.Entries.{heldIn, holds}
-use Rattle.table.specs.declared.slots.Slot.{Slot}
 use Rattle.table.specs.declared.slots.Slot.the-variants.{Holds}
-use Rattle.table.specs.declared.entries.Looked.{Looked}
 use Rattle.table.specs.declared.entries.Looked.the-variants.{Absent, Held}
 use Rattle.queries.specs.Queries.{isPoint, there, chosenAt}
 use Rattle.queries.specs.QueryLaws.{chosen-first}

@@ -1,4 +1,4 @@
-// E and F, in one pass over the corners: where a face was counted before, so were its sides across from the vertex.
+// E and F, in one pass over the corners: at each the face, the side to its adjacent point, and the two sides across from the vertex.
 ghost use mathlib.Core.Path.{_≡_};
 ghost use mathlib.Core.Bool.{true, not};
 ghost use Prim.Native.Nat.{_≤_, _<_};

@@ -8,7 +8,7 @@ ghost use Rattle.table.specs.Slots.{slotsOf, slotAt};
 ghost use Rattle.table.specs.Order.{InOrder};
 ghost use Rattle.table.specs.declared.slots.Slot.the-variants.{Holds};
 ghost use Rattle.counts.specs.Earlier.{Round};
-ghost use Rattle.counts.specs.Strides.{oppositeBy, FitIn, FitThere, FitsBy, ToldRound, toldEarlier};
+ghost use Rattle.counts.specs.Strides.{oppositeBy, FitThere, FitsBy, ToldRound, toldEarlier};
 use crate::earlier::Placed;
 use crate::earlier::earlier;
 use crate::faces::next_place;

@@ -1,7 +1,8 @@
 // What a census counts of a table: document 01's V, F and the records by degree, and E in document 02's sense, the sides of the faces.
 //
 // `counts_of` gives them all, `count` those of any bytes in a lent row. corners.rt counts each face and each side once, at the first vertex that has it
-// (faces.rt, sides.rt), with no memory but a few words.
+// (faces.rt, sides.rt), with no memory but a few words; what the other vertices of a face have of it is asked of their strides first (fits.rt,
+// strides.rt).
 // The promise cites specs/Counts.
 ghost use mathlib.Core.Path.{_≡_};
 ghost use Rattle.table.specs.Slots.{slotsOf};

@@ -2,7 +2,6 @@
 // direction. Whether another vertex has a corner with the points of a face is then a comparison of small numbers: no point is worked out, none
 // searched for.
 ghost use mathlib.Core.Path.{_≡_};
-ghost use mathlib.Core.Bool.{Bool};
 ghost use Prim.Native.Nat.{_≤_, _<_};
 ghost use Rattle.lattice.specs.RecordLaws.{Inner};
 ghost use Rattle.counts.specs.Strides.{rowOf, adjacentRow, sideRow, otherRow, strideOf, backOf, Fit};

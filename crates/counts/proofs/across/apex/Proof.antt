@@ -7,9 +7,9 @@ use lib.IntN.{ℤ, natAbs}
 use mir.Syntax.{w32}
 use mir.Val.{toZ, ofZ, SFits}
 use mir.Facts.{toZ-ofZ}
-use Rattle.laws.specs.Machine.{Mx, sized, back, need, whole, value, _+ᵐ_, _-ᵐ_}
+use Rattle.laws.specs.Machine.{Mx, back, need, whole, value, _+ᵐ_, _-ᵐ_}
 use Rattle.lattice.specs.Points.{lift, normalOf}
-use Rattle.counts.specs.Across.{StarPoint, apexAt, apexOf}
+use Rattle.counts.specs.Across.{apexAt, apexOf}
 use Rattle.counts.specs.OppositeLaws.{wide-bound, high-bound, raised-bound}
 use Rattle.counts.proofs.across.apex.Statement.{statement}
 use Rattle.counts.proofs.across.apex.Tie as tie

@@ -15,7 +15,6 @@ use Rattle.counts.specs.DifferentLaws.{sum-none}
 use Rattle.counts.specs.EarlierLaws.{valid-inner, valid-degree}
 use Rattle.counts.specs.CaseLaws.{Summed, summed-start, summed-more}
 use Rattle.counts.specs.declared.corners.Counted.{Counted}
-use Rattle.counts.specs.declared.earlier.Placed.{Placed}
 use Rattle.counts.proofs.corners.count_star.Statement.{statement}
 use Rattle.counts.proofs.corners.count_star.Tie as tie
 

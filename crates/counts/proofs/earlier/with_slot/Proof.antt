@@ -1,6 +1,5 @@
 -- `counts::with_slot` meets its promise: the point, and its slot. Assumes nothing.
 use borrow.Author.Needs.{needs}
-use Rattle.counts.specs.declared.earlier.Placed.{Placed}
 use Rattle.counts.proofs.earlier.with_slot.Statement.{statement}
 use Rattle.counts.proofs.earlier.with_slot.Tie as tie
 

@@ -2,7 +2,6 @@
 use mathlib.Core.Path.{_≡_, ap, sym, _∙_}
 use mathlib.Core.Bool.{Bool, _||_}
 use native.Mathlib.Omega.{arith}
-use borrow.Author.Needs.{needs}
 use Rattle.table.specs.Slots.{slotsOf}
 use Rattle.counts.specs.Earlier.{nearIn, nearBefore, endHas}
 use Rattle.counts.proofs.sides.end_has.Statement.{statement}

@@ -1,5 +1,5 @@
 -- `counts::narrow_else` meets its promise: by the two apexes, then by the vertices across from the side, either way. Assumes nothing.
-use mathlib.Core.Path.{_≡_, ap, sym, _∙_}
+use mathlib.Core.Path.{_≡_, sym, _∙_}
 use mathlib.Core.Bool.{Bool}
 use native.Mathlib.Omega.{arith}
 use borrow.Author.Needs.{needs}

@@ -1,5 +1,5 @@
 -- `counts::row` meets its promise: at each degree. Assumes nothing.
-use mathlib.Core.Path.{_≡_, ap, sym}
+use mathlib.Core.Path.{ap, sym}
 use mathlib.Core.Bool.{cond}
 use Prim.Native.Nat.{ℕ}
 use borrow.Author.Tests.{ne-eqb}
