@@ -1,14 +1,15 @@
 -- Document 02, ticket 4, "Refine here, whatever the degree": what the request does, over the definition that the promise of `bring` cites.
 -- Of every table and scratch: `bring-number` which number, and when; 7, 16 and 8 are the first met · `bring-untouched` "All or nothing" ·
 -- `bring-unfit`, `bring-scratch` "a scratch table is lent as for the readers, on the same terms" · `bring-order` a table in order stays in order ·
--- `bring-six` "At degree 6 the answer is 0, nothing done" · `bring-boundary` 16 comes only where the chain reaches a boundary vertex (AtBoundary).
+-- `bring-six` "At degree 6 the answer is 0, nothing done" · `bring-boundary`, `boundary-bring` 16 comes exactly where the chain reaches a
+-- boundary vertex (AtBoundary).
 -- Of a grown mesh: `bring-end` how the request ends for a vertex below degree 6 and level 12. Done: the table is what a sequence of accepted
 -- subdivisions leaves, one after the other, and nothing else; "The subdivisions made are exactly those that every sequence reaching the goal must
 -- contain", both ways; the vertex has degree 6 at its own level and one more; the mesh is grown. 16: no sequence reaches the goal in any room. 8: every
 -- sequence that reaches it wants more slots than there are. · `bring-never-7` · `bring-grown` whatever the answer · `bring-reaches` where some sequence
 -- reaches the goal and has its slots, the request succeeds · `bring-enough` with so many slots it "succeeds unless the chain reaches a boundary vertex".
 -- Assumes nothing.
-pub use Rattle.bring.specs.Boundary.{Chain, asked, lower, AtBoundary}
+pub use Rattle.bring.specs.Boundary.{Turns, first, later, Chain, asked, lower, AtBoundary}
 pub use Rattle.bring.specs.Runs.{Division, Run, run-free}
 pub use Rattle.bring.specs.BringLaws.{Alike, Six, Reaching, risen, Finish, done, rim, short}
 use mathlib.Core.Path.{_≡_, refl, sym, _∙_, ap, subst}
@@ -20,7 +21,7 @@ use native.Mathlib.Omega.{arith}
 use lib.Dec.{eqb}
 use lib.IntN.{ℤ}
 use lib.ListN.{length}
-use borrow.Author.Tests.{eqb-true, eqb-false}
+use borrow.Author.Tests.{eqb-true, eqb-false, ne-eqb}
 use Rattle.lattice.specs.Points.{normalOf}
 use Rattle.lattice.specs.declared.points.Point.{Point}
 use Rattle.lattice.specs.declared.records.Record.{Record}
@@ -34,7 +35,7 @@ use Rattle.table.specs.declared.entries.Looked.the-variants.{Absent, Held}
 use Rattle.mesh.specs.Grown.{Grown}
 use Rattle.mesh.specs.Subdivide.{MeshAfter, meshAfter}
 use Rattle.bring.specs.Bring.{bringOf, allOr, bringVertex, bringLooked, requestOf, BringAfter, bringAfter, cleared, bringToSix}
-use Rattle.bring.specs.Boundary.{sixteen-boundary}
+use Rattle.bring.specs.Boundary.{sixteen-boundary, boundary-sixteen}
 use Rattle.bring.specs.CallLaws.{vertex-0, request-on}
 use Rattle.bring.specs.Numbers.{ChainNumber, made, torn, few, vertex-told, request-order}
 use Rattle.bring.specs.Numbers as told
@@ -118,24 +119,30 @@ module _ (t s : List ℕ) (a b : ℤ) (m : ℕ) where
           at v (eqb (v .d) 0) (eqb (v .d) 6) (eqb (v .n .0) 12) refl (λ z. vertex-told t order v own (eqb-false (v .n .0) 12 z) .told)
 
   -- "unless the chain reaches a boundary vertex": 16 comes there and nowhere else
-  pub bring-boundary : bringToSix t s a b m .number ≡ 16 → (v : Record) × (lookUp t (normalOf a b m) ≡ Held v) × AtBoundary v
+  pub bring-boundary : bringToSix t s a b m .number ≡ 16 → (v : Record) × (lookUp t (normalOf a b m) ≡ Held v) × AtBoundary t v
   unfolding bringToSix requestOf bringVertex
   bring-boundary = go (lengthsFit t s) (inOrderOf t) (lookUp t (normalOf a b m)) refl
     where
       at : (v : Record) (z six last : Bool)
-          → cond z (meshAfter 14 t) (cond six (meshAfter 0 t) (cond last (meshAfter 5 t) (allOr t (bringOf (v .n .0) t v)))) .number ≡ 16 → AtBoundary v
+          → cond z (meshAfter 14 t) (cond six (meshAfter 0 t) (cond last (meshAfter 5 t) (allOr t (bringOf (v .n .0) t v)))) .number ≡ 16 → AtBoundary t v
       at v true six last e = absurd (omega arith)
       at v false true last e = absurd (omega arith)
       at v false false true e = absurd (omega arith)
-      at v false false false e = sixteen-boundary (v .n .0) t v refl (sym (all-number t (bringOf (v .n .0) t v)) ∙ e)
+      at v false false false e = sixteen-boundary t v (sym (all-number t (bringOf (v .n .0) t v)) ∙ e)
 
       go : (f o : Bool) (l : Looked) → lookUp t (normalOf a b m) ≡ l
           → cond f (cleared (cond o (bringLooked t l) (meshAfter 1 t)) s) (bringAfter 1 t s) .number ≡ 16
-          → (v : Record) × (lookUp t (normalOf a b m) ≡ Held v) × AtBoundary v
+          → (v : Record) × (lookUp t (normalOf a b m) ≡ Held v) × AtBoundary t v
       go false o l h e = absurd (omega arith)
       go true false l h e = absurd (omega arith)
       go true true Absent h e = absurd (omega arith)
       go true true (Held v) h e = (v, h, at v (eqb (v .d) 0) (eqb (v .d) 6) (eqb (v .n .0) 12) e)
+
+  pub boundary-bring : lengthsFit t s ≡ true → inOrderOf t ≡ true → (v : Record) → lookUp t (normalOf a b m) ≡ Held v
+      → v .d ≢ 0 → v .d ≢ 6 → v .n .0 ≢ 12 → AtBoundary t v → bringToSix t s a b m .number ≡ 16
+  unfolding bringToSix requestOf bringVertex
+  boundary-bring f o v e z x l c =
+      rw (f, o, e, ne-eqb (v .d) 0 z, ne-eqb (v .d) 6 x, ne-eqb (v .n .0) 12 l) (all-number t (bringOf (v .n .0) t v) ∙ boundary-sixteen t v c)
 
   -- ---- the lengths
   pub bring-unfit : lengthsFit t s ≡ false → bringToSix t s a b m ≡ bringAfter 1 t s
