@@ -27,7 +27,7 @@ enum { STACK = 128 * 1024, PAGE = 4096, GUARDS = 64, GUARD = 0xa7, BUFFERS = 4, 
 enum call {
     NORMALISE, STAR, BASE, SUBDIVIDE, SUBDIVIDE_ALL, NEIGHBOURS, FACES,
     WRITE_FULL, WRITE_REDUCED, READ_FULL, READ_REDUCED, CENSUS, NEIGHBOURS_ALL, FACES_ALL, COUNTS, FINDINGS, BRING_TO_SIX,
-    STACK_USED
+    WRITE_OFF, WRITE_OBJ, STACK_USED
 };
 
 struct request {
@@ -98,6 +98,8 @@ static uint8_t call(const struct request *r, uint8_t **p, int32_t *points, uint6
     case FACES: return fb_faces(p[0], n[0], r->a, r->b, r->m, points);
     case WRITE_FULL: return fb_write_full(p[0], n[0], p[1], n[1], value);
     case WRITE_REDUCED: return fb_write_reduced(p[0], n[0], p[1], n[1], value);
+    case WRITE_OFF: return fb_write_off(p[0], n[0], p[1], n[1], value);
+    case WRITE_OBJ: return fb_write_obj(p[0], n[0], p[1], n[1], value);
     case READ_FULL: return fb_read_full(p[0], n[0], p[1], n[1], p[2], n[2], value);
     case READ_REDUCED: return fb_read_reduced(p[0], n[0], p[1], n[1], p[2], n[2], value);
     case CENSUS: return fb_census(p[0], n[0], p[1], n[1], p[2], n[2], p[3], n[3], value);

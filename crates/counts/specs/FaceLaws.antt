@@ -242,7 +242,7 @@ module _ (t : List ℕ) (o : InOrder t) where
             go false false p q r = seen-gives f (turned (turned (turned f))) (thrice refl) r
 
     -- no two corners of a star make one face
-    corner-apart : (i j : ℕ) → i < j → j < v .d → (p : Point) → chosenAt t v j ≡ At p → someOf (sameFace (faceOn v j p)) (place t v i) ≡ false
+    pub corner-apart : (i j : ℕ) → i < j → j < v .d → (p : Point) → chosenAt t v j ≡ At p → someOf (sameFace (faceOn v j p)) (place t v i) ≡ false
     corner-apart i j h m p c = go (chosenAt t v i)
       where
         n : Inner v

@@ -2,7 +2,7 @@
 //
 // `counts_of` gives them all, `count` those of any bytes in a lent row. corners.rt counts each face and each side once, at the first vertex that has it
 // (faces.rt, sides.rt), with no memory but a few words; what the other vertices of a face have of it is asked of their strides first (fits.rt,
-// strides.rt).
+// strides.rt). The floor above takes each face once in the same way.
 // The promise cites specs/Counts.
 ghost use mathlib.Core.Path.{_≡_};
 ghost use Rattle.table.specs.Slots.{slotsOf};
@@ -22,6 +22,14 @@ mod strides;
 
 use crate::corners::count_corners;
 use crate::degrees::count_degrees;
+pub use choices::Choice;
+pub use choices::choose;
+pub use earlier::Placed;
+pub use earlier::with_slot;
+pub use faces::Face;
+pub use faces::face_seen;
+pub use faces::next_place;
+pub use fits::fits_of;
 pub use rows::COUNTS;
 pub use rows::count;
 

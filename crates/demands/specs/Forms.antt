@@ -104,7 +104,7 @@ own-form p t =
 abbrev pub OneSpot : Record → Record → Type 0
 OneSpot r q = OnePoint (r .at .a) (r .at .b) (r .at .m .0) (q .at .a) (q .at .b) (q .at .m .0)
 
-valid-normal : (r : Record) → validOf r ≡ true → T (isNormal (r .at))
+pub valid-normal : (r : Record) → validOf r ≡ true → T (isNormal (r .at))
 valid-normal r v =
     let m = r .at .m .0 in
     let e : isNormal (r .at) ≡ true =

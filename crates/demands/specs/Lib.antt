@@ -25,5 +25,7 @@ pub mod Findings
 pub mod Search
 -- document 02's ticket 4: a vertex brought to degree 6
 pub mod Bring
+-- document 02's ticket 5: OFF and OBJ files
+pub mod Viewer
 -- the starred examples
 pub mod Starred

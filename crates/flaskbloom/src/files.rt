@@ -1,4 +1,4 @@
-// The calls that write a table's files and read them, count one, and join a list of findings with it.
+// The calls that write a table's files, a viewer's too, and read them, count one, and join a list of findings with it.
 ghost use mathlib.Core.Path.{_≡_};
 ghost use Prim.Native.Nat.{_≤_};
 ghost use lib.ListN.{length};
@@ -6,6 +6,7 @@ ghost use Rattle.writers.specs.Files.{outputAfter, writeFullOf, writeReducedOf}
 ghost use Rattle.readers.specs.Readers as reader;
 ghost use Rattle.counts.specs.Count.{countOf};
 ghost use Rattle.findings.specs.Findings.{joinAfter, joinOf};
+ghost use Rattle.viewer.specs.Viewer.{writeOffOf, writeObjOf};
 ghost use Rattle.census_text.specs.Census.{put, result, censusOf, textOf, readInputOf};
 use counts::COUNTS;
 
@@ -111,4 +112,24 @@ pub extern "C" fn fb_findings(
     *line = joined.line;
     *written = joined.bytes;
     joined.number
+}
+
+// Writes the OFF file, or 1, 7, 13; written: its bytes, 0 if refused.
+#[no_mangle]
+pub extern "C" fn fb_write_off(table: &[u8], out: &mut [u8], written: &mut u64) -> u8
+    ensures { λ r. ⌜ outputAfter r (now (written .exit)) (now (out .exit)) ≡ writeOffOf (now (table .entry)) (now (out .entry)) ⌝ }
+{
+    let file = viewer::write_off(table, out);
+    *written = file.bytes;
+    file.number
+}
+
+// Writes the OBJ file, or 1, 7, 13; written: its bytes, 0 if refused.
+#[no_mangle]
+pub extern "C" fn fb_write_obj(table: &[u8], out: &mut [u8], written: &mut u64) -> u8
+    ensures { λ r. ⌜ outputAfter r (now (written .exit)) (now (out .exit)) ≡ writeObjOf (now (table .entry)) (now (out .entry)) ⌝ }
+{
+    let file = viewer::write_obj(table, out);
+    *written = file.bytes;
+    file.number
 }

@@ -63,6 +63,7 @@ fn main() {
     many(&mut bench, table);
     counts(&mut bench, table);
     files(&mut bench, table);
+    viewer(&mut bench, table);
     census(&mut bench);
     findings(&mut bench, table);
     bench.print();
@@ -286,6 +287,33 @@ fn files(bench: &mut Bench, table: &[u8]) {
     }
 }
 
+/// Bytes enough for a viewer's file of a grown mesh: 29 a vertex, 26 a face, and its head.
+fn room(vertices: usize) -> usize {
+    (29 + 26) * vertices + 32
+}
+
+/// OFF and OBJ of the largest sheet, and OFF of document 000's.
+fn viewer(bench: &mut Bench, table: &[u8]) {
+    let sheet = published();
+    let calls: [(&str, &[u8], Write, Write); 3] = [
+        ("OFF of the largest sheet", table, library::write_off, plain::write_off),
+        ("OFF of document 000's sheet", &sheet, library::write_off, plain::write_off),
+        ("OBJ of the largest sheet", table, library::write_obj, plain::write_obj),
+    ];
+    for (name, table, by_library, by_plain) in calls {
+        let vertices = count(table);
+        let (mut out, mut other) = (vec![0; room(vertices)], vec![0; room(vertices)]);
+        let task = Task { name, unit: "vertex", units: vertices };
+        bench.run(
+            task,
+            &mut || clock::time(|| assert_eq!(by_library(table, &mut out).0, 0)),
+            &mut || clock::time(|| assert_eq!(by_plain(table, &mut other).0, 0)),
+            None,
+        );
+        assert!(out == other);
+    }
+}
+
 /// Files of 64 KiB: one with few vertices at the rim, one with nearly all of them there.
 fn census(bench: &mut Bench) {
     for (name, input) in [("census, a sheet refined", refined_input()), ("census, hexagons apart", apart_input())] {
@@ -364,11 +392,12 @@ fn growth(levels: &[(Vec<u8>, Vec<i32>)], bench: &mut Bench) {
     }
 }
 
-/// The full file beside OpenMesh's OFF file of the same sheet, both from memory and to memory.
+/// The full file, and our own OFF file, beside OpenMesh's OFF file of the same sheet, all from memory and to memory.
 fn openmesh(times: [f64; 2], bench: &mut Bench) {
     let sheet = published();
     let vertices = count(&sheet);
-    let (mut table, mut scratch, mut out) = (sheet.clone(), sheet.clone(), vec![0; 26 * vertices]);
+    let (mut table, mut scratch, mut out) = (sheet.clone(), sheet.clone(), vec![0; room(vertices)]);
+    let off = clock::least(bench.rounds, &mut || clock::time(|| assert_eq!(library::write_off(&sheet, &mut out).0, 0)));
     let write = clock::least(bench.rounds, &mut || clock::time(|| assert_eq!(library::write_full(&sheet, &mut out).0, 0)));
     let long = library::write_full(&sheet, &mut out).1 as usize;
     let read =
@@ -377,11 +406,13 @@ fn openmesh(times: [f64; 2], bench: &mut Bench) {
         "\nbeside OpenMesh, {vertices} vertices, nanoseconds a vertex\n  {:12} {:>8} {:>8} {:>14} {:>9}",
         "", "library", "OpenMesh", "times as fast", "at least"
     );
-    for (name, ours, theirs, bar) in [("read_full", read, times[0], READS), ("write_full", write, times[1], WRITES)] {
+    let lines =
+        [("read_full", read, times[0], Some(READS)), ("write_full", write, times[1], Some(WRITES)), ("write_off", off, times[1], None)];
+    for (name, ours, theirs, bar) in lines {
         let ours = ours.as_nanos() as f64;
-        let mark = bench.over.least(&format!("{name} beside OpenMesh"), theirs / ours, bar);
-        let per_vertex = |ns: f64| ns / vertices as f64;
-        println!("  {name:12} {:>8.0} {:>8.0} {:>14.1} {bar:>9.1} {mark}", per_vertex(ours), per_vertex(theirs), theirs / ours);
+        let mark = bar.map_or("", |bar| bench.over.least(&format!("{name} beside OpenMesh"), theirs / ours, bar));
+        let (per_vertex, bar) = (|ns: f64| ns / vertices as f64, bar.map_or(String::new(), |bar| format!("{bar:.1}")));
+        println!("  {name:12} {:>8.0} {:>8.0} {:>14.1} {bar:>9} {mark}", per_vertex(ours), per_vertex(theirs), theirs / ours);
     }
 }
 

@@ -144,6 +144,16 @@ impl Plan {
         self.table.write_reduced().map_err(|refusal| self.refused(refusal))
     }
 
+    /// The OFF file.
+    pub fn off(&self) -> Outcome<Vec<u8>> {
+        self.table.write_off().map_err(|refusal| self.refused(refusal))
+    }
+
+    /// The OBJ file.
+    pub fn obj(&self) -> Outcome<Vec<u8>> {
+        self.table.write_obj().map_err(|refusal| self.refused(refusal))
+    }
+
     fn refused(&self, refusal: Refusal) -> Trouble {
         Trouble::refused(Place::File(self.name.clone()), refusal)
     }

@@ -59,6 +59,10 @@ fn wrong_command_lines() {
         "star 1,0,0,6,0,0,0",
         "normalise 1,0,-1",
         "census -z plan.full",
+        "off",
+        "off plan.full base.full",
+        "obj",
+        "obj --html plan.full",
         "example a b",
     ];
     for line in lines {

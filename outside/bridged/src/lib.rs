@@ -29,6 +29,8 @@ enum Call {
     Counts,
     Findings,
     BringToSix,
+    WriteOff,
+    WriteObj,
     StackUsed,
 }
 
@@ -142,7 +144,7 @@ fn order(call: Call, lent: usize, constant: usize) -> Vec<Which> {
     let (lent, mut constant) = ((0..lent).map(Which::Lent), (0..constant).map(Which::Constant));
     let before = match call {
         Call::NeighboursAll | Call::FacesAll | Call::Findings => 2,
-        Call::WriteFull | Call::WriteReduced | Call::Census => 1,
+        Call::WriteFull | Call::WriteReduced | Call::WriteOff | Call::WriteObj | Call::Census => 1,
         _ => 0,
     };
     let first: Vec<Which> = constant.by_ref().take(before).collect();
@@ -215,6 +217,12 @@ impl Caller for Library {
     }
     fn write_reduced(&self, table: &[u8], out: &mut [u8]) -> (u8, u64) {
         self.ask(Call::WriteReduced, NO_FIELDS, &mut [out], &[table]).value()
+    }
+    fn write_off(&self, table: &[u8], out: &mut [u8]) -> (u8, u64) {
+        self.ask(Call::WriteOff, NO_FIELDS, &mut [out], &[table]).value()
+    }
+    fn write_obj(&self, table: &[u8], out: &mut [u8]) -> (u8, u64) {
+        self.ask(Call::WriteObj, NO_FIELDS, &mut [out], &[table]).value()
     }
     fn read_full(&self, table: &mut [u8], scratch: &mut [u8], file: &[u8]) -> (u8, u64) {
         self.ask(Call::ReadFull, NO_FIELDS, &mut [table, scratch], &[file]).value()

@@ -19,6 +19,8 @@ pub trait Caller: Sync {
     fn faces_all(&self, table: &[u8], points: &[i32], answers: &mut [i32]) -> u8;
     fn write_full(&self, table: &[u8], out: &mut [u8]) -> (u8, u64);
     fn write_reduced(&self, table: &[u8], out: &mut [u8]) -> (u8, u64);
+    fn write_off(&self, table: &[u8], out: &mut [u8]) -> (u8, u64);
+    fn write_obj(&self, table: &[u8], out: &mut [u8]) -> (u8, u64);
     fn read_full(&self, table: &mut [u8], scratch: &mut [u8], file: &[u8]) -> (u8, u64);
     fn read_reduced(&self, table: &mut [u8], scratch: &mut [u8], file: &[u8]) -> (u8, u64);
     fn census(&self, input: &[u8], table: &mut [u8], scratch: &mut [u8], out: &mut [u8]) -> (u8, u64);
@@ -92,6 +94,12 @@ impl Caller for Mesher {
     fn write_reduced(&self, table: &[u8], out: &mut [u8]) -> (u8, u64) {
         told(mesher::write_reduced(table, out))
     }
+    fn write_off(&self, table: &[u8], out: &mut [u8]) -> (u8, u64) {
+        told(mesher::write_off(table, out))
+    }
+    fn write_obj(&self, table: &[u8], out: &mut [u8]) -> (u8, u64) {
+        told(mesher::write_obj(table, out))
+    }
     fn read_full(&self, table: &mut [u8], scratch: &mut [u8], file: &[u8]) -> (u8, u64) {
         told(mesher::read_full(table, scratch, file))
     }
@@ -150,6 +158,12 @@ impl Caller for Slipped {
     fn write_reduced(&self, table: &[u8], out: &mut [u8]) -> (u8, u64) {
         slips::with(self.0, || Mesher.write_reduced(table, out))
     }
+    fn write_off(&self, table: &[u8], out: &mut [u8]) -> (u8, u64) {
+        slips::with(self.0, || Mesher.write_off(table, out))
+    }
+    fn write_obj(&self, table: &[u8], out: &mut [u8]) -> (u8, u64) {
+        slips::with(self.0, || Mesher.write_obj(table, out))
+    }
     fn read_full(&self, table: &mut [u8], scratch: &mut [u8], file: &[u8]) -> (u8, u64) {
         slips::with(self.0, || Mesher.read_full(table, scratch, file))
     }
@@ -207,6 +221,12 @@ impl Caller for Plain {
     }
     fn write_reduced(&self, table: &[u8], out: &mut [u8]) -> (u8, u64) {
         plain::write_reduced(table, out)
+    }
+    fn write_off(&self, table: &[u8], out: &mut [u8]) -> (u8, u64) {
+        plain::write_off(table, out)
+    }
+    fn write_obj(&self, table: &[u8], out: &mut [u8]) -> (u8, u64) {
+        plain::write_obj(table, out)
     }
     fn read_full(&self, table: &mut [u8], scratch: &mut [u8], file: &[u8]) -> (u8, u64) {
         plain::read_full(table, scratch, file)

@@ -18,6 +18,8 @@ pub enum Case {
     FacesAll { table: Vec<u8>, points: Vec<i32>, answers: Vec<i32> },
     WriteFull { table: Vec<u8>, out: Vec<u8> },
     WriteReduced { table: Vec<u8>, out: Vec<u8> },
+    WriteOff { table: Vec<u8>, out: Vec<u8> },
+    WriteObj { table: Vec<u8>, out: Vec<u8> },
     ReadFull { table: Vec<u8>, scratch: Vec<u8>, file: Vec<u8> },
     ReadReduced { table: Vec<u8>, scratch: Vec<u8>, file: Vec<u8> },
     Census { input: Vec<u8>, table: Vec<u8>, scratch: Vec<u8>, out: Vec<u8> },
@@ -98,6 +100,8 @@ impl Case {
             Case::FacesAll { .. } => "faces_all",
             Case::WriteFull { .. } => "write_full",
             Case::WriteReduced { .. } => "write_reduced",
+            Case::WriteOff { .. } => "write_off",
+            Case::WriteObj { .. } => "write_obj",
             Case::ReadFull { .. } => "read_full",
             Case::ReadReduced { .. } => "read_reduced",
             Case::Census { .. } => "census",
@@ -152,6 +156,14 @@ impl Case {
             Case::WriteReduced { table, out } => {
                 let (mut table, mut out) = (Lent::new(table), Lent::new(out));
                 (count(caller.write_reduced(table.get(), out.get())), vec![table, out])
+            }
+            Case::WriteOff { table, out } => {
+                let (mut table, mut out) = (Lent::new(table), Lent::new(out));
+                (count(caller.write_off(table.get(), out.get())), vec![table, out])
+            }
+            Case::WriteObj { table, out } => {
+                let (mut table, mut out) = (Lent::new(table), Lent::new(out));
+                (count(caller.write_obj(table.get(), out.get())), vec![table, out])
             }
             Case::ReadFull { table, scratch, file } => {
                 let (mut table, mut scratch, mut file) = (Lent::new(table), Lent::new(scratch), Lent::new(file));
@@ -211,7 +223,10 @@ impl std::fmt::Display for Case {
             Case::NeighboursAll { table, points, answers } | Case::FacesAll { table, points, answers } => {
                 write!(f, "{:?}, room for {}, in {}", &points[..points.len().min(60)], answers.len(), shown(table))
             }
-            Case::WriteFull { table, out } | Case::WriteReduced { table, out } => {
+            Case::WriteFull { table, out }
+            | Case::WriteReduced { table, out }
+            | Case::WriteOff { table, out }
+            | Case::WriteObj { table, out } => {
                 write!(f, "{} bytes of output, {}", out.len(), shown(table))
             }
             Case::ReadFull { table, scratch, file } | Case::ReadReduced { table, scratch, file } => {

@@ -114,8 +114,9 @@ pub fn expected() -> Vec<Key> {
     let many = ["neighbours_all", "faces_all"];
     let one_of_many = ["neighbours_all, one", "faces_all, one"];
     let writers = ["write_full", "write_reduced"];
+    let viewers = ["write_off", "write_obj"];
     let readers = ["read_full", "read_reduced", "census"];
-    let of_a_table = [&[subdividing, queries, many, writers].concat()[..], &["counts"]].concat();
+    let of_a_table = [&[subdividing, queries, many, writers, viewers].concat()[..], &["counts"]].concat();
     let of_a_point = [subdividing, queries, one_of_many].concat();
     let all = [&["normalise", "star", "base"][..], &of_a_table, &one_of_many, &readers].concat();
     let not_in_order = [&FAULTS[..], &NOT_IN_ORDER].concat();
@@ -141,6 +142,9 @@ pub fn expected() -> Vec<Key> {
         keys(&["counts"], 0, &COUNTED),
         keys(&many, 13, &["too little room for the answers"]),
         keys(&["write_full", "write_reduced", "census"], 13, &["output shorter than the file"]),
+        keys(&viewers, 0, &["done, an empty table", "done, not a grown mesh"]),
+        keys(&viewers, 7, &["an adjacent is absent", "a corner with no opposite"]),
+        keys(&viewers, 13, &["output shorter than the file"]),
         keys(&readers, 1, &["length doesn't fit", "scratch of another length"]),
         keys(&readers, 9, &bad_lines),
         keys(&readers, 10, &["not above the line before"]),

@@ -3,9 +3,11 @@
 use crate::case::Case;
 use crate::makers::*;
 use crate::rng::Rng;
+use mesher::mesh::Mesh;
 use mesher::record::Record;
 use mesher::slots::{Slots, SLOT};
 use mesher::spot::Point;
+use mesher::viewer::Format;
 
 /// How many meshes are kept at hand.
 const POOL: usize = 24;
@@ -165,6 +167,27 @@ impl Cases {
         }
     }
 
+    fn view(&mut self, format: Format) -> Case {
+        let (mut table, _) = self.table();
+        if self.rng.once_in(20) {
+            table.fill(255);
+        }
+        let mesh = Slots::of(&table).map(|slots| Mesh::of(slots.records())).unwrap_or_default();
+        let text = mesher::viewer::file(&mesh, format).map_or(0, |text| text.len());
+        let rng = &mut self.rng;
+        let len = match rng.below(6) {
+            0 => text.saturating_sub(1),
+            1 => rng.below(text + 1),
+            2 => text,
+            _ => text + rng.below(40),
+        };
+        let out = self.garbage(len);
+        match format {
+            Format::Off => Case::WriteOff { table, out },
+            Format::Obj => Case::WriteObj { table, out },
+        }
+    }
+
     fn subdivide_all(&mut self) -> Case {
         let (table, records) = self.table();
         let rng = &mut self.rng;
@@ -295,7 +318,7 @@ impl Iterator for Cases {
             let i = self.rng.below(POOL);
             self.pool[i] = grown(&mut self.rng, most);
         }
-        Some(match self.rng.below(120) {
+        Some(match self.rng.below(132) {
             0..=2 => {
                 let (p, m) = request(&mut self.rng, &self.pool[0], false);
                 Case::Normalise(p, m)
@@ -340,7 +363,9 @@ impl Iterator for Cases {
             }
             96..=99 => self.census(),
             100..=111 => self.bring(),
-            _ => self.findings(),
+            112..=119 => self.findings(),
+            120..=125 => self.view(Format::Off),
+            _ => self.view(Format::Obj),
         })
     }
 }

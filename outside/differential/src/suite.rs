@@ -11,6 +11,7 @@ pub use crate::findings::*;
 use crate::makers::*;
 use crate::random::Cases;
 use crate::rng::Rng;
+pub use crate::viewer::*;
 use mesher::mesh::base as base_records;
 use mesher::record::Record;
 use mesher::slots::SLOT;
@@ -215,6 +216,7 @@ pub fn single_bytes(caller: &dyn Caller) {
             let points = vec![point.0[0], point.0[1], point.1 as i32, 1, 0, 0];
             same(caller, &Case::FacesAll { table: table.clone(), points, answers: vec![3; 41] });
             same(caller, &Case::Counts { table: table.clone() });
+            same(caller, &Case::WriteOff { table: table.clone(), out: vec![3; 1_200] });
             same(caller, &Case::WriteReduced { table, out: vec![3; 400] });
         }
     }
@@ -330,6 +332,8 @@ pub fn large_meshes(caller: &dyn Caller) {
         assert_eq!(same(caller, &Case::Counts { table: table.clone() }), 0);
         let rent = torn(&mut rng, &list);
         assert_eq!(same(caller, &Case::Counts { table: laid(&mut rng, &rent, rent.len() + 9) }), 0);
+        assert_eq!(same(caller, &Case::WriteOff { table: table.clone(), out: vec![5; 55 * slots] }), 0);
+        assert_eq!(same(caller, &Case::WriteObj { table: table.clone(), out: vec![5; 55 * slots] }), 0);
         let mut out = vec![5; 26 * slots];
         same(caller, &Case::WriteFull { table: table.clone(), out: out.clone() });
         same(caller, &Case::WriteReduced { table: table.clone(), out: out.clone() });
@@ -402,6 +406,8 @@ pub fn small_stack(caller: &dyn Caller) {
     let run = |case: Case| on_small_stack(caller, &case);
     let based = run(Case::Base { table: blank.clone(), centres: flat(&disc(20_000)) });
     assert_eq!(based.number, 0);
+    assert_eq!(run(Case::WriteOff { table: based.lent[0].clone(), out: vec![0; 55 * slots] }).number, 0);
+    assert_eq!(run(Case::WriteObj { table: based.lent[0].clone(), out: vec![0; 55 * slots] }).number, 0);
     let sixes = stored(&based.lent[0]).into_iter().filter(|r| r.d == 6).flat_map(|r| [r.a, r.b, r.m as i32]).collect();
     let grown = run(Case::SubdivideAll { table: based.lent[0].clone(), points: sixes });
     assert_eq!(grown.number, 8);
@@ -444,6 +450,8 @@ macro_rules! suite {
         $crate::suite!($caller; nearly_grown_files, deep_meshes, large_meshes, crowded_tables, small_stack);
         $crate::suite!($caller; edges_at_the_rim, edges_of_edited_tables, edges_of_scattered_stars);
         $crate::suite!($caller; bring_refusals_in_order, bring_every_vertex, bring_deepest);
+        $crate::suite!($caller; viewer_refusals_in_order, viewer_every_length, viewer_widths, viewer_coordinates, viewer_read_back);
+        $crate::suite!($caller; viewer_of_edited_tables, viewer_of_scattered_stars);
         $crate::suite!($caller; findings_malformed, findings_done, findings_refusals_in_order, findings_bytes, fuzzed_findings, long_findings);
     };
 }

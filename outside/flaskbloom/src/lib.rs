@@ -348,6 +348,31 @@ impl Table {
         self.write(slices::write_reduced)
     }
 
+    /// The OFF file, for a viewer: refused with 7 where some vertex's faces are.
+    pub fn write_off(&self) -> Result<Vec<u8>, Refusal> {
+        self.view(slices::write_off)
+    }
+
+    /// The OBJ file, the same.
+    pub fn write_obj(&self) -> Result<Vec<u8>, Refusal> {
+        self.view(slices::write_obj)
+    }
+
+    /// A viewer's file: 29 bytes a vertex, 26 a face and 25 suffice. A grown mesh has fewer faces than vertices; no table has more than six a
+    /// vertex.
+    fn view(&self, call: fn(&[u8], &mut [u8]) -> (u8, u64)) -> Result<Vec<u8>, Refusal> {
+        let room = |faces: usize| vec![0; (29 + 26 * faces) * self.slots() + 25];
+        let mut out = room(1);
+        let (mut number, mut written) = call(&self.bytes, &mut out);
+        if Refusal::of(number) == Err(Refusal::OutputShort) {
+            out = room(6);
+            (number, written) = call(&self.bytes, &mut out);
+        }
+        Refusal::of(number)?;
+        out.truncate(written as usize);
+        Ok(out)
+    }
+
     /// A list of findings joined with this mesh: those at a vertex, in file order, then those whose point has none. Refused, it says which
     /// line; never for want of room, since the joined list is no longer than the list.
     pub fn findings(&self, list: &[u8]) -> Result<Vec<u8>, RefusedAt> {

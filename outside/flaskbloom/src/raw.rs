@@ -53,4 +53,6 @@ extern "C" {
         line: *mut u64,
         written: *mut u64,
     ) -> u8;
+    pub fn fb_write_off(table: *const u8, table_len: usize, out: *mut u8, out_len: usize, written: *mut u64) -> u8;
+    pub fn fb_write_obj(table: *const u8, table_len: usize, out: *mut u8, out_len: usize, written: *mut u64) -> u8;
 }

@@ -70,6 +70,16 @@ pub fn write_reduced(table: &[u8], out: &mut [u8]) -> (u8, u64) {
     (unsafe { raw::fb_write_reduced(table.as_ptr(), table.len(), out.as_mut_ptr(), out.len(), &mut written) }, written)
 }
 
+pub fn write_off(table: &[u8], out: &mut [u8]) -> (u8, u64) {
+    let mut written = UNSET;
+    (unsafe { raw::fb_write_off(table.as_ptr(), table.len(), out.as_mut_ptr(), out.len(), &mut written) }, written)
+}
+
+pub fn write_obj(table: &[u8], out: &mut [u8]) -> (u8, u64) {
+    let mut written = UNSET;
+    (unsafe { raw::fb_write_obj(table.as_ptr(), table.len(), out.as_mut_ptr(), out.len(), &mut written) }, written)
+}
+
 pub fn read_full(table: &mut [u8], scratch: &mut [u8], file: &[u8]) -> (u8, u64) {
     let mut line = UNSET;
     let (t, s) = (table.as_mut_ptr(), scratch.as_mut_ptr());

@@ -100,6 +100,23 @@ fn files_there_and_back() {
 }
 
 #[test]
+fn files_for_a_viewer() {
+    let lone = Table::base(16, &[[0, 0]]).unwrap();
+    let off = String::from_utf8(lone.write_off().unwrap()).unwrap();
+    assert!(off.starts_with("OFF\n7 3 9\n-1.0000 0.0000 0.0000\n-0.5000 0.8660 0.0000\n"), "{off}");
+    assert!(off.ends_with("\n1.0000 0.0000 0.0000\n4 0 2 3 1\n4 1 3 6 4\n4 2 5 6 3\n"), "{off}");
+    let obj = String::from_utf8(lone.write_obj().unwrap()).unwrap();
+    assert!(obj.starts_with("v -1.0000 0.0000 0.0000\n") && obj.ends_with("\nf 1 3 4 2\nf 2 4 7 5\nf 3 6 7 4\n"), "{obj}");
+    assert!(three().write_off().unwrap().starts_with(b"OFF\n16 9 24\n"));
+    let empty = Table::from_bytes(vec![255; 192]);
+    assert_eq!((empty.write_off(), empty.write_obj()), (Ok(b"OFF\n0 0 0\n".to_vec()), Ok(Vec::new())));
+    assert_eq!(Table::from_bytes(vec![1; 192]).write_off(), Err(Refusal::NotInOrder));
+    let mut torn = vec![255; 192];
+    torn[..12].copy_from_slice(&[0, 0, 0, 0, 0, 0, 0, 0, 0, 3, 0, 0]);
+    assert_eq!(Table::from_bytes(torn).write_obj(), Err(Refusal::Torn));
+}
+
+#[test]
 fn bases_refused() {
     assert_eq!(Table::base(16, &[[0, 0], [1, 0]]), Err(RefusedAt { refusal: Refusal::BadCentre, at: 1 }));
     assert_eq!(Table::base(15, &[[0, 0]]), Err(RefusedAt { refusal: Refusal::NotInOrder, at: 0 }));

@@ -57,7 +57,7 @@ fn header() -> Vec<(String, Vec<String>)> {
 #[test]
 fn raw_is_the_header() {
     let raw = include_str!("../src/raw.rs");
-    assert_eq!(header().len(), 17);
+    assert_eq!(header().len(), 19);
     assert_eq!(functions(raw.split_once("extern").expect("the block").1, ";"), header());
 }
 

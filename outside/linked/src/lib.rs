@@ -42,6 +42,12 @@ impl Caller for Library {
     fn write_reduced(&self, table: &[u8], out: &mut [u8]) -> (u8, u64) {
         slices::write_reduced(table, out)
     }
+    fn write_off(&self, table: &[u8], out: &mut [u8]) -> (u8, u64) {
+        slices::write_off(table, out)
+    }
+    fn write_obj(&self, table: &[u8], out: &mut [u8]) -> (u8, u64) {
+        slices::write_obj(table, out)
+    }
     fn read_full(&self, table: &mut [u8], scratch: &mut [u8], file: &[u8]) -> (u8, u64) {
         slices::read_full(table, scratch, file)
     }

@@ -1,7 +1,6 @@
 //! The documents' calls, with every answer and every lent byte; the C interface's names without `fb_`.
 //!
-//! An `Answer` has the number, why in words ("done" for 0), and the value: points, place, line, bytes written, or counts.
-//! An `Answer` has the number, why in words ("done" for 0), and the value: points, place, line, bytes written, or line and bytes.
+//! An `Answer` has the number, why in words ("done" for 0), and the value: points, place, line, bytes written, line and bytes, or counts.
 
 use crate::lines;
 use crate::mesh::{bad_centre, base as base_records, Mesh, Refused};
@@ -9,6 +8,7 @@ use crate::record::Record;
 use crate::slips::{made, Slip};
 use crate::slots::{length_fits, Slots, SLOT};
 use crate::spot::{Point, Spot};
+use crate::viewer::{self, Format};
 
 #[derive(Clone, Copy, Debug, PartialEq, Eq)]
 pub struct Answer<T> {
@@ -298,6 +298,32 @@ pub fn write_full(table: &[u8], out: &mut [u8]) -> Answer<u64> {
 
 pub fn write_reduced(table: &[u8], out: &mut [u8]) -> Answer<u64> {
     write(table, out, lines::reduced)
+}
+
+/// A viewer's file: the bytes written.
+fn view(table: &[u8], out: &mut [u8], format: Format) -> Answer<u64> {
+    let mesh = match opened(table) {
+        Ok((_, mesh)) => mesh,
+        Err(Refused(number, why)) => return refused(number, why, 0),
+    };
+    let text = match viewer::file(&mesh, format) {
+        Ok(text) => text,
+        Err(_) if made(Slip::RoomBeforeTorn) && out.is_empty() => return put(out, b"."),
+        Err(Refused(number, why)) => return refused(number, why, 0),
+    };
+    let written = put(out, text.as_bytes());
+    match written.number {
+        0 => Answer { why: what_was_counted(&mesh), ..written },
+        _ => written,
+    }
+}
+
+pub fn write_off(table: &[u8], out: &mut [u8]) -> Answer<u64> {
+    view(table, out, Format::Off)
+}
+
+pub fn write_obj(table: &[u8], out: &mut [u8]) -> Answer<u64> {
+    view(table, out, Format::Obj)
 }
 
 /// A reader's refusal: the number, why, and the line.

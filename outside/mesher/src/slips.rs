@@ -81,9 +81,21 @@ pub enum Slip {
     LevelTwelveFirst,
     BringScratchLeft,
     BringNotUndone,
+    EdgesBeforeFaces,
+    ObjFromZero,
+    FacesAsText,
+    FacesClockwise,
+    FaceSorted,
+    FaceFromItsVertex,
+    RoundedDown,
+    SignedZero,
+    NumbersByA,
+    HeadByStars,
+    TornLeftOut,
+    RoomBeforeTorn,
 }
 
-pub const ALL: [Slip; 76] = [
+pub const ALL: [Slip; 88] = [
     Slip::FartherOpposite,
     Slip::PlusFourTwice,
     Slip::NewNotNormalised,
@@ -160,6 +172,18 @@ pub const ALL: [Slip; 76] = [
     Slip::LevelTwelveFirst,
     Slip::BringScratchLeft,
     Slip::BringNotUndone,
+    Slip::EdgesBeforeFaces,
+    Slip::ObjFromZero,
+    Slip::FacesAsText,
+    Slip::FacesClockwise,
+    Slip::FaceSorted,
+    Slip::FaceFromItsVertex,
+    Slip::RoundedDown,
+    Slip::SignedZero,
+    Slip::NumbersByA,
+    Slip::HeadByStars,
+    Slip::TornLeftOut,
+    Slip::RoomBeforeTorn,
 ];
 
 thread_local! {

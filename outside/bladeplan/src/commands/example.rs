@@ -12,7 +12,8 @@ pub const COMMAND: Command = Command {
     about: "do the whole job on a small blade, and show where the results are",
     help: "\
 Writes the hexagons, points and findings of a small blade into DIRECTORY (bladeplan-example where none is given), which is made if need be,
-and there lays, subdivides, reduces, counts, compares and draws it, and joins its findings. Each command is shown as it would be typed.
+and there lays, subdivides, reduces, counts, compares and draws it, joins its findings, and writes it for a viewer. Each command is shown as
+it would be typed.
 
 example:
   bladeplan example blade
@@ -31,7 +32,7 @@ const INPUTS: [(&str, &str); 3] = [
     ("findings.txt", include_str!("../../../../examples/findings.txt")),
 ];
 
-const STEPS: [&[&str]; 8] = [
+const STEPS: [&[&str]; 9] = [
     &["lay", "hexagons.txt", "-o", "base.full"],
     &["subdivide", "base.full", "--list", "points.txt", "-o", "plan.full"],
     &["reduce", "plan.full", "-o", "plan.reduced"],
@@ -40,6 +41,7 @@ const STEPS: [&[&str]; 8] = [
     &["findings", "plan.full", "findings.txt", "-o", "joined.txt"],
     &["draw", "plan.full", "--findings", "findings.txt", "--over", "base.full", "--title", TITLE, "-o", "plan.svg"],
     &["draw", "plan.full", "--findings", "findings.txt", "--over", "base.full", "--title", TITLE, "--html", "-o", "plan.html"],
+    &["off", "plan.full", "-o", "plan.off"],
 ];
 
 const TITLE: &str = "A small blade";
@@ -54,6 +56,7 @@ const RESULTS: &str = "
   joined.txt     the findings vertex by vertex, then the one that has none
   plan.svg       its drawing, to print at A4
   plan.html      its drawing, to open in a browser
+  plan.off       the same plan for a viewer
 ";
 
 fn run(words: &Words) -> Outcome<()> {

@@ -10,6 +10,7 @@ mod lay;
 mod queries;
 mod refine;
 mod subdivide;
+mod viewer;
 
 use crate::draw;
 use crate::words::Command;
@@ -29,5 +30,7 @@ pub const ALL: &[&Command] = &[
     &compare::COMMAND,
     &findings::COMMAND,
     &draw::COMMAND,
+    &viewer::OFF,
+    &viewer::OBJ,
     &example::COMMAND,
 ];

@@ -12,7 +12,7 @@ pub const BLADEPLAN: &str = env!("CARGO_BIN_EXE_bladeplan");
 /// Three hexagons round the point 1,0.
 pub const THREE: &str = "0\t0\n1\t1\n2\t-1\n";
 
-pub const COMMANDS: [&str; 15] = [
+pub const COMMANDS: [&str; 17] = [
     "lay",
     "subdivide",
     "refine",
@@ -27,6 +27,8 @@ pub const COMMANDS: [&str; 15] = [
     "compare",
     "findings",
     "draw",
+    "off",
+    "obj",
     "example",
 ];
 

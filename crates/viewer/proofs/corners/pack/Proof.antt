@@ -1,0 +1,21 @@
+-- `viewer::corners::pack` meets its promise. Assumes nothing.
+use borrow.Author.Needs.{needs}
+use Rattle.viewer.specs.Packed.{packed}
+use Rattle.viewer.proofs.corners.pack.Statement.{statement}
+use Rattle.viewer.proofs.corners.pack.Tie as tie
+
+returns : tie.Need-returns
+unfolding packed
+returns c = search needs
+
+pub pack-spec : {M : Type 1} → statement M
+pack-spec =
+    tie.close
+    (tie.spec
+    (λ c. search needs)
+    (λ c. search needs)
+    (λ c. search needs)
+    (λ c. search needs)
+    (λ c. search needs)
+    (λ c. search needs)
+    returns)

@@ -1,0 +1,69 @@
+-- `viewer::faces::face_key` meets its promise: the four numbers, turned, in one. Assumes nothing.
+use mathlib.Core.Path.{_≡_, sym, _∙_, ap, subst}
+use mathlib.Core.List.{List}
+use Prim.Native.Nat.{ℕ}
+use borrow.Author.Needs.{needs}
+use Rattle.table.specs.Order.{InOrder}
+use Rattle.viewer.specs.Viewer.{corners, leastFirst, leastOf}
+use Rattle.viewer.specs.Packed.{packed, Small}
+use Rattle.viewer.specs.Ranks.{Stand, held-close}
+use Rattle.viewer.specs.Lines.{face-small}
+use Rattle.viewer.proofs.keys.face_key.Statement.{statement}
+use Rattle.viewer.proofs.keys.face_key.Tie as tie
+
+number-among-requires : tie.Need-number-among-requires
+number-among-requires c κs =
+    let p = c .before .pre in
+    (held-close (p .0) (p .1 .0) _ (p .1 .1 .1 .at), (p .0, (p .1 .0, p .1 .1 .0)))
+
+number-among-requires-2 : tie.Need-number-among-requires-2
+number-among-requires-2 c κs =
+    let p = c .before .before .pre in
+    (held-close (p .0) (p .1 .0) _ (p .1 .1 .1 .adjacent), (p .0, (p .1 .0, p .1 .1 .0)))
+
+number-among-requires-3 : tie.Need-number-among-requires-3
+number-among-requires-3 c κs =
+    let p = c .before .before .before .pre in
+    (held-close (p .0) (p .1 .0) _ (p .1 .1 .1 .opposite), (p .0, (p .1 .0, p .1 .1 .0)))
+
+number-among-requires-4 : tie.Need-number-among-requires-4
+number-among-requires-4 c κs =
+    let p = c .before .before .before .before .pre in
+    (held-close (p .0) (p .1 .0) _ (p .1 .1 .1 .next), (p .0, (p .1 .0, p .1 .1 .0)))
+
+-- the four numbers, turned
+module _ (c : tie.After-least-first) where
+  abbrev d : tie.After-number-among4
+  d = c .before
+
+  abbrev s : tie.Start
+  s = d .before .before .before .before .before
+
+  turned : (t : List ℕ) → InOrder t → Stand t (s .args .out .now) (s .args .k) → c .least-first .result ≡ leastOf t (s .args .f)
+  turned t o w =
+      c .least-first .ensures
+      ∙ (λ i. leastFirst (corners
+      (d .before .before .before .number-among .ensures t o w i)
+      (d .before .before .number-among2 .ensures t o w i)
+      (d .before .number-among3 .ensures t o w i)
+      (d .number-among4 .ensures t o w i)))
+
+pack-requires : tie.Need-pack-requires
+pack-requires c κs =
+    let p = s c .pre in
+    subst Small (sym (turned c (p .0) (p .1 .0) (p .1 .1 .0))) (face-small (p .0) (p .1 .0) (s c .args .f) (p .1 .1 .1))
+
+returns : tie.Need-returns
+returns c t o w f = c .pack .ensures ∙ ap packed (turned (c .before) t o w)
+
+pub face-key-spec : {M : Type 1} → statement M
+face-key-spec =
+    tie.close
+    (tie.spec
+    number-among-requires
+    number-among-requires-2
+    number-among-requires-3
+    number-among-requires-4
+    (λ c κs. search needs)
+    pack-requires
+    returns)

@@ -1,0 +1,155 @@
+-- Document 02, ticket 5: "OFF files for the viewer", and OBJ files. What the promises cite: `writeOffOf`, `writeObjOf`, which
+-- are `viewOf` at `offStyle` and at `objStyle`.
+-- What the two formats share is said once, over a `Style`: a head or none, `v` before a vertex or nothing, what stands before a face, the first number.
+-- `numberOf` a vertex's number · `meshFaces` each face once, `cornersOf` its four numbers, `leastFirst` turned, `faceCorners` all in their order ·
+-- `headText`, `vertexText`, `faceText` the lines · `viewerFile` the file · `tornAt` a vertex whose faces query is torn · `viewOf` what the call does.
+-- Assumes nothing.
+use mathlib.Core.Bool.{Bool, true, false, cond, not, _&&_, _||_}
+use mathlib.Core.List.{List, [], _∷_, _++_, map}
+use Prim.Native.Nat.{ℕ, zero, suc, _+_}
+use lib.Dec.{eqb, ltb, leb}
+use Rattle.laws.specs.Choices.{unless}
+use Rattle.laws.specs.Some.{someOf}
+use Rattle.lattice.specs.declared.points.Point.{Point}
+use Rattle.lattice.specs.declared.records.Record.{Record}
+use Rattle.table.specs.Order.{inOrderOf}
+use Rattle.table.specs.Entries.{recordsOf}
+use Rattle.queries.specs.Queries.{adjacentsThere, cornersThere}
+use Rattle.counts.specs.Counts.{bit, each, facesAt, sameFace, countsOf}
+use Rattle.counts.specs.declared.Counts.{Counts}
+use Rattle.counts.specs.declared.faces.Face.{Face}
+use Rattle.text.specs.Decimal.{digits, ended, feed}
+use Rattle.text.specs.LineOrder.{earlier}
+use Rattle.sorting.specs.Sorting.{sortBy}
+use Rattle.writers.specs.Files.{sorted, OutputAfter, outputAfter, putOf}
+use Rattle.coordinates.specs.Coordinates.{blank, positionText}
+use Rattle.viewer.specs.declared.styles.Style.{Style}
+use Rattle.viewer.specs.declared.corners.Corners.{Corners}
+
+-- ---- the two formats
+
+-- the bytes of `4`, `f` and `v`, and of the word `OFF`
+abbrev pub digit4 : ℕ
+digit4 = 52
+
+abbrev pub letterF : ℕ
+letterF = 102
+
+abbrev pub letterV : ℕ
+letterV = 118
+
+abbrev pub wordOff : List ℕ
+wordOff = 79 ∷ 70 ∷ 70 ∷ []
+
+-- "`OFF`, the counts ..", "each face as 4 and four vertex numbers", "Numbers run from 0"
+abbrev pub offStyle : Style
+offStyle = record { head = true; marked = false; face = digit4; first = 0 }
+
+-- "OBJ has the same lines with `v` before the coordinates and `f` for the 4, no head, numbers from 1"
+abbrev pub objStyle : Style
+objStyle = record { head = false; marked = true; face = letterF; first = 1 }
+
+-- ---- numbers
+
+-- how many elements of a list pass a test
+unfoldable pub howMany : {A : Type 0} → (A → Bool) → List A → ℕ
+howMany test [] = 0
+howMany test (x ∷ xs) = bit (test x) + howMany test xs
+
+-- "Numbers run from 0 in full-file order": how many vertices come earlier in the full file
+abbrev pub numberOf : List ℕ → Point → ℕ
+numberOf t p = howMany (λ r. earlier (r .at) p) (recordsOf t)
+
+-- ---- faces
+
+-- those of a list with no same one before them; `seen` are the ones before
+unfoldable pub onceAfter : {A : Type 0} → (A → A → Bool) → List A → List A → List A
+onceAfter same seen [] = []
+onceAfter same seen (x ∷ xs) = cond (someOf (same x) seen) [] (x ∷ []) ++ onceAfter same (seen ++ x ∷ []) xs
+
+-- "each face": the different faces of the vertices, as the census counts them
+abbrev pub meshFaces : List ℕ → List Face
+meshFaces t = onceAfter sameFace [] (each (facesAt t) (recordsOf t))
+
+abbrev pub corners : ℕ → ℕ → ℕ → ℕ → Corners
+corners a b c d = record { a = a; b = b; c = c; d = d }
+
+-- "four vertex numbers counter-clockwise": in the face's own order round, which is that of document 01's patterns, "in counter-clockwise order"
+abbrev pub cornersOf : List ℕ → Face → Corners
+cornersOf t f = corners (numberOf t (f .at)) (numberOf t (f .adjacent)) (numberOf t (f .opposite)) (numberOf t (f .next))
+
+-- the same from the next one on
+abbrev pub nextFirst : Corners → Corners
+nextFirst q = corners (q .b) (q .c) (q .d) (q .a)
+
+abbrev pub isLeast : Corners → Bool
+isLeast q = leb (q .a) (q .b) && (leb (q .a) (q .c) && leb (q .a) (q .d))
+
+-- "smallest first"
+unfoldable pub leastFirst : Corners → Corners
+leastFirst q =
+    cond (isLeast q) q
+    (cond (isLeast (nextFirst q)) (nextFirst q) (cond (isLeast (nextFirst (nextFirst q))) (nextFirst (nextFirst q)) (nextFirst (nextFirst (nextFirst q)))))
+
+-- "faces rise by their numbers": by the first, then the second, the third, the fourth
+unfoldable pub rises : Corners → Corners → Bool
+rises q r =
+    ltb (q .a) (r .a)
+    || (eqb (q .a) (r .a)
+    && (ltb (q .b) (r .b) || (eqb (q .b) (r .b) && (ltb (q .c) (r .c) || (eqb (q .c) (r .c) && ltb (q .d) (r .d))))))
+
+abbrev pub leastOf : List ℕ → Face → Corners
+leastOf t f = leastFirst (cornersOf t f)
+
+abbrev pub faceCorners : List ℕ → List Corners
+faceCorners t = sortBy rises (map (leastOf t) (meshFaces t))
+
+-- ---- lines
+
+-- "a line each with blanks between, `OFF`, the counts of vertices, faces and edges"
+unfoldable pub headText : Style → Counts → List ℕ
+headText s c =
+    cond (s .head)
+    (ended wordOff feed ++ ended (digits (c .vertices)) blank ++ ended (digits (c .faces)) blank ++ ended (digits (c .edges)) feed) []
+
+abbrev pub vertexMark : Style → List ℕ
+vertexMark s = cond (s .marked) (letterV ∷ blank ∷ []) []
+
+-- "each vertex as x, y and 0.0000"
+unfoldable pub vertexText : Style → Record → List ℕ
+vertexText s r = vertexMark s ++ positionText (r .at)
+
+-- "each face as 4 and four vertex numbers"
+unfoldable pub faceText : Style → Corners → List ℕ
+faceText s q =
+    (s .face ∷ blank ∷ [])
+    ++ (ended (digits (s .first + q .a)) blank
+    ++ (ended (digits (s .first + q .b)) blank ++ (ended (digits (s .first + q .c)) blank ++ ended (digits (s .first + q .d)) feed)))
+
+-- the lines of several
+unfoldable pub texts : {A : Type 0} → (A → List ℕ) → List A → List ℕ
+texts text [] = []
+texts text (x ∷ xs) = text x ++ texts text xs
+
+-- "then each vertex .., then each face"
+unfoldable pub viewerFile : Style → List ℕ → List ℕ
+viewerFile s t = headText s (countsOf t) ++ (texts (vertexText s) (sorted (recordsOf t)) ++ texts (faceText s) (faceCorners t))
+
+-- ---- the call
+
+-- the faces query at a vertex is torn: an adjacent is absent, or a corner has no opposite in the table; a boundary vertex has neither
+abbrev pub tornAt : List ℕ → Record → Bool
+tornAt t r = not (adjacentsThere t r && cornersThere t r)
+
+unfoldable pub tornOf : List ℕ → Bool
+tornOf t = someOf (tornAt t) (recordsOf t)
+
+-- "Refusals: 1, 7, 13."
+unfoldable pub viewOf : Style → List ℕ → List ℕ → OutputAfter
+viewOf s t out = unless (inOrderOf t) (outputAfter 1 0 out) (unless (not (tornOf t)) (outputAfter 7 0 out) (putOf (viewerFile s t) out))
+
+abbrev pub writeOffOf : List ℕ → List ℕ → OutputAfter
+writeOffOf t out = viewOf offStyle t out
+
+abbrev pub writeObjOf : List ℕ → List ℕ → OutputAfter
+writeObjOf t out = viewOf objStyle t out
