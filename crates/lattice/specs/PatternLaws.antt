@@ -1,17 +1,18 @@
 -- The laws of orientations and pattern points, each over degree and orientation, by one test over the table.
--- `orient-split` an orientation by turns · `hex-orient`, `orient-depth` how far and how deep ·
+-- `orient-split` an orientation by turns · `hex-orient`, `orient-depth` how far and how deep · `Zero`, `orient-zero` only 0 is turned to 0 ·
 -- `adjacent-close`, `first-close`, `second-close` the bounds of the pattern points ·
 -- `adjacent-near`, `first-near`, `second-near` the same at any orientation and level.
 -- Assumes nothing.
 use mathlib.Core.Path.{_≡_, refl, ap, subst}
 use Prim.Native.Nat.{ℕ, zero, suc, _+_, _%_, _/_, _≤_, _<_}
 use native.Mathlib.Omega.{arith}
-use lib.IntN.{_+ℤ_, natAbs}
-use Rattle.laws.specs.Rules.{Test, _≤?_, _&_, Means, _⇒_, rule2}
+use lib.IntN.{pos, _+ℤ_, natAbs}
+use Rattle.laws.specs.Linear.{same, told-≡, ‵, _⊕_, _⊝_, ⊟, _⊗_}
+use Rattle.laws.specs.Rules.{Test, _≤?_, _≡?_, _≡ᶻ?_, _&_, Means, _⇒_, rule2}
 use Rattle.lattice.specs.declared.patterns.Spot.the-variants.{At, Nothing}
 use Rattle.lattice.specs.Patterns.{orient, Row, three, four, five, six, rowsOf, patternOf, onSpot, adjacentOf, firstOppositeOf, secondOppositeOf}
 use Rattle.lattice.specs.Bounds.{Hex, hex-turn60, hex-turn30, Near}
-use Rattle.lattice.specs.Points.{turn60Of, turns}
+use Rattle.lattice.specs.Points.{turn60Of, turn30Of, turns}
 use Rattle.lattice.specs.declared.points.Point.{Point}
 use Rattle.lattice.specs.declared.records.Level.{Level}
 use Rattle.lattice.specs.declared.patterns.Spot.{Spot}
@@ -40,9 +41,38 @@ orient-depth zero p = omega arith
 orient-depth (suc zero) p = refl
 orient-depth (suc (suc k)) p = let e = orient-depth k p in omega arith
 
--- ---- the pattern points lie near, at every degree and place
+-- both numerators are 0
+abbrev pub Zero : Point → Type 0
+Zero p = (p .a ≡ pos 0) × (p .b ≡ pos 0)
+
+turn60-zero : (p : Point) → Zero (turn60Of p) → Zero p
+turn60-zero p z =
+    let a = ‵ (p .a) in
+    let b = ‵ (p .b) in
+    let o = ‵ (pos 0) in
+    let x = told-≡ (⊟ b) o (z .0) in
+    let y = told-≡ (a ⊕ b) o (z .1) in
+    (same a o (omega arith), same b o (omega arith))
+
+turn30-zero : (p : Point) → Zero (turn30Of p) → Zero p
+turn30-zero p z =
+    let a = ‵ (p .a) in
+    let b = ‵ (p .b) in
+    let o = ‵ (pos 0) in
+    let x = told-≡ (a ⊝ b) o (z .0) in
+    let y = told-≡ (a ⊕ 2 ⊗ b) o (z .1) in
+    (same a o (omega arith), same b o (omega arith))
+
+pub orient-zero : (k : ℕ) (p : Point) → Zero (orient k p) → Zero p
+unfolding orient
+orient-zero zero p z = z
+orient-zero (suc zero) p z = turn30-zero p z
+orient-zero (suc (suc k)) p z = orient-zero k p (turn60-zero (orient k p) z)
+
+-- ---- the pattern points lie near, and not at 0, at every degree and place
 abbrev nearTest : Point → Test
-nearTest p = natAbs (p .a) ≤? 4 & natAbs (p .b) ≤? 4 & natAbs (p .a +ℤ p .b) ≤? 4 & p .m .0 ≤? 1
+nearTest p =
+    natAbs (p .a) ≤? 4 & natAbs (p .b) ≤? 4 & natAbs (p .a +ℤ p .b) ≤? 4 & p .m .0 ≤? 1 & (p .a ≡ᶻ? pos 0 & p .b ≡ᶻ? pos 0 ⇒ 1 ≡? 0)
 
 abbrev nearSpot : Spot → Test
 nearSpot (At p) = nearTest p
@@ -55,9 +85,11 @@ nearRow r = nearTest (r .adjacent) & nearTest (r .first) & nearSpot (r .second)
 pub record Close (p : Point) : Type 0 where
   pub hex : Hex 4 p
   pub depth : p .m .0 ≤ 1
+  pub away : Zero p → ⊥
 
 close : (p : Point) → Means (nearTest p) → Close p
-close p r = record { hex = record { a = r .0; b = r .1 .0; c = r .1 .1 .0 }; depth = r .1 .1 .1 }
+close p r =
+    record { hex = record { a = r .0; b = r .1 .0; c = r .1 .1 .0 }; depth = r .1 .1 .1 .0; away = λ z. let e = r .1 .1 .1 .1 z in omega (arith, e) }
 
 row-near : (d j : ℕ) → 3 ≤ d → d ≤ 6 → j < d → Means (nearRow (patternOf d j))
 unfolding patternOf rowsOf three four five six

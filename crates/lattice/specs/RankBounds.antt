@@ -7,7 +7,7 @@ use mathlib.Core.Bool.{Bool, true, false, cond}
 use Prim.Native.Nat.{ℕ, _+_, _*_, _%_, _/_, _≤_, _<_, _-_, max}
 use native.Mathlib.Omega.{arith}
 use native.Mathlib.Decide.{ℕ-discrete}
-use lib.Dec.{eqb, lit≤}
+use lib.Dec.{eqb, lit≤, lit<}
 use borrow.Author.Tests.{eq-eqb, ne-eqb}
 use lib.IntN.{pos}
 use Rattle.laws.specs.Rules.{rule}
@@ -20,7 +20,7 @@ use Rattle.lattice.specs.Patterns.{three, four, five, six, rowsOf, patte
 use Rattle.lattice.specs.Places.{sum-depth}
 use Rattle.lattice.specs.Bounds.{Near}
 use Rattle.lattice.specs.Points.{pt}
-use Rattle.lattice.specs.PatternLaws.{orient-depth, close-near}
+use Rattle.lattice.specs.PatternLaws.{orient-depth, adjacent-close, close-near}
 use Rattle.lattice.specs.declared.points.Point.{Point}
 
 -- the cases of the two definitions, by depth and class
@@ -89,7 +89,8 @@ unfolding orient patternOf rowsOf three four five six
 move-place e h = alike-eq _ _ (rule 12 (λ e. alike (adjacentOf 6 (e % 2) (e / 2)) (orient e unit)) tt e h)
 
 pub move-near : (e i : ℕ) → e % 2 ≡ i % 2 → i ≤ 12 → Near (level i) (orient e unit)
-move-near e i h l = close-near e (level i) (record { hex = record { a = lit≤ tt; b = lit≤ tt; c = lit≤ tt }; depth = lit≤ tt }) h l
+unfolding patternOf rowsOf six
+move-near e i h l = close-near e (level i) (adjacent-close 6 0 (lit≤ tt) (lit≤ tt) (lit< tt)) h l
 
 -- a step of level i ends no deeper than its start, or than half of i rounded up
 pub move-depth : (p : Point) (e i : ℕ) → e % 2 ≡ i % 2 → moveOf p e i .m .0 ≤ max (p .m .0) ((i + 1) / 2)

@@ -1,13 +1,13 @@
-// The star patterns at orientation 0, a constant table for each degree, and their turns: document 01, "The twelve directions".
+// The star patterns, a constant table for each degree, and their turns: document 01, "The twelve directions". Orientations 0 and 1 are kept, in bytes;
+// the others are these, turned by 60 degrees when asked.
 ghost use mathlib.Core.Path.{_≡_};
-ghost use Prim.Native.Nat.{_%_, _≤_, _<_};
-ghost use Rattle.lattice.specs.Patterns.{patternOf, orient, adjacentOf, firstOppositeOf, secondOppositeOf};
+ghost use Prim.Native.Nat.{_%_, _/_, _≤_, _<_};
+ghost use Rattle.lattice.specs.Points.{turn60Of, turns};
+ghost use Rattle.lattice.specs.Patterns.{patternOf, adjacentOf, firstOppositeOf, secondOppositeOf};
 ghost use Rattle.lattice.specs.Bounds.{Hex};
-ghost use Rattle.lattice.specs.Rows.{placeOf, pointOf};
+ghost use Rattle.lattice.specs.Rows.{placeOf, pointOf, halfOf, keptOf};
 use crate::points::Depth;
 use crate::points::Point;
-use crate::points::turn30;
-use crate::points::turned;
 
 // A point that may be missing.
 pub enum Spot {
@@ -15,118 +15,170 @@ pub enum Spot {
     Nothing,
 }
 
-// A point [a, b, m] of the tables.
-struct P(i32, i32, u8);
+// A point [a, b, m] in bytes: every numerator of the tables is within 6 of zero.
+struct P(i8, i8, u8);
 
-// A second opposite that is none has this depth there.
-const NO_DEPTH: u8 = 255;
+// A row of a table: adjacent | first opposite | second opposite, three numbers each. Where there is no second opposite the vertex itself stands, 0, 0, 0.
+struct Place(i8, i8, u8, i8, i8, u8, i8, i8, u8);
 
-const NONE: P = P(0, 0, NO_DEPTH);
-
-// A place of a star: adjacent | first opposite | second opposite.
-struct Place(P, P, P);
-
-// The places of each degree, in counter-clockwise order.
-const THREE: [Place; 3] = [
-    Place(P(1, 0, 0), P(0, 1, 0), P(0, 2, 0)),
-    Place(P(-1, 1, 0), P(-1, 0, 0), P(-2, 0, 0)),
-    Place(P(0, -1, 0), P(1, -1, 0), P(2, -2, 0)),
+// The places of each degree, in counter-clockwise order, each a row at orientation 0 and below it a row at orientation 1.
+const THREE: [Place; 6] = [
+    Place(1, 0, 0, 0, 1, 0, 0, 2, 0),
+    Place(1, 1, 1, -1, 2, 1, -2, 4, 1),
+    Place(-1, 1, 0, -1, 0, 0, -2, 0, 0),
+    Place(-2, 1, 1, -1, -1, 1, -2, -2, 1),
+    Place(0, -1, 0, 1, -1, 0, 2, -2, 0),
+    Place(1, -2, 1, 2, -1, 1, 4, -2, 1),
 ];
 
-const FOUR: [Place; 4] = [
-    Place(P(1, 0, 0), P(0, 1, 0), P(0, 2, 0)),
-    Place(P(-1, 1, 0), P(-1, 0, 0), NONE),
-    Place(P(-1, -1, 1), P(0, -2, 1), P(0, -1, 0)),
-    Place(P(1, -2, 1), P(1, -1, 0), NONE),
+const FOUR: [Place; 8] = [
+    Place(1, 0, 0, 0, 1, 0, 0, 2, 0),
+    Place(1, 1, 1, -1, 2, 1, -2, 4, 1),
+    Place(-1, 1, 0, -1, 0, 0, 0, 0, 0),
+    Place(-2, 1, 1, -1, -1, 1, 0, 0, 0),
+    Place(-1, -1, 1, 0, -2, 1, 0, -1, 0),
+    Place(0, -3, 2, 2, -4, 2, 1, -2, 1),
+    Place(1, -2, 1, 1, -1, 0, 0, 0, 0),
+    Place(3, -3, 2, 2, -1, 1, 0, 0, 0),
 ];
 
-const FIVE: [Place; 5] = [
-    Place(P(1, 0, 0), P(0, 1, 0), NONE),
-    Place(P(-1, 2, 1), P(-2, 2, 1), P(-1, 1, 0)),
-    Place(P(-2, 1, 1), P(-2, 0, 1), P(-1, 0, 0)),
-    Place(P(-1, -1, 1), P(0, -2, 1), P(0, -1, 0)),
-    Place(P(1, -2, 1), P(1, -1, 0), NONE),
+const FIVE: [Place; 10] = [
+    Place(1, 0, 0, 0, 1, 0, 0, 0, 0),
+    Place(1, 1, 1, -1, 2, 1, 0, 0, 0),
+    Place(-1, 2, 1, -2, 2, 1, -1, 1, 0),
+    Place(-3, 3, 2, -4, 2, 2, -2, 1, 1),
+    Place(-2, 1, 1, -2, 0, 1, -1, 0, 0),
+    Place(-3, 0, 2, -2, -2, 2, -1, -1, 1),
+    Place(-1, -1, 1, 0, -2, 1, 0, -1, 0),
+    Place(0, -3, 2, 2, -4, 2, 1, -2, 1),
+    Place(1, -2, 1, 1, -1, 0, 0, 0, 0),
+    Place(3, -3, 2, 2, -1, 1, 0, 0, 0),
 ];
 
 // Each place is the one before it, turned by 60 degrees.
-const SIX: [Place; 6] = [
-    Place(P(1, 0, 0), P(2, 2, 1), P(1, 1, 0)),
-    Place(P(0, 1, 0), P(-2, 4, 1), P(-1, 2, 0)),
-    Place(P(-1, 1, 0), P(-4, 2, 1), P(-2, 1, 0)),
-    Place(P(-1, 0, 0), P(-2, -2, 1), P(-1, -1, 0)),
-    Place(P(0, -1, 0), P(2, -4, 1), P(1, -2, 0)),
-    Place(P(1, -1, 0), P(4, -2, 1), P(2, -1, 0)),
+const SIX: [Place; 12] = [
+    Place(1, 0, 0, 2, 2, 1, 1, 1, 0),
+    Place(1, 1, 1, 0, 6, 2, 0, 3, 1),
+    Place(0, 1, 0, -2, 4, 1, -1, 2, 0),
+    Place(-1, 2, 1, -6, 6, 2, -3, 3, 1),
+    Place(-1, 1, 0, -4, 2, 1, -2, 1, 0),
+    Place(-2, 1, 1, -6, 0, 2, -3, 0, 1),
+    Place(-1, 0, 0, -2, -2, 1, -1, -1, 0),
+    Place(-1, -1, 1, 0, -6, 2, 0, -3, 1),
+    Place(0, -1, 0, 2, -4, 1, 1, -2, 0),
+    Place(1, -2, 1, 6, -6, 2, 3, -3, 1),
+    Place(1, -1, 0, 4, -2, 1, 2, -1, 0),
+    Place(2, -1, 1, 6, 0, 2, 3, 0, 1),
 ];
 
-// Place j of degree 3. Each arm reads at a fixed index, so that nothing of the table is copied in the compiled code.
-fn three(j: u8) -> Place
-    requires { ⌜ j < 3 ⌝ }
-    ensures { λ r. ⌜ r ≡ placeOf (patternOf 3 j) ⌝ }
+// Row i of the tables, from degree 3 on; degree d begins at row d(d - 1). Each arm reads at a fixed index, so that nothing of a table is copied in the
+// compiled code; handed on over one number, the four are compiled to one table a column.
+fn three(i: u8) -> Place
+    requires { ⌜ (6 ≤ i) × (i < 42) ⌝ }
+    ensures { λ r. ⌜ r ≡ keptOf i ⌝ }
 {
     let rows = THREE;
-    match j {
-        0 => rows[0],
-        1 => rows[1],
-        _ => rows[2],
+    match i {
+        6 => rows[0],
+        7 => rows[1],
+        8 => rows[2],
+        9 => rows[3],
+        10 => rows[4],
+        11 => rows[5],
+        _ => four(i),
     }
 }
 
-// Place j of degree 4.
-fn four(j: u8) -> Place
-    requires { ⌜ j < 4 ⌝ }
-    ensures { λ r. ⌜ r ≡ placeOf (patternOf 4 j) ⌝ }
+// Row i of the tables, from degree 4 on.
+fn four(i: u8) -> Place
+    requires { ⌜ (12 ≤ i) × (i < 42) ⌝ }
+    ensures { λ r. ⌜ r ≡ keptOf i ⌝ }
 {
     let rows = FOUR;
-    match j {
-        0 => rows[0],
-        1 => rows[1],
-        2 => rows[2],
-        _ => rows[3],
+    match i {
+        12 => rows[0],
+        13 => rows[1],
+        14 => rows[2],
+        15 => rows[3],
+        16 => rows[4],
+        17 => rows[5],
+        18 => rows[6],
+        19 => rows[7],
+        _ => five(i),
     }
 }
 
-// Place j of degree 5.
-fn five(j: u8) -> Place
-    requires { ⌜ j < 5 ⌝ }
-    ensures { λ r. ⌜ r ≡ placeOf (patternOf 5 j) ⌝ }
+// Row i of the tables, from degree 5 on.
+fn five(i: u8) -> Place
+    requires { ⌜ (20 ≤ i) × (i < 42) ⌝ }
+    ensures { λ r. ⌜ r ≡ keptOf i ⌝ }
 {
     let rows = FIVE;
-    match j {
-        0 => rows[0],
-        1 => rows[1],
-        2 => rows[2],
-        3 => rows[3],
-        _ => rows[4],
+    match i {
+        20 => rows[0],
+        21 => rows[1],
+        22 => rows[2],
+        23 => rows[3],
+        24 => rows[4],
+        25 => rows[5],
+        26 => rows[6],
+        27 => rows[7],
+        28 => rows[8],
+        29 => rows[9],
+        _ => six(i),
     }
 }
 
-// Place j of degree 6.
-fn six(j: u8) -> Place
-    requires { ⌜ j < 6 ⌝ }
-    ensures { λ r. ⌜ r ≡ placeOf (patternOf 6 j) ⌝ }
+// Row i of the last table.
+fn six(i: u8) -> Place
+    requires { ⌜ (30 ≤ i) × (i < 42) ⌝ }
+    ensures { λ r. ⌜ r ≡ keptOf i ⌝ }
 {
     let rows = SIX;
-    match j {
-        0 => rows[0],
-        1 => rows[1],
-        2 => rows[2],
-        3 => rows[3],
-        4 => rows[4],
-        _ => rows[5],
+    match i {
+        30 => rows[0],
+        31 => rows[1],
+        32 => rows[2],
+        33 => rows[3],
+        34 => rows[4],
+        35 => rows[5],
+        36 => rows[6],
+        37 => rows[7],
+        38 => rows[8],
+        39 => rows[9],
+        40 => rows[10],
+        _ => rows[11],
     }
 }
 
-// Place j of degree d.
-fn pattern(d: u8, j: u8) -> Place
+// Place j of degree d, at orientation 1 where k is odd, else at orientation 0.
+fn pattern(d: u8, k: u8, j: u8) -> Place
     requires { ⌜ (3 ≤ d) × ((d ≤ 6) × (j < d)) ⌝ }
-    ensures { λ r. ⌜ r ≡ placeOf (patternOf d j) ⌝ }
+    ensures { λ r. ⌜ r ≡ placeOf (halfOf (k % 2) (patternOf d j)) ⌝ }
 {
-    match d {
-        3 => three(j),
-        4 => four(j),
-        5 => five(j),
-        _ => six(j),
+    three(d * (d - 1) + 2 * j + k % 2)
+}
+
+// Turned by 60 degrees, in bytes: widened before, the tables would be compiled to numbers of four bytes.
+fn turn(p: P) -> P
+    requires { ⌜ Hex 10 (pointOf p) ⌝ }
+    ensures { λ r. ⌜ pointOf r ≡ turn60Of (pointOf p) ⌝ }
+{
+    P(-p.1, p.0 + p.1, p.2)
+}
+
+// From orientation 0 or 1 to orientation k: turned by 60 degrees once for every two.
+fn turned(p: P, k: u8) -> P
+    requires { ⌜ Hex 10 (pointOf p) ⌝ }
+    ensures { λ r. ⌜ pointOf r ≡ turns (k / 2) (pointOf p) ⌝ }
+{
+    let mut q = p;
+    let mut i: u8 = 1;
+    while i < k {
+        q = turn(q);
+        i = i + 2;
     }
+    q
 }
 
 // The point that three numbers of a table are.
@@ -134,26 +186,10 @@ fn point(p: P) -> Point
     ensures { λ r. ⌜ r ≡ pointOf p ⌝ }
 {
     Point {
-        a: p.0,
-        b: p.1,
+        a: p.0 as i32,
+        b: p.1 as i32,
         m: Depth(p.2),
     }
-}
-
-// A pattern point of orientation 0, at orientation 1 where k is odd.
-fn begun(p: Point, k: u8) -> Point
-    requires { ⌜ Hex 4 p × (p .m .0 < 255) ⌝ }
-    ensures { λ r. ⌜ r ≡ orient (k % 2) p ⌝ }
-{
-    if k % 2 == 1 { turn30(p) } else { p }
-}
-
-// The same at orientation k: a turn for every two.
-fn oriented(p: Point, k: u8) -> Point
-    requires { ⌜ Hex 4 p × (p .m .0 < 255) ⌝ }
-    ensures { λ r. ⌜ r ≡ orient k p ⌝ }
-{
-    turned(begun(p, k), k / 2)
 }
 
 // The adjacent point at place j of degree d and orientation k.
@@ -161,7 +197,8 @@ pub fn adjacent(d: u8, k: u8, j: u8) -> Point
     requires { ⌜ (3 ≤ d) × ((d ≤ 6) × (j < d)) ⌝ }
     ensures { λ r. ⌜ r ≡ adjacentOf d k j ⌝ }
 {
-    oriented(point(pattern(d, j).0), k)
+    let r = pattern(d, k, j);
+    point(turned(P(r.0, r.1, r.2), k))
 }
 
 // The first opposite of corner j.
@@ -169,18 +206,21 @@ pub fn first_opposite(d: u8, k: u8, j: u8) -> Point
     requires { ⌜ (3 ≤ d) × ((d ≤ 6) × (j < d)) ⌝ }
     ensures { λ r. ⌜ r ≡ firstOppositeOf d k j ⌝ }
 {
-    oriented(point(pattern(d, j).1), k)
+    let r = pattern(d, k, j);
+    point(turned(P(r.3, r.4, r.5), k))
 }
 
-// The second opposite of corner j, or none.
+// The second opposite of corner j, or none. Asked past the turns: before them, the compiler would make branches of the table.
 pub fn second_opposite(d: u8, k: u8, j: u8) -> Spot
     requires { ⌜ (3 ≤ d) × ((d ≤ 6) × (j < d)) ⌝ }
     ensures { λ r. ⌜ r ≡ secondOppositeOf d k j ⌝ }
 {
-    let p = pattern(d, j).2;
-    if p.2 == NO_DEPTH {
-        Spot::Nothing
-    } else {
-        Spot::At(oriented(point(p), k))
+    let r = pattern(d, k, j);
+    let p = turned(P(r.6, r.7, r.8), k);
+    if p.0 == 0 {
+        if p.1 == 0 {
+            return Spot::Nothing;
+        }
     }
+    Spot::At(point(p))
 }

@@ -3,8 +3,8 @@ ghost use mathlib.Core.Path.{_≡_};
 ghost use mathlib.Core.Bool.{_&&_};
 ghost use Prim.Native.Nat.{_+_, _*_, _^_, _≤_, _<_, max};
 ghost use lib.IntN.{natAbs, _+ℤ_, _*ℤ_, pos};
-ghost use Rattle.lattice.specs.Points.{pt, by3, normalOf, turn60Of, turn30Of, turns, sumOf};
-ghost use Rattle.lattice.specs.Bounds.{Small, Hex};
+ghost use Rattle.lattice.specs.Points.{pt, by3, normalOf, turn60Of, sumOf};
+ghost use Rattle.lattice.specs.Bounds.{Small};
 
 // How often the denominator holds the factor 3. It belongs to a point and never changes.
 pub struct Depth(pub u8);
@@ -60,33 +60,6 @@ pub fn turn60(p: Point) -> Point
         b: p.a + p.b,
         m,
     }
-}
-
-// Turned by 30 degrees and shrunk by the square root of 3.
-pub fn turn30(p: Point) -> Point
-    requires { ⌜ (natAbs (p .a) ≤ 1000000) × ((natAbs (p .b) ≤ 1000000) × (p .m .0 < 255)) ⌝ }
-    ensures { λ r. ⌜ r ≡ turn30Of p ⌝ }
-{
-    let m = p.m.0;
-    Point {
-        a: p.a - p.b,
-        b: p.a + 2 * p.b,
-        m: Depth(m + 1),
-    }
-}
-
-// Turned by 60 degrees k times.
-pub fn turned(p: Point, k: u8) -> Point
-    requires { ⌜ Hex 10 p ⌝ }
-    ensures { λ r. ⌜ r ≡ turns k p ⌝ }
-{
-    let mut q = p;
-    let mut i: u8 = 0;
-    while i < k {
-        q = turn60(q);
-        i = i + 1;
-    }
-    q
 }
 
 const POWERS: [i32; 8] = [1, 3, 9, 27, 81, 243, 729, 2187];

@@ -1,35 +1,36 @@
 -- `lattice::patterns::adjacent` meets its promise. Assumes nothing.
 use borrow.Author.Needs.{needs}
 use mathlib.Core.Path.{_≡_, sym, _∙_, ap, subst}
-use Prim.Native.Nat.{_<_}
-use native.Mathlib.Omega.{arith}
+use Prim.Native.Nat.{_%_, _/_}
 use Rattle.lattice.proofs.patterns.adjacent.Statement.{statement}
-use Rattle.lattice.specs.Rows.{pointOf}
+use Rattle.lattice.specs.Points.{turns}
+use Rattle.lattice.specs.Rows.{adjacentIn, read-same, read-hex}
 use Rattle.lattice.specs.Patterns.{patternOf, orient}
 use Rattle.lattice.specs.Bounds.{Hex}
-use Rattle.lattice.specs.PatternLaws.{adjacent-close}
+use Rattle.lattice.specs.PatternLaws.{adjacent-close, hex-orient, orient-split}
 use Rattle.lattice.specs.declared.points.Point.{Point}
-use Rattle.lattice.specs.declared.patterns.Place.{Place}
 use Rattle.lattice.proofs.patterns.adjacent.Tie as tie
 
-pattern-requires : tie.Need-pattern-requires
-pattern-requires c κs = search needs
+-- the point of orientation 0, and as the table has it
+abbrev there : tie.Start → Point
+there s = patternOf (s .args .d) (s .args .j) .adjacent
 
-point-requires : tie.Need-point-requires
-point-requires c κs = search needs
+kept : (c : tie.After-pattern) → adjacentIn (c .pattern .result) ≡ orient (c .before .args .k % 2) (there (c .before))
+kept c = ap adjacentIn (c .pattern .ensures)
 
--- the point that is turned
-read : (c : tie.After-point) → c .point .result ≡ patternOf (c .before .before .args .d) (c .before .before .args .j) .adjacent
-read c = c .point .ensures ∙ ap (λ (r : Place). pointOf (r .0)) (c .before .pattern .ensures)
+hex : (c : tie.After-pattern) → Hex 10 (adjacentIn (c .pattern .result))
+hex c =
+    let s = c .before in
+    subst (Hex 10) (sym (kept c)) (hex-orient (s .args .k % 2) (adjacent-close (s .args .d) (s .args .j) (s .pre .0) (s .pre .1 .0) (s .pre .1 .1) .hex))
 
-oriented-requires : tie.Need-oriented-requires
-oriented-requires c κs =
-    let s = c .before .before in
-    let p = adjacent-close (s .args .d) (s .args .j) (s .pre .0) (s .pre .1 .0) (s .pre .1 .1) in
-    subst (λ (p : Point). Hex 4 p × (p .m .0 < 255)) (sym (read c)) (p .hex, let d = p .depth in omega arith)
+turned-requires : tie.Need-turned-requires
+turned-requires c κs = read-hex (hex (c .before))
 
 returns : tie.Need-returns
-returns c = c .oriented .ensures ∙ ap (orient (c .before .before .before .args .k)) (read (c .before))
+returns c =
+    let q = c .before .before .before in
+    let k = q .before .args .k in
+    c .point .ensures ∙ c .before .turned .ensures ∙ ap (turns (k / 2)) (read-same (hex q) ∙ kept q) ∙ orient-split k (there (q .before))
 
 pub adjacent-spec : {M : Type 1} → statement M
-adjacent-spec = tie.close (tie.spec pattern-requires point-requires oriented-requires returns)
+adjacent-spec = tie.close (tie.spec (λ c κs. search needs) turned-requires (λ c κs. search needs) returns)

@@ -1,39 +1,61 @@
--- `lattice::patterns::five` meets its promise: the row at each place. Assumes nothing.
-use mathlib.Core.Path.{_≡_, sym, ap}
-use Prim.Native.Nat.{ℕ}
-use native.Mathlib.Omega.{arith}
+-- `lattice::patterns::five` meets its promise: the row at each number. Assumes nothing.
+use mathlib.Core.Path.{sym, ap}
+use Prim.Native.Nat.{_≤_}
 use borrow.Author.Needs.{needs}
-use Rattle.lattice.specs.Patterns.{five, rowsOf, patternOf}
-use Rattle.lattice.specs.Rows.{placeOf}
-use Rattle.lattice.specs.declared.patterns.Place.{Place}
+use Rattle.lattice.specs.Patterns.{three, four, five, six, orient}
+use Rattle.lattice.specs.Rows.{keptOf, past}
 use Rattle.lattice.proofs.patterns.five.Statement.{statement}
 use Rattle.lattice.proofs.patterns.five.Tie as tie
 
-abbrev row : ℕ → Place
-row j = placeOf (patternOf 5 j)
+six-requires : tie.Need-six-requires
+six-requires c κs =
+    let s = c .before in
+    let r = c .match .rest in
+    let l23 : 23 ≤ s .args .i = past (past (past (s .pre .0) (r .0 .0 .0 .0 .0 .0 .0 .0 .0 .1)) (r .0 .0 .0 .0 .0 .0 .0 .0 .1)) (r .0 .0 .0 .0 .0 .0 .0 .1) in
+    let l26 : 26 ≤ s .args .i = past (past (past l23 (r .0 .0 .0 .0 .0 .0 .1)) (r .0 .0 .0 .0 .0 .1)) (r .0 .0 .0 .0 .1) in
+    let l29 : 29 ≤ s .args .i = past (past (past l26 (r .0 .0 .0 .1)) (r .0 .0 .1)) (r .0 .1) in
+    let l30 : 30 ≤ s .args .i = past l29 (r .1) in
+    (l30, s .pre .1)
 
 returns : tie.Need-returns
-unfolding patternOf rowsOf five
-returns c = sym (ap row (c .before .match .keys1))
+unfolding keptOf orient three four five six
+returns c = sym (ap keptOf (c .before .match .keys1))
 
 returns-2 : tie.Need-returns-2
-unfolding patternOf rowsOf five
-returns-2 c = sym (ap row (c .before .match .keys2))
+unfolding keptOf orient three four five six
+returns-2 c = sym (ap keptOf (c .before .match .keys2))
 
 returns-3 : tie.Need-returns-3
-unfolding patternOf rowsOf five
-returns-3 c = sym (ap row (c .before .match .keys3))
+unfolding keptOf orient three four five six
+returns-3 c = sym (ap keptOf (c .before .match .keys3))
 
 returns-4 : tie.Need-returns-4
-unfolding patternOf rowsOf five
-returns-4 c = sym (ap row (c .before .match .keys4))
+unfolding keptOf orient three four five six
+returns-4 c = sym (ap keptOf (c .before .match .keys4))
 
 returns-5 : tie.Need-returns-5
-unfolding patternOf rowsOf five
-returns-5 c =
-    let s = c .before .before in
-    let e : s .args .j ≡ 4 = omega (arith, s .pre, c .before .match .rest) in
-    sym (ap row e)
+unfolding keptOf orient three four five six
+returns-5 c = sym (ap keptOf (c .before .match .keys5))
+
+returns-6 : tie.Need-returns-6
+unfolding keptOf orient three four five six
+returns-6 c = sym (ap keptOf (c .before .match .keys6))
+
+returns-7 : tie.Need-returns-7
+unfolding keptOf orient three four five six
+returns-7 c = sym (ap keptOf (c .before .match .keys7))
+
+returns-8 : tie.Need-returns-8
+unfolding keptOf orient three four five six
+returns-8 c = sym (ap keptOf (c .before .match .keys8))
+
+returns-9 : tie.Need-returns-9
+unfolding keptOf orient three four five six
+returns-9 c = sym (ap keptOf (c .before .match .keys9))
+
+returns-10 : tie.Need-returns-10
+unfolding keptOf orient three four five six
+returns-10 c = sym (ap keptOf (c .before .match .keys10))
 
 pub five-spec : {M : Type 1} → statement M
 five-spec =
@@ -44,8 +66,20 @@ five-spec =
     (λ c. search needs)
     (λ c. search needs)
     (λ c. search needs)
+    (λ c. search needs)
+    (λ c. search needs)
+    (λ c. search needs)
+    (λ c. search needs)
+    (λ c. search needs)
+    six-requires
     returns
     returns-2
     returns-3
     returns-4
-    returns-5)
+    returns-5
+    returns-6
+    returns-7
+    returns-8
+    returns-9
+    returns-10
+    (λ c. c .six .ensures))

@@ -1,35 +1,52 @@
--- `lattice::patterns::four` meets its promise: the row at each place. Assumes nothing.
-use mathlib.Core.Path.{_≡_, sym, ap}
-use Prim.Native.Nat.{ℕ}
-use native.Mathlib.Omega.{arith}
+-- `lattice::patterns::four` meets its promise: the row at each number. Assumes nothing.
+use mathlib.Core.Path.{sym, ap}
+use Prim.Native.Nat.{_≤_}
 use borrow.Author.Needs.{needs}
-use Rattle.lattice.specs.Patterns.{four, rowsOf, patternOf}
-use Rattle.lattice.specs.Rows.{placeOf}
-use Rattle.lattice.specs.declared.patterns.Place.{Place}
+use Rattle.lattice.specs.Patterns.{three, four, five, six, orient}
+use Rattle.lattice.specs.Rows.{keptOf, past}
 use Rattle.lattice.proofs.patterns.four.Statement.{statement}
 use Rattle.lattice.proofs.patterns.four.Tie as tie
 
-abbrev row : ℕ → Place
-row j = placeOf (patternOf 4 j)
+five-requires : tie.Need-five-requires
+five-requires c κs =
+    let s = c .before in
+    let r = c .match .rest in
+    let l15 : 15 ≤ s .args .i = past (past (past (s .pre .0) (r .0 .0 .0 .0 .0 .0 .0 .1)) (r .0 .0 .0 .0 .0 .0 .1)) (r .0 .0 .0 .0 .0 .1) in
+    let l18 : 18 ≤ s .args .i = past (past (past l15 (r .0 .0 .0 .0 .1)) (r .0 .0 .0 .1)) (r .0 .0 .1) in
+    let l20 : 20 ≤ s .args .i = past (past l18 (r .0 .1)) (r .1) in
+    (l20, s .pre .1)
 
 returns : tie.Need-returns
-unfolding patternOf rowsOf four
-returns c = sym (ap row (c .before .match .keys1))
+unfolding keptOf orient three four five six
+returns c = sym (ap keptOf (c .before .match .keys1))
 
 returns-2 : tie.Need-returns-2
-unfolding patternOf rowsOf four
-returns-2 c = sym (ap row (c .before .match .keys2))
+unfolding keptOf orient three four five six
+returns-2 c = sym (ap keptOf (c .before .match .keys2))
 
 returns-3 : tie.Need-returns-3
-unfolding patternOf rowsOf four
-returns-3 c = sym (ap row (c .before .match .keys3))
+unfolding keptOf orient three four five six
+returns-3 c = sym (ap keptOf (c .before .match .keys3))
 
 returns-4 : tie.Need-returns-4
-unfolding patternOf rowsOf four
-returns-4 c =
-    let s = c .before .before in
-    let e : s .args .j ≡ 3 = omega (arith, s .pre, c .before .match .rest) in
-    sym (ap row e)
+unfolding keptOf orient three four five six
+returns-4 c = sym (ap keptOf (c .before .match .keys4))
+
+returns-5 : tie.Need-returns-5
+unfolding keptOf orient three four five six
+returns-5 c = sym (ap keptOf (c .before .match .keys5))
+
+returns-6 : tie.Need-returns-6
+unfolding keptOf orient three four five six
+returns-6 c = sym (ap keptOf (c .before .match .keys6))
+
+returns-7 : tie.Need-returns-7
+unfolding keptOf orient three four five six
+returns-7 c = sym (ap keptOf (c .before .match .keys7))
+
+returns-8 : tie.Need-returns-8
+unfolding keptOf orient three four five six
+returns-8 c = sym (ap keptOf (c .before .match .keys8))
 
 pub four-spec : {M : Type 1} → statement M
 four-spec =
@@ -39,7 +56,17 @@ four-spec =
     (λ c. search needs)
     (λ c. search needs)
     (λ c. search needs)
+    (λ c. search needs)
+    (λ c. search needs)
+    (λ c. search needs)
+    (λ c. search needs)
+    five-requires
     returns
     returns-2
     returns-3
-    returns-4)
+    returns-4
+    returns-5
+    returns-6
+    returns-7
+    returns-8
+    (λ c. c .five .ensures))

@@ -1,33 +1,34 @@
--- `lattice::patterns::pattern` meets its promise: by the degree. Assumes nothing.
-use mathlib.Core.Path.{_≡_, sym, ap, _∙_}
-use Prim.Native.Nat.{ℕ}
+-- `lattice::patterns::pattern` meets its promise: the row's number. Assumes nothing.
+use mathlib.Core.Path.{_∙_}
+use Prim.Native.Nat.{ℕ, _+_, _*_, _%_, _-_, _≤_, _<_}
 use native.Mathlib.Omega.{arith}
 use borrow.Author.Needs.{needs}
-use Rattle.lattice.specs.Patterns.{patternOf}
-use Rattle.lattice.specs.Rows.{placeOf}
-use Rattle.lattice.specs.declared.patterns.Place.{Place}
+use Rattle.lattice.specs.Rows.{kept-at, degree-rows}
 use Rattle.lattice.proofs.patterns.pattern.Statement.{statement}
 use Rattle.lattice.proofs.patterns.pattern.Tie as tie
 
--- the place of the degree that was found
-of-degree : (d e j : ℕ) {p : Place} → d ≡ e → p ≡ placeOf (patternOf e j) → p ≡ placeOf (patternOf d j)
-of-degree d e j h q = q ∙ sym (ap (λ (n : ℕ). placeOf (patternOf n j)) h)
+-- the rows of the degree
+rows : (s : tie.Start) → (6 ≤ s .args .d * (s .args .d - 1)) × (s .args .d * (s .args .d - 1) + 2 * s .args .d ≤ 42)
+rows s = degree-rows (s .args .d) (s .pre .0) (s .pre .1 .0)
 
-returns-4 : tie.Need-returns-4
-returns-4 c =
-    let s = c .before .before in
-    let e : s .args .d ≡ 6 = omega (arith, s .pre, c .before .match .rest) in
-    of-degree (s .args .d) 6 (s .args .j) e (c .six .ensures)
+mul-three : tie.Need-mul-three
+mul-three c = omega (arith, rows c)
+
+add-three : tie.Need-add-three
+add-three c = omega (arith, rows c, c .pre)
+
+add-three-2 : tie.Need-add-three-2
+add-three-2 c = omega (arith, rows c, c .pre)
+
+three-requires : tie.Need-three-requires
+three-requires c κs = let h : c .args .k % 2 < 2 = omega arith in omega (arith, rows c, c .pre, h)
+
+returns : tie.Need-returns
+returns c =
+    let s = c .before in
+    c .three .ensures ∙ kept-at (s .args .d) (s .args .j) (s .args .k % 2) (s .pre .0) (s .pre .1 .0) (s .pre .1 .1) (omega arith)
 
 pub pattern-spec : {M : Type 1} → statement M
 pattern-spec =
     tie.close
-    (tie.spec
-    (λ c κs. omega (arith, c .match .keys1, c .before .pre))
-    (λ c κs. omega (arith, c .match .keys2, c .before .pre))
-    (λ c κs. omega (arith, c .match .keys3, c .before .pre))
-    (λ c κs. search needs)
-    (λ c. of-degree (c .before .before .args .d) 3 (c .before .before .args .j) (c .before .match .keys1) (c .three .ensures))
-    (λ c. of-degree (c .before .before .args .d) 4 (c .before .before .args .j) (c .before .match .keys2) (c .four .ensures))
-    (λ c. of-degree (c .before .before .args .d) 5 (c .before .before .args .j) (c .before .match .keys3) (c .five .ensures))
-    returns-4)
+    (tie.spec (λ c. search needs) mul-three (λ c. search needs) add-three add-three-2 three-requires returns)

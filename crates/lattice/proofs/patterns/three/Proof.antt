@@ -1,31 +1,43 @@
--- `lattice::patterns::three` meets its promise: the row at each place. Assumes nothing.
-use mathlib.Core.Path.{_≡_, sym, ap}
-use Prim.Native.Nat.{ℕ}
-use native.Mathlib.Omega.{arith}
+-- `lattice::patterns::three` meets its promise: the row at each number. Assumes nothing.
+use mathlib.Core.Path.{sym, ap}
+use Prim.Native.Nat.{_≤_}
 use borrow.Author.Needs.{needs}
-use Rattle.lattice.specs.Patterns.{three, rowsOf, patternOf}
-use Rattle.lattice.specs.Rows.{placeOf}
-use Rattle.lattice.specs.declared.patterns.Place.{Place}
+use Rattle.lattice.specs.Patterns.{three, four, five, six, orient}
+use Rattle.lattice.specs.Rows.{keptOf, past}
 use Rattle.lattice.proofs.patterns.three.Statement.{statement}
 use Rattle.lattice.proofs.patterns.three.Tie as tie
 
-abbrev row : ℕ → Place
-row j = placeOf (patternOf 3 j)
+four-requires : tie.Need-four-requires
+four-requires c κs =
+    let s = c .before in
+    let r = c .match .rest in
+    let l9 : 9 ≤ s .args .i = past (past (past (s .pre .0) (r .0 .0 .0 .0 .0 .1)) (r .0 .0 .0 .0 .1)) (r .0 .0 .0 .1) in
+    let l12 : 12 ≤ s .args .i = past (past (past l9 (r .0 .0 .1)) (r .0 .1)) (r .1) in
+    (l12, s .pre .1)
 
 returns : tie.Need-returns
-unfolding patternOf rowsOf three
-returns c = sym (ap row (c .before .match .keys1))
+unfolding keptOf orient three four five six
+returns c = sym (ap keptOf (c .before .match .keys1))
 
 returns-2 : tie.Need-returns-2
-unfolding patternOf rowsOf three
-returns-2 c = sym (ap row (c .before .match .keys2))
+unfolding keptOf orient three four five six
+returns-2 c = sym (ap keptOf (c .before .match .keys2))
 
 returns-3 : tie.Need-returns-3
-unfolding patternOf rowsOf three
-returns-3 c =
-    let s = c .before .before in
-    let e : s .args .j ≡ 2 = omega (arith, s .pre, c .before .match .rest) in
-    sym (ap row e)
+unfolding keptOf orient three four five six
+returns-3 c = sym (ap keptOf (c .before .match .keys3))
+
+returns-4 : tie.Need-returns-4
+unfolding keptOf orient three four five six
+returns-4 c = sym (ap keptOf (c .before .match .keys4))
+
+returns-5 : tie.Need-returns-5
+unfolding keptOf orient three four five six
+returns-5 c = sym (ap keptOf (c .before .match .keys5))
+
+returns-6 : tie.Need-returns-6
+unfolding keptOf orient three four five six
+returns-6 c = sym (ap keptOf (c .before .match .keys6))
 
 pub three-spec : {M : Type 1} → statement M
 three-spec =
@@ -34,6 +46,14 @@ three-spec =
     (λ c. search needs)
     (λ c. search needs)
     (λ c. search needs)
+    (λ c. search needs)
+    (λ c. search needs)
+    (λ c. search needs)
+    four-requires
     returns
     returns-2
-    returns-3)
+    returns-3
+    returns-4
+    returns-5
+    returns-6
+    (λ c. c .four .ensures))
