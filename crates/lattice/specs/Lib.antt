@@ -4,6 +4,7 @@ pub mod Records
 pub mod Patterns
 pub mod Stars
 pub mod AnswerRows
+pub mod Rows
 pub mod Subdivision
 pub mod Ranks
 pub mod Examples
@@ -11,8 +12,8 @@ pub mod Examples
 pub mod PointLaws
 pub mod Bounds
 pub mod RecordLaws
-pub mod Rows
 pub mod PatternLaws
+pub mod RowLaws
 pub mod StarLaws
 pub mod AnswerRowLaws
 pub mod Places

@@ -5,7 +5,7 @@ ghost use Prim.Native.Nat.{_%_, _/_, _≤_, _<_};
 ghost use Rattle.lattice.specs.Points.{turn60Of, turns};
 ghost use Rattle.lattice.specs.Patterns.{patternOf, adjacentOf, firstOppositeOf, secondOppositeOf};
 ghost use Rattle.lattice.specs.Bounds.{Hex};
-ghost use Rattle.lattice.specs.Rows.{placeOf, pointOf, halfOf, keptOf};
+ghost use Rattle.lattice.specs.Rows.{placeOf, pointOf, orientRow, firstRow, tableRow};
 use crate::points::Depth;
 use crate::points::Point;
 
@@ -74,8 +74,8 @@ const SIX: [Place; 12] = [
 // Row i of the tables, from degree 3 on; degree d begins at row d(d - 1). Each arm reads at a fixed index, so that nothing of a table is copied in the
 // compiled code; handed on over one number, the four are compiled to one table a column.
 fn three(i: u8) -> Place
-    requires { ⌜ (6 ≤ i) × (i < 42) ⌝ }
-    ensures { λ r. ⌜ r ≡ keptOf i ⌝ }
+    requires { ⌜ (firstRow 3 ≤ i) × (i < firstRow 7) ⌝ }
+    ensures { λ r. ⌜ r ≡ tableRow i ⌝ }
 {
     let rows = THREE;
     match i {
@@ -91,8 +91,8 @@ fn three(i: u8) -> Place
 
 // Row i of the tables, from degree 4 on.
 fn four(i: u8) -> Place
-    requires { ⌜ (12 ≤ i) × (i < 42) ⌝ }
-    ensures { λ r. ⌜ r ≡ keptOf i ⌝ }
+    requires { ⌜ (firstRow 4 ≤ i) × (i < firstRow 7) ⌝ }
+    ensures { λ r. ⌜ r ≡ tableRow i ⌝ }
 {
     let rows = FOUR;
     match i {
@@ -110,8 +110,8 @@ fn four(i: u8) -> Place
 
 // Row i of the tables, from degree 5 on.
 fn five(i: u8) -> Place
-    requires { ⌜ (20 ≤ i) × (i < 42) ⌝ }
-    ensures { λ r. ⌜ r ≡ keptOf i ⌝ }
+    requires { ⌜ (firstRow 5 ≤ i) × (i < firstRow 7) ⌝ }
+    ensures { λ r. ⌜ r ≡ tableRow i ⌝ }
 {
     let rows = FIVE;
     match i {
@@ -131,8 +131,8 @@ fn five(i: u8) -> Place
 
 // Row i of the last table.
 fn six(i: u8) -> Place
-    requires { ⌜ (30 ≤ i) × (i < 42) ⌝ }
-    ensures { λ r. ⌜ r ≡ keptOf i ⌝ }
+    requires { ⌜ (firstRow 6 ≤ i) × (i < firstRow 7) ⌝ }
+    ensures { λ r. ⌜ r ≡ tableRow i ⌝ }
 {
     let rows = SIX;
     match i {
@@ -154,7 +154,7 @@ fn six(i: u8) -> Place
 // Place j of degree d, at orientation 1 where k is odd, else at orientation 0.
 fn pattern(d: u8, k: u8, j: u8) -> Place
     requires { ⌜ (3 ≤ d) × ((d ≤ 6) × (j < d)) ⌝ }
-    ensures { λ r. ⌜ r ≡ placeOf (halfOf (k % 2) (patternOf d j)) ⌝ }
+    ensures { λ r. ⌜ r ≡ placeOf (orientRow (k % 2) (patternOf d j)) ⌝ }
 {
     three(d * (d - 1) + 2 * j + k % 2)
 }

@@ -4,7 +4,8 @@ use mathlib.Core.Path.{_≡_, sym, _∙_, ap, subst}
 use Prim.Native.Nat.{_%_, _/_}
 use Rattle.lattice.proofs.patterns.first_opposite.Statement.{statement}
 use Rattle.lattice.specs.Points.{turns}
-use Rattle.lattice.specs.Rows.{firstIn, read-same, read-hex}
+use Rattle.lattice.specs.Rows.{firstIn}
+use Rattle.lattice.specs.RowLaws.{read-same, read-hex}
 use Rattle.lattice.specs.Patterns.{patternOf, orient}
 use Rattle.lattice.specs.Bounds.{Hex}
 use Rattle.lattice.specs.PatternLaws.{first-close, hex-orient, orient-split}

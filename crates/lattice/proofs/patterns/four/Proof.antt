@@ -3,7 +3,8 @@ use mathlib.Core.Path.{sym, ap}
 use Prim.Native.Nat.{_≤_}
 use borrow.Author.Needs.{needs}
 use Rattle.lattice.specs.Patterns.{three, four, five, six, orient}
-use Rattle.lattice.specs.Rows.{keptOf, past}
+use Rattle.lattice.specs.Rows.{tableRow}
+use Rattle.lattice.specs.RowLaws.{past}
 use Rattle.lattice.proofs.patterns.four.Statement.{statement}
 use Rattle.lattice.proofs.patterns.four.Tie as tie
 
@@ -17,36 +18,36 @@ five-requires c κs =
     (l20, s .pre .1)
 
 returns : tie.Need-returns
-unfolding keptOf orient three four five six
-returns c = sym (ap keptOf (c .before .match .keys1))
+unfolding tableRow orient three four five six
+returns c = sym (ap tableRow (c .before .match .keys1))
 
 returns-2 : tie.Need-returns-2
-unfolding keptOf orient three four five six
-returns-2 c = sym (ap keptOf (c .before .match .keys2))
+unfolding tableRow orient three four five six
+returns-2 c = sym (ap tableRow (c .before .match .keys2))
 
 returns-3 : tie.Need-returns-3
-unfolding keptOf orient three four five six
-returns-3 c = sym (ap keptOf (c .before .match .keys3))
+unfolding tableRow orient three four five six
+returns-3 c = sym (ap tableRow (c .before .match .keys3))
 
 returns-4 : tie.Need-returns-4
-unfolding keptOf orient three four five six
-returns-4 c = sym (ap keptOf (c .before .match .keys4))
+unfolding tableRow orient three four five six
+returns-4 c = sym (ap tableRow (c .before .match .keys4))
 
 returns-5 : tie.Need-returns-5
-unfolding keptOf orient three four five six
-returns-5 c = sym (ap keptOf (c .before .match .keys5))
+unfolding tableRow orient three four five six
+returns-5 c = sym (ap tableRow (c .before .match .keys5))
 
 returns-6 : tie.Need-returns-6
-unfolding keptOf orient three four five six
-returns-6 c = sym (ap keptOf (c .before .match .keys6))
+unfolding tableRow orient three four five six
+returns-6 c = sym (ap tableRow (c .before .match .keys6))
 
 returns-7 : tie.Need-returns-7
-unfolding keptOf orient three four five six
-returns-7 c = sym (ap keptOf (c .before .match .keys7))
+unfolding tableRow orient three four five six
+returns-7 c = sym (ap tableRow (c .before .match .keys7))
 
 returns-8 : tie.Need-returns-8
-unfolding keptOf orient three four five six
-returns-8 c = sym (ap keptOf (c .before .match .keys8))
+unfolding tableRow orient three four five six
+returns-8 c = sym (ap tableRow (c .before .match .keys8))
 
 pub four-spec : {M : Type 1} → statement M
 four-spec =

@@ -10,7 +10,8 @@ use mir.Val.{SFits, ofZ}
 use Rattle.laws.specs.Flags.{bits-eq}
 use Rattle.lattice.specs.declared.patterns.Spot.the-variants.{At}
 use Rattle.lattice.proofs.patterns.second_opposite.Statement.{statement}
-use Rattle.lattice.specs.Rows.{pointOf, secondIn, read-same, read-hex, held, held-hex, told-none, told-at}
+use Rattle.lattice.specs.Rows.{pointOf, secondIn, held}
+use Rattle.lattice.specs.RowLaws.{read-same, read-hex, held-hex, second-none, second-at}
 use Rattle.lattice.specs.Points.{turns}
 use Rattle.lattice.specs.Patterns.{onSpot, patternOf, orient}
 use Rattle.lattice.specs.Bounds.{Hex}
@@ -57,7 +58,7 @@ returns c =
     let a : x .0 ≡ pos 0 = bits-eq w8 (record { sfits = omega (arith, f .before .struct-told2 .given) }) zero-fits (f .if1 .taken) in
     let b : x .1 ≡ pos 0 = bits-eq w8 (record { sfits = omega (arith, c .before .struct-told3 .given) }) zero-fits (c .if2 .taken) in
     let e = reached t in
-    sym (told-none k (there s) (near s) (subst Zero e (a, b)))
+    sym (second-none k (there s) (near s) (subst Zero e (a, b)))
 
 -- past the tests it is not the vertex itself
 not-own : (c : tie.Joined1) → Zero (pointOf (c .before .before .before .turned .result)) → ⊥
@@ -68,7 +69,7 @@ returns-2 c =
     let t = c .before .before .before .before in
     let s = t .before .before .before in
     let e = reached t in
-    ap At (c .point .ensures ∙ e) ∙ told-at (s .args .k) (there s) (λ z. not-own (c .before) (subst Zero (sym e) z))
+    ap At (c .point .ensures ∙ e) ∙ second-at (s .args .k) (there s) (λ z. not-own (c .before) (subst Zero (sym e) z))
 
 pub second-opposite-spec : {M : Type 1} → statement M
 second-opposite-spec = tie.close (tie.spec (λ c κs. search needs) turned-requires returns (λ c κs. search needs) returns-2)

@@ -4,56 +4,57 @@ use Prim.Native.Nat.{_≤_}
 use native.Mathlib.Omega.{arith}
 use borrow.Author.Needs.{needs}
 use Rattle.lattice.specs.Patterns.{three, four, five, six, orient}
-use Rattle.lattice.specs.Rows.{keptOf, past}
+use Rattle.lattice.specs.Rows.{tableRow}
+use Rattle.lattice.specs.RowLaws.{past}
 use Rattle.lattice.proofs.patterns.six.Statement.{statement}
 use Rattle.lattice.proofs.patterns.six.Tie as tie
 
 returns : tie.Need-returns
-unfolding keptOf orient three four five six
-returns c = sym (ap keptOf (c .before .match .keys1))
+unfolding tableRow orient three four five six
+returns c = sym (ap tableRow (c .before .match .keys1))
 
 returns-2 : tie.Need-returns-2
-unfolding keptOf orient three four five six
-returns-2 c = sym (ap keptOf (c .before .match .keys2))
+unfolding tableRow orient three four five six
+returns-2 c = sym (ap tableRow (c .before .match .keys2))
 
 returns-3 : tie.Need-returns-3
-unfolding keptOf orient three four five six
-returns-3 c = sym (ap keptOf (c .before .match .keys3))
+unfolding tableRow orient three four five six
+returns-3 c = sym (ap tableRow (c .before .match .keys3))
 
 returns-4 : tie.Need-returns-4
-unfolding keptOf orient three four five six
-returns-4 c = sym (ap keptOf (c .before .match .keys4))
+unfolding tableRow orient three four five six
+returns-4 c = sym (ap tableRow (c .before .match .keys4))
 
 returns-5 : tie.Need-returns-5
-unfolding keptOf orient three four five six
-returns-5 c = sym (ap keptOf (c .before .match .keys5))
+unfolding tableRow orient three four five six
+returns-5 c = sym (ap tableRow (c .before .match .keys5))
 
 returns-6 : tie.Need-returns-6
-unfolding keptOf orient three four five six
-returns-6 c = sym (ap keptOf (c .before .match .keys6))
+unfolding tableRow orient three four five six
+returns-6 c = sym (ap tableRow (c .before .match .keys6))
 
 returns-7 : tie.Need-returns-7
-unfolding keptOf orient three four five six
-returns-7 c = sym (ap keptOf (c .before .match .keys7))
+unfolding tableRow orient three four five six
+returns-7 c = sym (ap tableRow (c .before .match .keys7))
 
 returns-8 : tie.Need-returns-8
-unfolding keptOf orient three four five six
-returns-8 c = sym (ap keptOf (c .before .match .keys8))
+unfolding tableRow orient three four five six
+returns-8 c = sym (ap tableRow (c .before .match .keys8))
 
 returns-9 : tie.Need-returns-9
-unfolding keptOf orient three four five six
-returns-9 c = sym (ap keptOf (c .before .match .keys9))
+unfolding tableRow orient three four five six
+returns-9 c = sym (ap tableRow (c .before .match .keys9))
 
 returns-10 : tie.Need-returns-10
-unfolding keptOf orient three four five six
-returns-10 c = sym (ap keptOf (c .before .match .keys10))
+unfolding tableRow orient three four five six
+returns-10 c = sym (ap tableRow (c .before .match .keys10))
 
 returns-11 : tie.Need-returns-11
-unfolding keptOf orient three four five six
-returns-11 c = sym (ap keptOf (c .before .match .keys11))
+unfolding tableRow orient three four five six
+returns-11 c = sym (ap tableRow (c .before .match .keys11))
 
 returns-12 : tie.Need-returns-12
-unfolding keptOf orient three four five six
+unfolding tableRow orient three four five six
 returns-12 c =
     let s = c .before .before in
     let r = c .before .match .rest in
@@ -63,7 +64,7 @@ returns-12 c =
     let l39 : 39 ≤ s .args .i = past (past (past l36 (r .0 .0 .0 .0 .1)) (r .0 .0 .0 .1)) (r .0 .0 .1) in
     let l41 : 41 ≤ s .args .i = past (past l39 (r .0 .1)) (r .1) in
     let e : s .args .i ≡ 41 = omega (arith, s .pre .1, l41) in
-    sym (ap keptOf e)
+    sym (ap tableRow e)
 
 pub six-spec : {M : Type 1} → statement M
 six-spec =
