@@ -18,7 +18,7 @@ use Rattle.table.specs.Entries.{lookUp}
 use Rattle.table.specs.declared.entries.Looked.{Looked}
 use Rattle.table.specs.declared.entries.Looked.the-variants.{Absent, Held}
 use Rattle.table.specs.Slots.{freeSlots}
-use Rattle.mesh.specs.Subdivide.{MeshAfter, meshAfter, torn, tooDeep, subdivided, subdivideVertex}
+use Rattle.mesh.specs.Subdivide.{MeshAfter, meshAfter, torn, subdivided, subdivideVertex}
 use Rattle.bring.specs.Bring.{placesOf, andThen, eachOf, raisedAt, nearOf, isSix, endsAt, bringOf}
 use Rattle.bring.specs.ChainLaws.{then-on, then-stop, near-absent, near-rim, near-six, near-other, near-far, near-lower, bring-is}
 
@@ -69,19 +69,15 @@ boundary-on c b =
 
 -- ---- 16 comes from nowhere else
 vertex-not : (t : List ℕ) (u : Record) → subdivideVertex t u .number ≡ 16 → ⊥
-vertex-not t u e = go (eqb (u .d) 6) (eqb (u .n .0) 12) (tooDeep u) (torn t u) (ltb (freeSlots t) 6) e
+vertex-not t u e = go (eqb (u .d) 6) (eqb (u .n .0) 12) (torn t u) (ltb (freeSlots t) 6) e
   where
-    go : (a b c d f : Bool)
-        → cond a
-        (cond b (meshAfter 5 t) (cond c (meshAfter 6 t) (cond d (meshAfter 7 t) (cond f (meshAfter 8 t) (meshAfter 0 (subdivided t u))))))
-        (meshAfter 4 t) .number
-        ≡ 16 → ⊥
-    go false b c d f e = omega arith
-    go true true c d f e = omega arith
-    go true false true d f e = omega arith
-    go true false false true f e = omega arith
-    go true false false false true e = omega arith
-    go true false false false false e = omega arith
+    go : (a b c d : Bool)
+        → cond a (cond b (meshAfter 5 t) (cond c (meshAfter 7 t) (cond d (meshAfter 8 t) (meshAfter 0 (subdivided t u))))) (meshAfter 4 t) .number ≡ 16 → ⊥
+    go false b c d e = omega arith
+    go true true c d e = omega arith
+    go true false true d e = omega arith
+    go true false false true e = omega arith
+    go true false false false e = omega arith
 
 raised-not : (t : List ℕ) (l : Looked) → raisedAt t l .number ≡ 16 → ⊥
 raised-not t Absent e = omega arith

@@ -15,7 +15,7 @@ use Rattle.table.specs.Entries.{lookUp, enterOf, replaceOf, recordsBelow, recor
 use Rattle.table.specs.Order.{placedAt, allPlaced, inOrderOf}
 use Rattle.table.specs.Slots.{slotWidth, slotsIn, freeAt, recordAt, slotAt, recordBytes, putSlot, freeBelow}
 use Rattle.table.specs.declared.entries.Looked.the-variants.{Held}
-use Rattle.mesh.specs.Subdivide.{torn, tooDeep, renewedTo, enteredTo, subdivided, subdivideOf}
+use Rattle.mesh.specs.Subdivide.{torn, renewedTo, enteredTo, subdivided, subdivideOf}
 use Rattle.bring.specs.Bring.{sixtyAt, noSixty, placesBelow, placesOf, onwards, eachOf, nearVertex, bringOf, lowerOf, bringVertex, requestOf}
 
 three : ℕ → List ℕ
@@ -35,7 +35,7 @@ of-three :
     × (requestOf (three 22) (pos 2) (pos 0) 0 .number ≡ 14)
     × (requestOf (three 22) (pos 3) (pos 0) 1 .number ≡ 0)
     × (requestOf (three 22) (pos 5) (pos 5) 0 .number ≡ 3)
-unfolding three requestOf bringVertex lowerOf bringOf nearVertex eachOf onwards placesOf placesBelow noSixty sixtyAt subdivideOf subdivided torn tooDeep
+unfolding three requestOf bringVertex lowerOf bringOf nearVertex eachOf onwards placesOf placesBelow noSixty sixtyAt subdivideOf subdivided torn
     renewedTo enteredTo updateOf acceptsOf baseOf firstBad laidOf layAll layHexagon hexagonOf cornerRecord internal listedIn normalOf turns orient
     patternOf rowsOf inOrderOf allPlaced placedAt lookUp enterOf replaceOf recordsBelow findOf searchFrom slotAt freeAt recordAt putSlot recordBytes
     slotsIn homeOf samePoint wordAt freeBelow
@@ -50,7 +50,7 @@ of-seven :
     × (lookUp made (pt (pos 0) (pos 0) 0) ≡ Held (record { at = pt (pos 0) (pos 0) 0; d = 6; k = 1; n = record { 0 = 1 } }))
     × (length (recordsOf (seven 49)) ≡ 31)
     × (length (recordsOf made) ≡ 49)
-unfolding seven requestOf bringVertex lowerOf bringOf nearVertex eachOf onwards placesOf placesBelow noSixty sixtyAt subdivideOf subdivided torn tooDeep
+unfolding seven requestOf bringVertex lowerOf bringOf nearVertex eachOf onwards placesOf placesBelow noSixty sixtyAt subdivideOf subdivided torn
     renewedTo enteredTo updateOf acceptsOf baseOf firstBad laidOf layAll layHexagon hexagonOf cornerRecord internal listedIn normalOf turns orient
     patternOf rowsOf inOrderOf allPlaced placedAt lookUp enterOf replaceOf recordsBelow findOf searchFrom slotAt freeAt recordAt putSlot recordBytes
     slotsIn homeOf samePoint wordAt freeBelow

@@ -1,4 +1,4 @@
--- The numbers that come from within, of every table in order, torn ones too: 0, 7, 8, 16 and no other; 4, 5 and 6 never. And a table in order stays
+-- The numbers that come from within, of every table in order, torn ones too: 0, 7, 8, 16 and no other; 4 and 5 never. And a table in order stays
 -- in order.
 -- Why no 5: a vertex that is brought has a level below the one wanted, and the chain at level n leaves no vertex above level n + 1 that was not there
 -- before (`Keeps`). Why no 4: it is subdivided only where it has degree 6.
@@ -11,10 +11,9 @@ use mathlib.Core.List.{List, [], _∷_}
 use Prim.Native.Nat.{ℕ, zero, suc, _+_, _%_, _≤_, _<_}
 use native.Mathlib.Omega.{arith}
 use native.Mathlib.Decide.{ℕ-discrete, decLt}
-use borrow.Author.Tests.{ne-eqb, le-leb, eqb-true}
-use lib.Dec.{eqb, leb}
+use borrow.Author.Tests.{ne-eqb, eqb-true}
+use lib.Dec.{eqb}
 use lib.IntN.{ℤ}
-use Rattle.laws.specs.Each.{each-upto}
 use Rattle.laws.specs.Rules.{upto}
 use Rattle.laws.specs.Bools.{and-left}
 use Rattle.laws.specs.Choices.{of-true, is-true}
@@ -24,7 +23,6 @@ use Rattle.lattice.specs.Subdivision.{centreOf, newOf, backOf, fourTurn, update
 use Rattle.lattice.specs.RecordLaws.{valid-level}
 use Rattle.lattice.specs.declared.points.Point.{Point}
 use Rattle.lattice.specs.declared.records.Record.{Record}
-use Rattle.geometry.specs.SubdivisionLaws.{new-depth}
 use Rattle.growth.specs.Normal.{point?}
 use Rattle.growth.specs.GrownLaws.{among}
 use Rattle.table.specs.Entries.{lookUp}
@@ -160,19 +158,14 @@ vertex-fine t v s six low = tested (upto 6 (adjacentFits t v)) refl (upto 6 (new
     r : Ready t v
     r = standing-ready t v s six top
 
-    shallow : upto 6 (λ j. leb (newOf v j .at .m .0) 6) ≡ true
-    shallow =
-        each-upto (λ j. leb (newOf v j .at .m .0) 6) 6
-        (λ j h. le-leb (newOf v j .at .m .0) 6 (new-depth v (of-true (lookup-valid t (s .order) (v .at) v (s .held))) six low j h))
-
     tested : (a : Bool) → upto 6 (adjacentFits t v) ≡ a → (b : Bool) → upto 6 (newFits t v) ≡ b → Dec (freeSlots t < 6) → Fine (v .n .0) t (subdivideVertex t v)
-    tested false x b y f = fine-same (vertex-7-old t v six top shallow x) (fine-here (v .n .0) t (s .order) 7 (torn refl))
-    tested true x false y f = fine-same (vertex-7-new t v six top shallow x y) (fine-here (v .n .0) t (s .order) 7 (torn refl))
-    tested true x true y (yes f) = fine-same (vertex-8 t v six top shallow x y f) (fine-here (v .n .0) t (s .order) 8 (few refl))
+    tested false x b y f = fine-same (vertex-7-old t v six top x) (fine-here (v .n .0) t (s .order) 7 (torn refl))
+    tested true x false y f = fine-same (vertex-7-new t v six top x y) (fine-here (v .n .0) t (s .order) 7 (torn refl))
+    tested true x true y (yes f) = fine-same (vertex-8 t v six top x y f) (fine-here (v .n .0) t (s .order) 8 (few refl))
     tested true x true y (no f) =
         let room : 6 ≤ freeSlots t = omega arith in
         let w = ready-whole t v r x y room in
-        fine-same (vertex-0 t v six top shallow x y room) (record { told = made refl; order = subdivided-order t v w; keeps = divided-keeps t v w })
+        fine-same (vertex-0 t v six top x y room) (record { told = made refl; order = subdivided-order t v w; keeps = divided-keeps t v w })
 
 -- a vertex of level i is brought: it ends at degree 6 where the answer is 0
 abbrev pub Bring : ℕ → Type 0

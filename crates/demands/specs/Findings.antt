@@ -25,7 +25,7 @@ use Rattle.findings.specs.FaultLaws.{entryText}
 use Rattle.findings.specs.ReadyLaws.{joined-inside}
 use Rattle.findings.specs.SpellingLaws.{Alike, none, more, join-alike}
 use Rattle.findings.specs.declared.line.Finding.{Finding}
-use Rattle.demands.specs.Numbers.{_⇒_, firstOf}
+use Rattle.demands.specs.Numbers.{Rule, _⇒_, firstOf}
 use Rattle.demands.specs.Points.{OnePoint, one-form}
 pub use Rattle.findings.specs.OnceLaws.{standing-held, held-standing, lost-none, none-lost}
 pub use Rattle.findings.specs.EntryLaws.{entry-write, entry-read}
@@ -76,8 +76,10 @@ module _ (t l out : List ℕ) where
   byTests o x = cond o (unlessFaulty x (λ line. joinAfter 15 line 0 out) (λ fs. putJoined (joined t l fs) out)) (joinAfter 1 0 0 out)
 
   -- "Refusals: 1, then 15 .., then 13"
-  pub join-number : joinOf t l out .number
-      ≡ firstOf (not (inOrderOf t) ⇒ 1 ∷ isFaulty (readList l) ⇒ 15 ∷ ltb (length out) (length (textOf t l (readList l))) ⇒ 13 ∷ [])
+  abbrev pub joinRules : List Rule
+  joinRules = not (inOrderOf t) ⇒ 1 ∷ isFaulty (readList l) ⇒ 15 ∷ ltb (length out) (length (textOf t l (readList l))) ⇒ 13 ∷ []
+
+  pub join-number : joinOf t l out .number ≡ firstOf joinRules
   unfolding joinOf putJoined
   join-number = go (inOrderOf t) (readList l)
     where

@@ -27,5 +27,7 @@ pub mod Search
 pub mod Bring
 -- document 02's ticket 5: OFF and OBJ files
 pub mod Viewer
+-- document 02's ticket 7: no new point is deeper than 6, and no call answers 6
+pub mod Unused
 -- the starred examples
 pub mod Starred

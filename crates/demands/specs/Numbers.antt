@@ -1,8 +1,8 @@
 -- Demand 1, the numbers: "What is wrong is refused by document 01's numbers, on its conditions and no others." For each call its conditions, in the
--- order that 01 has them: the number is that of the first that holds, and 0 where none does.
+-- order that 01 has them, subdivision's as 02 has it: the number is that of the first that holds, and 0 where none does.
 -- `Rule`, `firstOf` · `first-number`, `number-first` refused with a number exactly when its condition holds and none before it, `zero-none`,
 -- `none-zero` 0 exactly where none does · `star-number`, `base-number`, `base-place`, `subdivide-number`, `neighbours-number`, `faces-number`,
--- `write-number` the calls; `bring`'s stands in Bring.
+-- `write-number` the calls, by their conditions (`starRules` .. `writeRules`); `bring`'s stands in Bring.
 -- Assumes nothing.
 use mathlib.Core.Path.{_≡_, refl, sym, _∙_, ap}
 use mathlib.Core.Bool.{Bool, true, false, cond, _&&_, not}
@@ -24,7 +24,7 @@ use Rattle.table.specs.declared.entries.Looked.{Looked}
 use Rattle.table.specs.declared.entries.Looked.the-variants.{Absent, Held}
 use Rattle.base.specs.Base.{Laid, Room, NoRoom, baseOf, unpaired, badPlace, centresIn, laidOf, fromLaid}
 use Rattle.base.specs.Base as laid
-use Rattle.mesh.specs.Subdivide.{subdivideOf, subdivideLooked, subdivided, torn, tooDeep}
+use Rattle.mesh.specs.Subdivide.{subdivideOf, subdivideLooked, subdivided, torn}
 use Rattle.mesh.specs.Subdivide as divided
 use Rattle.queries.specs.Queries.{neighboursOf, facesOf, facesGiven, queryLooked, adjacentsThere, cornersThere}
 use Rattle.writers.specs.Files.{writeOf, putOf}
@@ -101,7 +101,10 @@ ofHeld f (Held v) = f v
 
 -- ---- the calls
 -- "a record that isn't valid gets 9, and a valid one of degree 0 gets 14"
-pub star-number : (r : Record) → starOf r .number ≡ firstOf (not (validOf r) ⇒ 9 ∷ eqb (r .d) 0 ⇒ 14 ∷ [])
+abbrev pub starRules : Record → List Rule
+starRules r = not (validOf r) ⇒ 9 ∷ eqb (r .d) 0 ⇒ 14 ∷ []
+
+pub star-number : (r : Record) → starOf r .number ≡ firstOf (starRules r)
 unfolding starOf
 star-number r = go (validOf r) (eqb (r .d) 0)
   where
@@ -115,9 +118,10 @@ abbrev pub noRoom : Laid → Bool
 noRoom (Room u) = false
 noRoom NoRoom = true
 
-pub base-number : (t : List ℕ) (cs : List ℤ)
-    → baseOf t cs .number
-    ≡ firstOf (not (fitsLength (length t)) ⇒ 1 ∷ unpaired cs ⇒ 2 ∷ ltb (badPlace cs) (centresIn cs) ⇒ 2 ∷ noRoom (laidOf t cs) ⇒ 8 ∷ [])
+abbrev pub baseRules : List ℕ → List ℤ → List Rule
+baseRules t cs = not (fitsLength (length t)) ⇒ 1 ∷ unpaired cs ⇒ 2 ∷ ltb (badPlace cs) (centresIn cs) ⇒ 2 ∷ noRoom (laidOf t cs) ⇒ 8 ∷ []
+
+pub base-number : (t : List ℕ) (cs : List ℤ) → baseOf t cs .number ≡ firstOf (baseRules t cs)
 unfolding baseOf
 base-number t cs = go (fitsLength (length t)) (unpaired cs) (ltb (badPlace cs) (centresIn cs)) (laidOf t cs)
   where
@@ -147,51 +151,38 @@ base-place t cs = go (fitsLength (length t)) (unpaired cs) (ltb (badPlace cs) (c
     go true false false (Room u) = refl
     go true false false NoRoom = refl
 
--- "subdivision 1, 3, 4, 5, 6, 7, 8 (fewer than six free)", of what is looked up at the normalised point
+-- Document 02, ticket 7: "The order of checks for subdivision becomes 1, 3, 4, 5, 7, 8", of what is looked up at the normalised point
 abbrev pub subdivideRules : List ℕ → Looked → List Rule
 subdivideRules t l =
     not (inOrderOf t) ⇒ 1
     ∷ not (isHeld l) ⇒ 3
     ∷ ofHeld (λ v. not (eqb (v .d) 6)) l ⇒ 4
     ∷ ofHeld (λ v. eqb (v .n .0) 12) l ⇒ 5
-    ∷ ofHeld tooDeep l ⇒ 6
     ∷ ofHeld (torn t) l ⇒ 7
     ∷ ltb (freeSlots t) 6 ⇒ 8
     ∷ []
 
 pub subdivide-number : (t : List ℕ) (a b : ℤ) (m : ℕ) → subdivideOf t a b m .number ≡ firstOf (subdivideRules t (lookUp t (normalOf a b m)))
 unfolding subdivideOf
-subdivide-number t a b m = go (inOrderOf t) (lookUp t (normalOf a b m))
+subdivide-number t a b m = go (inOrderOf t) refl (lookUp t (normalOf a b m))
   where
-    at : (v : Record) (six last deep t7 few : Bool)
+    at : (v : Record) (six last t7 few : Bool)
         → cond six
         (cond last (divided.meshAfter 5 t)
-        (cond deep (divided.meshAfter 6 t)
         (cond t7 (divided.meshAfter 7 t)
-        (cond few (divided.meshAfter 8 t) (divided.meshAfter 0 (subdivided t v))))))
+        (cond few (divided.meshAfter 8 t) (divided.meshAfter 0 (subdivided t v)))))
         (divided.meshAfter 4 t) .number
-        ≡ firstOf (not six ⇒ 4 ∷ last ⇒ 5 ∷ deep ⇒ 6 ∷ t7 ⇒ 7 ∷ few ⇒ 8 ∷ [])
-    at v false last deep t7 few = refl
-    at v true true deep t7 few = refl
-    at v true false true t7 few = refl
-    at v true false false true few = refl
-    at v true false false false true = refl
-    at v true false false false false = refl
+        ≡ firstOf (not six ⇒ 4 ∷ last ⇒ 5 ∷ t7 ⇒ 7 ∷ few ⇒ 8 ∷ [])
+    at v false last t7 few = refl
+    at v true true t7 few = refl
+    at v true false true few = refl
+    at v true false false true = refl
+    at v true false false false = refl
 
-    go : (o : Bool) (l : Looked)
-        → cond o (subdivideLooked t l) (divided.meshAfter 1 t) .number
-        ≡ firstOf
-        (not o ⇒ 1
-        ∷ not (isHeld l) ⇒ 3
-        ∷ ofHeld (λ v. not (eqb (v .d) 6)) l ⇒ 4
-        ∷ ofHeld (λ v. eqb (v .n .0) 12) l ⇒ 5
-        ∷ ofHeld tooDeep l ⇒ 6
-        ∷ ofHeld (torn t) l ⇒ 7
-        ∷ ltb (freeSlots t) 6 ⇒ 8
-        ∷ [])
-    go false l = refl
-    go true Absent = refl
-    go true (Held v) = at v (eqb (v .d) 6) (eqb (v .n .0) 12) (tooDeep v) (torn t v) (ltb (freeSlots t) 6)
+    go : (o : Bool) → inOrderOf t ≡ o → (l : Looked) → cond o (subdivideLooked t l) (divided.meshAfter 1 t) .number ≡ firstOf (subdivideRules t l)
+    go false h l = rw h refl
+    go true h Absent = rw h refl
+    go true h (Held v) = rw h (at v (eqb (v .d) 6) (eqb (v .n .0) 12) (torn t v) (ltb (freeSlots t) 6))
 
 -- "Queries 1, 3, 14, 7."
 abbrev pub queryRules : List ℕ → Looked → (Record → Bool) → List Rule
@@ -225,7 +216,10 @@ unfolding facesOf
 faces-number t a b m = query-number t (lookUp t (normalOf a b m)) (λ v. adjacentsThere t v && cornersThere t v) (facesGiven t) (λ v. refl)
 
 -- "Writers 1, 13."
-pub write-number : (file t out : List ℕ) → writeOf file t out .number ≡ firstOf (not (inOrderOf t) ⇒ 1 ∷ ltb (length out) (length file) ⇒ 13 ∷ [])
+abbrev pub writeRules : List ℕ → List ℕ → List ℕ → List Rule
+writeRules file t out = not (inOrderOf t) ⇒ 1 ∷ ltb (length out) (length file) ⇒ 13 ∷ []
+
+pub write-number : (file t out : List ℕ) → writeOf file t out .number ≡ firstOf (writeRules file t out)
 unfolding writeOf putOf
 write-number file t out = go (inOrderOf t) (ltb (length out) (length file))
   where

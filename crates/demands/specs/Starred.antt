@@ -21,7 +21,7 @@ use Rattle.table.specs.Entries.{lookUp, enterOf, replaceOf, recordsOf, recordsB
 use Rattle.table.specs.declared.entries.Looked.{Looked}
 use Rattle.table.specs.declared.entries.Looked.the-variants.{Absent, Held}
 use Rattle.base.specs.Base.{baseOf, firstBad, laidOf, layAll, layHexagon, hexagonOf, cornerRecord, internal, listedIn}
-use Rattle.mesh.specs.Subdivide.{subdivideOf, subdivided, torn, tooDeep, renewedTo, enteredTo}
+use Rattle.mesh.specs.Subdivide.{subdivideOf, subdivided, torn, renewedTo, enteredTo}
 use Rattle.queries.specs.Queries.{neighboursOf, adjacentsThere, chosenAt}
 use Rattle.sorting.specs.Sorting.{insertBy, sortBy}
 use Rattle.text.specs.LineOrder.{earlier}
@@ -107,7 +107,7 @@ four2 = record { at = pt (pos 0) (pos 0) 0; d = 4; k = 2; n = record { 0 = 0 } }
 pub starred : List Example
 unfolding differentAfter gather each sameSide fits sameFace ofDegree countsOf chosenAt sixes threeCentres six0 six1 meshOne meshThree once
     twice reducedLines lines lineOf pointText starText digits digitsBy earlier insertBy sortBy four2 redundant leaveOut neighboursOf
-    adjacentsThere subdivideOf subdivided torn tooDeep renewedTo enteredTo updateOf acceptsOf baseOf firstBad laidOf layAll layHexagon
+    adjacentsThere subdivideOf subdivided torn renewedTo enteredTo updateOf acceptsOf baseOf firstBad laidOf layAll layHexagon
     hexagonOf cornerRecord internal listedIn normalOf turns orient patternOf rowsOf inOrderOf allPlaced placedAt lookUp enterOf replaceOf
     recordsBelow findOf searchFrom slotAt freeAt recordAt putSlot recordBytes slotsIn homeOf samePoint wordAt freeBelow
 starred =
@@ -183,7 +183,7 @@ saidOf (e ∷ es) = e .said ∷ saidOf es
 pub starred-hold : computedOf starred ≡ saidOf starred
 unfolding starred differentAfter gather each sameSide fits sameFace ofDegree countsOf chosenAt sixes threeCentres six0 six1 meshOne meshThree
     once twice reducedLines lines lineOf pointText starText digits digitsBy earlier insertBy sortBy four2 redundant leaveOut neighboursOf
-    adjacentsThere subdivideOf subdivided torn tooDeep renewedTo enteredTo updateOf acceptsOf baseOf firstBad laidOf layAll layHexagon
+    adjacentsThere subdivideOf subdivided torn renewedTo enteredTo updateOf acceptsOf baseOf firstBad laidOf layAll layHexagon
     hexagonOf cornerRecord internal listedIn normalOf turns orient patternOf rowsOf three four five six inOrderOf allPlaced placedAt lookUp
     enterOf replaceOf recordsBelow findOf searchFrom slotAt freeAt recordAt putSlot recordBytes slotsIn homeOf samePoint wordAt freeBelow
 starred-hold = refl

@@ -42,7 +42,7 @@ use Rattle.viewer.specs.Once.{wholeCorner, torn-star}
 use Rattle.viewer.specs.FaceLaws.{Differ, Least, Rises, mesh-face, face-mesh, mesh-apart, least-round, least-first, corners-rise, corners-once, corners-many}
 use Rattle.viewer.specs.declared.styles.Style.{Style}
 use Rattle.viewer.specs.declared.corners.Corners.{Corners}
-use Rattle.demands.specs.Numbers.{_⇒_, firstOf, faces-number, queryRules}
+use Rattle.demands.specs.Numbers.{Rule, _⇒_, firstOf, faces-number, queryRules}
 use Rattle.demands.specs.Forms.{own-form, valid-normal}
 pub use Rattle.viewer.specs.Places.{Placed, number-place}
 
@@ -160,7 +160,10 @@ module _ (s : Style) (t out : List ℕ) where
       (outputAfter 1 0 out)
 
   -- "Refusals: 1, 7, 13."
-  pub view-number : viewOf s t out .number ≡ firstOf (not (inOrderOf t) ⇒ 1 ∷ tornOf t ⇒ 7 ∷ ltb (length out) (length file) ⇒ 13 ∷ [])
+  abbrev pub viewRules : List Rule
+  viewRules = not (inOrderOf t) ⇒ 1 ∷ tornOf t ⇒ 7 ∷ ltb (length out) (length file) ⇒ 13 ∷ []
+
+  pub view-number : viewOf s t out .number ≡ firstOf viewRules
   unfolding viewOf putOf
   view-number = go (inOrderOf t) (tornOf t) (ltb (length out) (length file))
     where

@@ -14,7 +14,7 @@ pub extern "C" fn fb_base(table: &mut [u8], centres: &[i32], place: &mut u64) ->
     based.number
 }
 
-// Subdivides the vertex at [a, b, m], or 1, 3, 4, 5, 6, 7, 8.
+// Subdivides the vertex at [a, b, m], or 1, 3, 4, 5, 7, 8.
 #[no_mangle]
 pub extern "C" fn fb_subdivide(table: &mut [u8], a: i32, b: i32, m: u8) -> u8
     ensures { λ r. ⌜ r ≡ subdivideOf (now (table .entry)) a b m .number ⌝ }

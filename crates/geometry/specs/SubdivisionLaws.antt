@@ -1,7 +1,6 @@
 -- A subdivision makes valid records: `centre-valid`, `update-valid`, `new-valid`. So in a table in order a subdivision that is not torn needs no further
 -- refusal.
--- A new point is a third of the sum of v and two of its old adjacent points, so it keeps to their range; and its depth is at most 6 (`new-depth`):
--- number 6 never comes.
+-- A new point is a third of the sum of v and two of its old adjacent points, so it keeps to their range; and its depth is at most 6 (`new-depth`).
 -- `Sited` what the point of a valid record has · `sited`, `valid-made`, `suits-made` between it and validity ·
 -- `update-boundary` .. `update-five` what becomes of an old adjacent vertex, degree by degree ·
 -- `Rule`, `has-rule`, `accepted` what it is when nothing is torn · `six-place` a star of degree 6 by directions · `sum-normal`.

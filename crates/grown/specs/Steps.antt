@@ -8,18 +8,15 @@ use mathlib.Core.List.{List}
 use mathlib.Core.Option.{none, some}
 use Prim.Native.Nat.{ℕ, _+_, _≤_, _<_}
 use native.Mathlib.Omega.{arith}
-use borrow.Author.Tests.{le-leb}
-use lib.Dec.{T, leb}
 use lib.IntN.{ℤ}
 use Rattle.laws.specs.Each.{each-upto}
 use Rattle.laws.specs.Rules.{upto}
 use Rattle.laws.specs.Choices.{is-true, of-true}
 use Rattle.lattice.specs.Points.{normalOf}
-use Rattle.lattice.specs.Records.{validOf}
 use Rattle.lattice.specs.Stars.{adjacentAt}
 use Rattle.lattice.specs.Subdivision.{newOf, backOf, acceptsOf}
 use Rattle.lattice.specs.declared.records.Record.{Record}
-use Rattle.geometry.specs.SubdivisionLaws.{sited, new-depth}
+use Rattle.geometry.specs.SubdivisionLaws.{sited}
 use Rattle.geometry.specs.Forms.{point-own}
 use Rattle.growth.specs.Sheets.{UntornAt, Step}
 use Rattle.table.specs.Entries.{lookUp, isHeld}
@@ -101,15 +98,8 @@ accepted t a b m z = go (subdivision t a b m)
 -- ---- back: a whole one is accepted
 module _ (t : List ℕ) (o : InOrder t) (a b : ℤ) (m : ℕ) (v : Record)
     (e : lookUp t (normalOf a b m) ≡ Held v) (six : v .d ≡ 6) (low : v .n .0 < 12) (w : UntornAt (sheetOf t) v) where
-  valid : T (validOf v)
-  valid = of-true (lookup-valid t o (normalOf a b m) v e)
-
   not-top : v .n .0 ≡ 12 → ⊥
   not-top h = omega arith
-
-  -- "a new point would have depth over 6": never
-  shallow : upto 6 (λ j. leb (newOf v j .at .m .0) 6) ≡ true
-  shallow = each-upto (λ j. leb (newOf v j .at .m .0) 6) 6 (λ j h. le-leb (newOf v j .at .m .0) 6 (new-depth v valid six low j h))
 
   fits : upto 6 (adjacentFits t v) ≡ true
   fits = each-upto (adjacentFits t v) 6 (λ j h. each j h)
@@ -126,10 +116,10 @@ module _ (t : List ℕ) (o : InOrder t) (a b : ℤ) (m : ℕ) (v : Record)
   ends h = ap (λ (x : MeshAfter). x .number) (h ∙ call-vertex t a b m (order-test t o) v e)
 
   pub vertex-accepted : 6 ≤ freeSlots t → subdivideOf t a b m .number ≡ 0
-  vertex-accepted room = sym (ends (vertex-0 t v six not-top shallow fits fresh room))
+  vertex-accepted room = sym (ends (vertex-0 t v six not-top fits fresh room))
 
   pub vertex-short : freeSlots t < 6 → subdivideOf t a b m .number ≡ 8
-  vertex-short few = sym (ends (vertex-8 t v six not-top shallow fits fresh few))
+  vertex-short few = sym (ends (vertex-8 t v six not-top fits fresh few))
 
 -- ---- asked by its own point
 module _ (t : List ℕ) (o : InOrder t) (v : Record) (e : lookUp t (v .at) ≡ Held v) where

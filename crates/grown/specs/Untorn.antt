@@ -1,5 +1,5 @@
 -- On a grown table no subdivision and no neighbours query is torn: a subdivision is refused by 3, 4, 5 and 8 alone, the neighbours query by 3 and 14 alone.
--- `End`, `subdivision-end` how a subdivision ends · `never-deep`, `never-torn` so 6 and 7 never come · `neighbours-given`, `neighbours-untorn` the query.
+-- `End`, `subdivision-end` how a subdivision ends · `never-torn` so 7 never comes · `neighbours-given`, `neighbours-untorn` the query.
 -- `reached-grown`, `base-grown`, `divided-grown` the tables that the calls make are grown.
 -- Assumes nothing.
 use mathlib.Core.Path.{_≡_, refl, sym, _∙_, ap}
@@ -112,8 +112,9 @@ module _ (t : List ℕ) (g : Grown t) (a b : ℤ) (m : ℕ) where
   pub subdivision-end : End t a b m
   subdivision-end = sheet-end t (g .order) (grown-sheet t g) a b m
 
-  never : (x : ℕ) → 6 ≤ x → x < 8 → subdivideOf t a b m .number ≢ x
-  never x l h k = go subdivision-end
+  -- "Torn, subdivision": never
+  pub never-torn : subdivideOf t a b m .number ≢ 7
+  never-torn k = go subdivision-end
     where
       go : End t a b m → ⊥
       go (missing e z) = omega arith
@@ -121,14 +122,6 @@ module _ (t : List ℕ) (g : Grown t) (a b : ℤ) (m : ℕ) where
       go (top v e d n z) = omega arith
       go (short v e d n f z) = omega arith
       go (done v e d n f z) = omega arith
-
-  -- "a new point would have depth over 6": never
-  pub never-deep : subdivideOf t a b m .number ≢ 6
-  never-deep = never 6 (omega arith) (omega arith)
-
-  -- "Torn, subdivision": never
-  pub never-torn : subdivideOf t a b m .number ≢ 7
-  never-torn = never 7 (omega arith) (omega arith)
 
   pub neighbours-given : (v : Record) → lookUp t (normalOf a b m) ≡ Held v → v .d ≢ 0 → neighboursOf t a b m ≡ given v
   neighbours-given = sheet-given t (g .order) (grown-sheet t g) a b m

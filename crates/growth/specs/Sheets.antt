@@ -78,7 +78,7 @@ pub record CentreSet (H : Point → Bool) : Type 0 where
   pub some-centre : (p : Point) × T (H p)
 
 -- ---- "A mesh is grown if its records result from a base and a sequence of subdivisions accepted in a table of room enough."
--- ("room enough" asks nothing of a sheet, and number 6 never comes: `new-depth` of geometry)
+-- ("room enough" asks nothing of a sheet)
 pub data GrownSheet : Sheet → Type 0 where
   start : (H : Point → Bool) (R : Sheet) → CentreSet H → ((p : Point) → R p ≡ baseSheet H p) → GrownSheet R
   grow : (R : Sheet) (v : Record) (R′ : Sheet) → GrownSheet R → R (v .at) ≡ some v → v .d ≡ 6 → v .n .0 < 12 → UntornAt R v → Step R v R′ → GrownSheet R′

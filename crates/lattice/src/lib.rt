@@ -28,7 +28,6 @@ pub use numbers::NOT_SIX;
 pub use numbers::NOT_VALID;
 pub use numbers::REDUNDANT;
 pub use numbers::SHORT;
-pub use numbers::TOO_DEEP;
 pub use numbers::TORN;
 pub use patterns::Spot;
 pub use points::Depth;

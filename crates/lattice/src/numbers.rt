@@ -1,5 +1,5 @@
-// The numbers that the calls give back, each by its name: document 01, "Numbers given back", and document 02. The definitions that promises cite have
-// the papers' numbers.
+// The numbers that the calls give back, each by its name: document 01, "Numbers given back", and document 02; 6 stays unused. The definitions that
+// promises cite have the papers' numbers.
 pub const DONE: u8 = 0;
 
 // Table not in order; for a base and the readers, only a length that doesn't fit.
@@ -16,9 +16,6 @@ pub const NOT_SIX: u8 = 4;
 
 // The level is 12.
 pub const LAST_LEVEL: u8 = 5;
-
-// A new point would have a depth over 6.
-pub const TOO_DEEP: u8 = 6;
 
 pub const TORN: u8 = 7;
 

@@ -7,7 +7,7 @@ use mathlib.Core.Bool.{Bool, true, false, cond, _&&_, not}
 use mathlib.Core.List.{List}
 use Prim.Native.Nat.{ℕ, _≤_, _<_}
 use native.Mathlib.Omega.{arith}
-use lib.Dec.{ltb, leb}
+use lib.Dec.{ltb}
 use borrow.Author.Tests.{lt-ltb, le-ltb, eq-eqb, ne-eqb}
 use lib.IntN.{ℤ}
 use Rattle.laws.specs.Each.{not-both, upto-each}
@@ -31,7 +31,7 @@ use Rattle.table.specs.declared.entries.Looked.{Looked}
 use Rattle.table.specs.declared.entries.Looked.the-variants.{Absent, Held}
 use Rattle.mesh.specs.SubdivideLaws.{Ready, Intact, old}
 use Rattle.mesh.specs.WriteLaws.{Standing}
-use Rattle.mesh.specs.Subdivide.{adjacentFits, newFits, torn, tooDeep, subdivided, MeshAfter, meshAfter, subdivideVertex, subdivideLooked}
+use Rattle.mesh.specs.Subdivide.{adjacentFits, newFits, torn, subdivided, MeshAfter, meshAfter, subdivideVertex, subdivideLooked}
 use Rattle.mesh.specs.Subdivide.{subdivideOf, renewedTo, enteredTo}
 
 module _ (t : List ℕ) (v : Record) where
@@ -70,41 +70,35 @@ module _ (t : List ℕ) (v : Record) where
     vertex-5 h = rw (eq-eqb (v .d) 6 six, eq-eqb (v .n .0) 12 h)
 
     module _ (low : v .n .0 ≡ 12 → ⊥) where
-      pub vertex-6 : upto 6 (λ j. leb (newOf v j .at .m .0) 6) ≡ false → meshAfter 6 t ≡ subdivideVertex t v
-      unfolding tooDeep
-      vertex-6 h = rw (eq-eqb (v .d) 6 six, ne-eqb (v .n .0) 12 low, h)
+      past : subdivideVertex t v ≡ cond (torn t v) (meshAfter 7 t) (cond (ltb (freeSlots t) 6) (meshAfter 8 t) (meshAfter 0 (subdivided t v)))
+      past = rw (eq-eqb (v .d) 6 six, ne-eqb (v .n .0) 12 low)
 
-      module _ (shallow : upto 6 (λ j. leb (newOf v j .at .m .0) 6) ≡ true) where
-        past : subdivideVertex t v ≡ cond (torn t v) (meshAfter 7 t) (cond (ltb (freeSlots t) 6) (meshAfter 8 t) (meshAfter 0 (subdivided t v)))
-        unfolding tooDeep
-        past = rw (eq-eqb (v .d) 6 six, ne-eqb (v .n .0) 12 low, shallow)
+      torn-old : upto 6 (adjacentFits t v) ≡ false → torn t v ≡ true
+      unfolding torn
+      torn-old h = ap (λ (b : Bool). not (b && upto 6 (newFits t v))) h
 
-        torn-old : upto 6 (adjacentFits t v) ≡ false → torn t v ≡ true
+      pub vertex-7-old : upto 6 (adjacentFits t v) ≡ false → meshAfter 7 t ≡ subdivideVertex t v
+      vertex-7-old h =
+          sym (past ∙ ap (λ (b : Bool). cond b (meshAfter 7 t) (cond (ltb (freeSlots t) 6) (meshAfter 8 t) (meshAfter 0 (subdivided t v)))) (torn-old h))
+
+      module _ (old : upto 6 (adjacentFits t v) ≡ true) where
+        torn-is : (b : Bool) → upto 6 (newFits t v) ≡ b → torn t v ≡ not b
         unfolding torn
-        torn-old h = ap (λ (b : Bool). not (b && upto 6 (newFits t v))) h
+        torn-is b h = λ i. not (old i && h i)
 
-        pub vertex-7-old : upto 6 (adjacentFits t v) ≡ false → meshAfter 7 t ≡ subdivideVertex t v
-        vertex-7-old h =
-            sym (past ∙ ap (λ (b : Bool). cond b (meshAfter 7 t) (cond (ltb (freeSlots t) 6) (meshAfter 8 t) (meshAfter 0 (subdivided t v)))) (torn-old h))
+        after : (b : Bool) → upto 6 (newFits t v) ≡ b
+            → subdivideVertex t v ≡ cond (not b) (meshAfter 7 t) (cond (ltb (freeSlots t) 6) (meshAfter 8 t) (meshAfter 0 (subdivided t v)))
+        after b h = past ∙ ap (λ (x : Bool). cond x (meshAfter 7 t) (cond (ltb (freeSlots t) 6) (meshAfter 8 t) (meshAfter 0 (subdivided t v)))) (torn-is b h)
 
-        module _ (old : upto 6 (adjacentFits t v) ≡ true) where
-          torn-is : (b : Bool) → upto 6 (newFits t v) ≡ b → torn t v ≡ not b
-          unfolding torn
-          torn-is b h = λ i. not (old i && h i)
+        pub vertex-7-new : upto 6 (newFits t v) ≡ false → meshAfter 7 t ≡ subdivideVertex t v
+        vertex-7-new h = sym (after false h)
 
-          after : (b : Bool) → upto 6 (newFits t v) ≡ b
-              → subdivideVertex t v ≡ cond (not b) (meshAfter 7 t) (cond (ltb (freeSlots t) 6) (meshAfter 8 t) (meshAfter 0 (subdivided t v)))
-          after b h = past ∙ ap (λ (x : Bool). cond x (meshAfter 7 t) (cond (ltb (freeSlots t) 6) (meshAfter 8 t) (meshAfter 0 (subdivided t v)))) (torn-is b h)
+        module _ (new : upto 6 (newFits t v) ≡ true) where
+          pub vertex-8 : freeSlots t < 6 → meshAfter 8 t ≡ subdivideVertex t v
+          vertex-8 h = sym (after true new ∙ ap (λ (x : Bool). cond x (meshAfter 8 t) (meshAfter 0 (subdivided t v))) (lt-ltb (freeSlots t) 6 h))
 
-          pub vertex-7-new : upto 6 (newFits t v) ≡ false → meshAfter 7 t ≡ subdivideVertex t v
-          vertex-7-new h = sym (after false h)
-
-          module _ (new : upto 6 (newFits t v) ≡ true) where
-            pub vertex-8 : freeSlots t < 6 → meshAfter 8 t ≡ subdivideVertex t v
-            vertex-8 h = sym (after true new ∙ ap (λ (x : Bool). cond x (meshAfter 8 t) (meshAfter 0 (subdivided t v))) (lt-ltb (freeSlots t) 6 h))
-
-            pub vertex-0 : 6 ≤ freeSlots t → meshAfter 0 (subdivided t v) ≡ subdivideVertex t v
-            vertex-0 h = sym (after true new ∙ ap (λ (x : Bool). cond x (meshAfter 8 t) (meshAfter 0 (subdivided t v))) (le-ltb (freeSlots t) 6 h))
+          pub vertex-0 : 6 ≤ freeSlots t → meshAfter 0 (subdivided t v) ≡ subdivideVertex t v
+          vertex-0 h = sym (after true new ∙ ap (λ (x : Bool). cond x (meshAfter 8 t) (meshAfter 0 (subdivided t v))) (le-ltb (freeSlots t) 6 h))
 
 -- ---- the call
 module _ (t : List ℕ) (a b : ℤ) (m : ℕ) where

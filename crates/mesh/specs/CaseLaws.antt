@@ -11,10 +11,8 @@ use native.Mathlib.Decide.{ℕ-discrete, decLt}
 use borrow.Author.Tests.{ne-eqb}
 use lib.IntN.{ℤ, pos, natAbs}
 use lib.ListN.{length, getD}
-use lib.Dec.{leb}
 use Rattle.laws.specs.Rules.{upto}
 use Rattle.lattice.specs.Patterns.{six}
-use Rattle.lattice.specs.Subdivision.{newOf}
 use Rattle.lattice.specs.Points.{normalOf}
 use Rattle.table.specs.OrderLaws.{order-test}
 use Rattle.table.specs.Entries.{lookUp}
@@ -27,7 +25,7 @@ use Rattle.table.specs.declared.entries.Looked.the-variants.{Absent, Held}
 use Rattle.table.specs.SlotLaws.{table-same}
 use Rattle.mesh.specs.SubdivideLaws.{Ready, Intact, subdivided-order, subdivided-free}
 use Rattle.mesh.specs.WriteLaws.{subdivided-length}
-use Rattle.mesh.specs.CallLaws.{standing-ready, ready-whole, vertex-4, vertex-5, vertex-6, vertex-7-old, vertex-7-new, vertex-8, vertex-0}
+use Rattle.mesh.specs.CallLaws.{standing-ready, ready-whole, vertex-4, vertex-5, vertex-7-old, vertex-7-new, vertex-8, vertex-0}
 use Rattle.mesh.specs.CallLaws.{call-1, call-3, call-vertex, looked-standing}
 use Rattle.mesh.specs.Subdivide.{adjacentFits, newFits, subdivided, MeshAfter, meshAfter, subdivideVertex, subdivideOf}
 use Rattle.laws.specs.Triples.{triplesIn, isByte}
@@ -49,21 +47,18 @@ module _ (t : List ℕ) (a b : ℤ) (m : ℕ) where
     r : Ready t v
     r = standing-ready t v (looked-standing t (test-order t h) (normalOf a b m) v e) six low
 
-    tested : (s : Bool) → upto 6 (λ j. leb (newOf v j .at .m .0) 6) ≡ s → (o : Bool) → upto 6 (adjacentFits t v) ≡ o → (n : Bool) → upto 6 (newFits t v) ≡ n
-        → Dec (freeSlots t < 6) → Subdivision t a b m
-    tested false s o p n q f = refused 6 (omega arith) (is (vertex-6 t v six low s))
-    tested true s false p n q f = refused 7 (omega arith) (is (vertex-7-old t v six low s p))
-    tested true s true p false q f = refused 7 (omega arith) (is (vertex-7-new t v six low s p q))
-    tested true s true p true q (yes f) = refused 8 (omega arith) (is (vertex-8 t v six low s p q f))
-    tested true s true p true q (no f) =
+    tested : (o : Bool) → upto 6 (adjacentFits t v) ≡ o → (n : Bool) → upto 6 (newFits t v) ≡ n → Dec (freeSlots t < 6) → Subdivision t a b m
+    tested false p n q f = refused 7 (omega arith) (is (vertex-7-old t v six low p))
+    tested true p false q f = refused 7 (omega arith) (is (vertex-7-new t v six low p q))
+    tested true p true q (yes f) = refused 8 (omega arith) (is (vertex-8 t v six low p q f))
+    tested true p true q (no f) =
         let room : 6 ≤ freeSlots t = omega arith in
-        made v h e (ready-whole t v r p q room) (is (vertex-0 t v six low s p q room))
+        made v h e (ready-whole t v r p q room) (is (vertex-0 t v six low p q room))
 
   at-vertex : inOrderOf t ≡ true → (v : Record) → lookUp t (normalOf a b m) ≡ Held v → Dec (v .d ≡ 6) → Dec (v .n .0 ≡ 12) → Subdivision t a b m
   at-vertex h v e (no d) n = refused 4 (omega arith) (vertex-4 t v d ∙ call-vertex t a b m h v e)
   at-vertex h v e (yes d) (yes n) = refused 5 (omega arith) (vertex-5 t v d n ∙ call-vertex t a b m h v e)
-  at-vertex h v e (yes d) (no n) =
-      tested h v e d n (upto 6 (λ j. leb (newOf v j .at .m .0) 6)) refl (upto 6 (adjacentFits t v)) refl (upto 6 (newFits t v)) refl (decLt (freeSlots t) 6)
+  at-vertex h v e (yes d) (no n) = tested h v e d n (upto 6 (adjacentFits t v)) refl (upto 6 (newFits t v)) refl (decLt (freeSlots t) 6)
 
   at-point : inOrderOf t ≡ true → (l : Looked) → lookUp t (normalOf a b m) ≡ l → Subdivision t a b m
   at-point h Absent e = refused 3 (omega arith) (call-3 t a b m h e)

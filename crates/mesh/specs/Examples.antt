@@ -16,7 +16,7 @@ use Rattle.table.specs.Entries.{lookUp, enterOf, replaceOf}
 use Rattle.table.specs.Order.{placedAt, allPlaced, inOrderOf}
 use Rattle.table.specs.Slots.{slotWidth, slotsIn, freeAt, recordAt, slotAt, recordBytes, putSlot, freeBelow}
 use Rattle.table.specs.declared.probe.Found.the-variants as found
-use Rattle.mesh.specs.Subdivide.{torn, tooDeep, renewedTo, enteredTo, subdivided, subdivideOf}
+use Rattle.mesh.specs.Subdivide.{torn, renewedTo, enteredTo, subdivided, subdivideOf}
 
 three : ℕ → List ℕ
 three n = baseOf (replicate (slotWidth * n) 255) (pos 0 ∷ pos 0 ∷ pos 1 ∷ pos 1 ∷ pos 2 ∷ negsuc 0 ∷ []) .bytes
@@ -26,7 +26,7 @@ refusals :
     (subdivideOf (three 22) (pos 1) (pos 0) 0 .number ≡ 0)
     × (subdivideOf (three 21) (pos 1) (pos 0) 0 .number ≡ 8)
     × (subdivideOf [] (pos 1) (pos 0) 0 .number ≡ 1)
-unfolding three subdivideOf subdivided torn tooDeep renewedTo enteredTo updateOf acceptsOf baseOf firstBad laidOf layAll layHexagon hexagonOf
+unfolding three subdivideOf subdivided torn renewedTo enteredTo updateOf acceptsOf baseOf firstBad laidOf layAll layHexagon hexagonOf
     cornerRecord internal listedIn normalOf turns orient patternOf rowsOf inOrderOf allPlaced placedAt lookUp enterOf replaceOf findOf searchFrom
     slotAt freeAt recordAt putSlot recordBytes slotsIn homeOf samePoint wordAt freeBelow
 refusals = (refl, refl, refl)

@@ -1,11 +1,11 @@
 -- Document 01, "Subdivision of v": when it is refused and what the table holds after. What the promises cite: `subdivideOf`, `subdivideAllOf`.
--- `adjacentFits`, `newFits`, `torn`, `tooDeep` the conditions of 7 and 6 · `renewedTo`, `enteredTo`, `subdivided` the table after · `MeshAfter` number
--- and table · `Many` the same of a list.
+-- `adjacentFits`, `newFits`, `torn` the condition of 7 · `renewedTo`, `enteredTo`, `subdivided` the table after · `MeshAfter` number and table ·
+-- `Many` the same of a list.
 -- Record by record the rules are the lattice's: Subdivision. Assumes nothing.
 use mathlib.Core.Bool.{Bool, false, cond, _&&_, not}
 use mathlib.Core.List.{List}
 use Prim.Native.Nat.{ℕ, zero, suc, _+_, _*_}
-use lib.Dec.{eqb, ltb, leb}
+use lib.Dec.{eqb, ltb}
 use lib.IntN.{ℤ, pos, natAbs}
 use lib.ListN.{getD}
 use Rattle.laws.specs.Rules.{upto}
@@ -36,10 +36,6 @@ newFits t v j = not (holds t (newOf v j .at))
 -- "Torn, subdivision"
 unfoldable pub torn : List ℕ → Record → Bool
 torn t v = not (upto 6 (adjacentFits t v) && upto 6 (newFits t v))
-
--- "a new point would have depth over 6"
-unfoldable pub tooDeep : Record → Bool
-tooDeep v = not (upto 6 (λ j. leb (newOf v j .at .m .0) 6))
 
 -- ---- the table after
 -- the old adjacent vertex at place j after its rule
@@ -72,15 +68,14 @@ pub record MeshAfter : Type 0 where
 abbrev pub meshAfter : ℕ → List ℕ → MeshAfter
 meshAfter n t = record { number = n; bytes = t }
 
--- "Order: subdivision 1, 3, 4, 5, 6, 7, 8 (fewer than six free)": from 4 on, of the record at the point
+-- Document 02, ticket 7: "The order of checks for subdivision becomes 1, 3, 4, 5, 7, 8": from 4 on, of the record at the point
 abbrev pub subdivideVertex : List ℕ → Record → MeshAfter
 subdivideVertex t v =
     unless (eqb (v .d) 6) (meshAfter 4 t)
     (cond (eqb (v .n .0) 12) (meshAfter 5 t)
-    (cond (tooDeep v) (meshAfter 6 t)
     (cond (torn t v) (meshAfter 7 t)
     (cond (ltb (freeSlots t) 6) (meshAfter 8 t)
-    (meshAfter 0 (subdivided t v))))))
+    (meshAfter 0 (subdivided t v)))))
 
 abbrev pub subdivideLooked : List ℕ → Looked → MeshAfter
 subdivideLooked t Absent = meshAfter 3 t

@@ -11,7 +11,6 @@ ghost use Rattle.mesh.specs.WriteLaws.{Standing};
 ghost use Rattle.mesh.specs.Met.{InSlot};
 use crate::checks::adjacents_fit;
 use crate::checks::all_absent;
-use crate::checks::none_deeper;
 use crate::writes::divide;
 use lattice::ANSWER_NUMBERS;
 use lattice::DONE;
@@ -22,7 +21,6 @@ use lattice::NOT_IN_ORDER;
 use lattice::NOT_SIX;
 use lattice::Point;
 use lattice::Record;
-use lattice::TOO_DEEP;
 use lattice::TORN;
 use lattice::centre;
 use lattice::normalise;
@@ -34,7 +32,7 @@ use table::find;
 use table::held_in;
 use table::slots_of;
 
-// The subdivision of the vertex v, which stands in slot i of a table in order, of whose slots so many are free: 4, 5, 6, 7, 8 in this order, or done.
+// The subdivision of the vertex v, which stands in slot i of a table in order, of whose slots so many are free: 4, 5, 7, 8 in this order, or done.
 fn subdivide_vertex(t: &mut [u8], v: Record, i: usize, n: usize, free: usize) -> u8
     requires { ⌜ Table (now t) n × (Standing (now t) v × (InSlot (now t) v i × (free ≡ freeSlots (now t)))) ⌝ }
     ensures { λ r. ⌜ r ≡ subdivideVertex (now (t .entry)) v .number ⌝ }
@@ -48,18 +46,15 @@ fn subdivide_vertex(t: &mut [u8], v: Record, i: usize, n: usize, free: usize) ->
     if level == 12 {
         return LAST_LEVEL;
     }
-    let c = centre(v);
-    let mut new = [0; ANSWER_NUMBERS];
-    ring(&mut new, c);
-    if !none_deeper(c, &new) {
-        return TOO_DEEP;
-    }
     let mut old = [0; ANSWER_NUMBERS];
     ring(&mut old, v);
     let mut stand = [0; 6];
     if !adjacents_fit(t, v, &old, n, &mut stand) {
         return TORN;
     }
+    let c = centre(v);
+    let mut new = [0; ANSWER_NUMBERS];
+    ring(&mut new, c);
     let mut told = [0; 6];
     if !all_absent(t, c, &new, n, &mut told) {
         return TORN;
@@ -96,7 +91,7 @@ fn subdivide_ordered(t: &mut [u8], a: i32, b: i32, m: u8, n: usize, free: usize)
     subdivide_at(t, normalise(a, b, m), n, free)
 }
 
-// Subdivides the vertex at a point, whatever its spelling, or refuses by document 01's numbers 1, 3, 4, 5, 6, 7, 8, with no byte changed.
+// Subdivides the vertex at a point, whatever its spelling, or refuses by document 01's numbers 1, 3, 4, 5, 7, 8, with no byte changed.
 pub fn subdivide(table: &mut [u8], a: i32, b: i32, m: u8) -> u8
     ensures { λ r. ⌜ r ≡ subdivideOf (now (table .entry)) a b m .number ⌝ }
     ensures { λ r. ⌜ now (table .exit) ≡ subdivideOf (now (table .entry)) a b m .bytes ⌝ }

@@ -1,8 +1,7 @@
-// Whether a subdivision would tear the mesh, or make a point too deep; and the slots that its searches met.
+// Whether a subdivision would tear the mesh; and the slots that its searches met.
 ghost use mathlib.Core.Path.{_≡_};
 ghost use mathlib.Core.Bool.{true, not};
 ghost use Prim.Native.Nat.{_<_};
-ghost use lib.Dec.{leb};
 ghost use lib.ListN.{length};
 ghost use Rattle.laws.specs.Rules.{upto};
 ghost use Rattle.lattice.specs.AnswerRows.{answerNumbers};
@@ -86,23 +85,6 @@ pub fn all_absent(
             Found::Full => {}
         }
         j += 1;
-    }
-    true
-}
-
-// No point of the star of c is deeper than 6.
-pub fn none_deeper(c: Record, new: &[i32; ANSWER_NUMBERS]) -> bool
-    requires { ⌜ Inner c × ((c .d ≡ 6) × (now new ≡ answerNumbers (given c))) ⌝ }
-    ensures { λ r. ⌜ r ≡ upto 6 (λ j. leb (adjacentAt c j .m .0) 6) ⌝ }
-{
-    let mut j: u8 = 0;
-    while j < 6 {
-        let p = point_at(new, c, j);
-        if p.m.0 <= 6 {
-            j += 1;
-        } else {
-            return false;
-        }
     }
     true
 }

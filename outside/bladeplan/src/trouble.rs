@@ -88,7 +88,6 @@ fn words(refusal: Refusal) -> &'static str {
         Refusal::NoRecord => "no vertex stands at that point",
         Refusal::NotDegreeSix => "the vertex has not got six neighbours yet",
         Refusal::LevelTwelve => "it is subdivided as deep as it goes",
-        Refusal::TooDeep => "never comes",
         Refusal::Torn => {
             "the mesh is torn there: something that must be beside the vertex is missing or does not fit. \
              It never comes of a subdivision, of the neighbours or of bringing to six in a mesh that was grown"
@@ -110,7 +109,7 @@ mod tests {
     use super::*;
     use Refusal::*;
 
-    const SOME: [Refusal; 7] = [NotInOrder, BadCentre, NoRecord, NotDegreeSix, LevelTwelve, TooDeep, Torn];
+    const SOME: [Refusal; 6] = [NotInOrder, BadCentre, NoRecord, NotDegreeSix, LevelTwelve, Torn];
     const OTHERS: [Refusal; 9] = [TooFewSlots, BadLine, NotAbove, NotGrown, RedundantKept, OutputShort, DegreeZero, BadFinding, AtTheRim];
 
     #[test]

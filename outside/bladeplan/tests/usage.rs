@@ -7,6 +7,8 @@ use std::ffi::OsString;
 use std::os::unix::ffi::OsStringExt;
 
 const STATUSES: std::ops::RangeInclusive<i32> = 0..=16;
+/// Number 6 is no call's answer.
+const UNUSED: i32 = 6;
 const PANIC: i32 = 101;
 
 #[test]
@@ -128,7 +130,7 @@ fn any_words_and_any_bytes() {
             input.splice(at..at, other);
         }
         let ran = desk.run_words(&words, &input);
-        let known = STATUSES.contains(&ran.status) || [64, 74].contains(&ran.status);
+        let known = (STATUSES.contains(&ran.status) && ran.status != UNUSED) || [64, 74].contains(&ran.status);
         assert!(known && ran.status != PANIC, "{words:?} on {input:?}: {} {}", ran.status, ran.err);
         assert_eq!(ran.err.lines().count().max(1), 1, "{words:?}: {}", ran.err);
     }

@@ -97,7 +97,7 @@ impl Coverage {
         expected().into_iter().filter(|key| !self.reached.contains_key(key)).collect()
     }
 
-    /// What was reached and is not expected: number 6 above all.
+    /// What was reached and is not expected. 6 is expected of no call: it stays unused.
     pub fn unexpected(&self) -> Vec<Key> {
         let expected = expected();
         self.reached.keys().filter(|key| !expected.contains(key)).copied().collect()

@@ -45,7 +45,7 @@ pub struct Record {
     pub level: u8,
 }
 
-/// Why a call was refused: the numbers of document 01's table, and document 02's 15 and 16.
+/// Why a call was refused: the numbers of document 01's table, and document 02's 15 and 16. 6 is unused.
 #[derive(Clone, Copy, PartialEq, Eq, Hash, Debug)]
 #[repr(u8)]
 pub enum Refusal {
@@ -54,7 +54,6 @@ pub enum Refusal {
     NoRecord = 3,
     NotDegreeSix = 4,
     LevelTwelve = 5,
-    TooDeep = 6,
     Torn = 7,
     TooFewSlots = 8,
     BadLine = 9,
@@ -68,13 +67,12 @@ pub enum Refusal {
 }
 
 impl Refusal {
-    const ALL: [Refusal; 16] = [
+    const ALL: [Refusal; 15] = [
         Refusal::NotInOrder,
         Refusal::BadCentre,
         Refusal::NoRecord,
         Refusal::NotDegreeSix,
         Refusal::LevelTwelve,
-        Refusal::TooDeep,
         Refusal::Torn,
         Refusal::TooFewSlots,
         Refusal::BadLine,
@@ -96,7 +94,7 @@ impl Refusal {
     fn of(number: u8) -> Result<(), Refusal> {
         match number {
             0 => Ok(()),
-            n => Err(Refusal::ALL[n as usize - 1]),
+            n => Err(*Refusal::ALL.iter().find(|refusal| refusal.number() == n).expect("a number of the documents")),
         }
     }
 }
@@ -109,7 +107,6 @@ impl fmt::Display for Refusal {
             Refusal::NoRecord => "no record at the point",
             Refusal::NotDegreeSix => "the degree isn't 6",
             Refusal::LevelTwelve => "the level is 12",
-            Refusal::TooDeep => "a new point would have depth over 6",
             Refusal::Torn => "the mesh is torn here",
             Refusal::TooFewSlots => "too few free slots",
             Refusal::BadLine => "a line is malformed or its record not valid",

@@ -124,7 +124,7 @@ impl Mesh {
         Ok(chosen)
     }
 
-    /// The subdivision of v, or its refusal by 4, 5, 6 or 7.
+    /// The subdivision of v, or its refusal by 4, 5 or 7.
     pub fn subdivision(&self, v: &Record) -> Result<Subdivision, Refused> {
         if v.d != 6 {
             return Err(Refused(4, "degree isn't 6"));
@@ -135,9 +135,6 @@ impl Mesh {
         let q = (v.k + 1) % 2;
         let now = Record { k: q, n: v.n + 1, ..*v };
         let fresh: Vec<Point> = star(&now).iter().map(|c| c.adjacent.point()).collect();
-        if fresh.iter().any(|p| p.m > DEEPEST) {
-            return Err(Refused(6, "a new point deeper than 6"));
-        }
         let mut changed = vec![now];
         for (j, corner) in star(v).iter().enumerate() {
             let back = (6 + 2 * j as u8 + v.k) % 12;

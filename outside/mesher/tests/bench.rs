@@ -289,9 +289,9 @@ fn the_nearer_opposite_where_both_are_there() {
     assert!(both > 0);
 }
 
-/// Number 6: every edge of a level up to 12 has depth at most 6, so has its sum with a point of depth at most 6.
+/// Ticket 7: every edge of a level up to 12 has depth at most 6, so has its sum with a point of depth at most 6.
 #[test]
-fn number_6_cannot_come() {
+fn no_new_point_is_deeper_than_6() {
     for level in 0..=12u8 {
         for toward in (0..12).filter(|e| e % 2 == level as i64 % 2) {
             assert_eq!(mesher::spot::edge(toward, level).point().m, level.div_ceil(2));

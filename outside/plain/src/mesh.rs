@@ -138,9 +138,6 @@ pub fn subdivide_in<S: Store>(store: &mut S, p: Point) -> u8 {
     let mut fresh = [p; 6];
     for (f, row) in fresh.iter_mut().zip(rows(now)) {
         *f = sum(p, row.adjacent, now.n);
-        if f.m > 6 {
-            return 6;
-        }
     }
     let Some(changes) = changes(store, p, v) else { return 7 };
     if fresh.iter().any(|f| store.find(*f).is_some()) {
