@@ -17,6 +17,9 @@ pub mod Order
 pub mod Files
 -- what a census counts
 pub mod Census
+-- document 02's ticket 8: the plan holds together
+pub mod Together
+pub mod Histories
 -- demand 3: what is written comes back, call by call
 pub mod Returns
 -- document 02's ticket 1: the findings list joined

@@ -13,8 +13,11 @@ const LONGEST_LINE: u64 = 26;
 /// a longer file answers as for the whole.
 const LIMIT: u64 = (sizes::LARGEST as u64 + 1) * LONGEST_LINE;
 
-/// How many vertices a subdivision enters.
-const NEW_VERTICES: usize = 6;
+/// What a subdivision adds, and the faces of a hexagon before any.
+pub const NEW_VERTICES: usize = 6;
+pub const NEW_EDGES: usize = 12;
+pub const NEW_FACES: usize = 6;
+pub const HEXAGON_FACES: usize = 3;
 
 /// Which reader accepts the file, and what the other one says of it. Both accept it where nothing can be left out; then both give the
 /// same mesh (docs/DECISIONS.md says why).
@@ -29,6 +32,14 @@ pub enum Kind {
 
 /// A face: its four corners, counter-clockwise.
 pub type Face = [Point; 4];
+
+/// A base and the subdivisions made of it.
+pub struct Making {
+    pub hexagons: usize,
+    pub subdivisions: usize,
+    /// The census's numbers of the base, laid anew.
+    pub base: Counts,
+}
 
 pub struct Plan {
     /// The file's name, for messages and titles.
@@ -132,6 +143,17 @@ impl Plan {
     /// V, E, F and the vertices by degree.
     pub fn counts(&self) -> Outcome<Counts> {
         self.table.counts().map_err(|refusal| self.refused(refusal))
+    }
+
+    /// What the plan was made of: the centres that it has, points of depth 0 whose a-b is divisible by 3, are its hexagons'; their base is laid anew, and
+    /// of the vertices beyond it each subdivision entered six. Of every plan that the base of these centres is accepted, and that it tells the
+    /// subdivisions, is proved (`centres-accepted` and `read-fits` in demands/specs/Together); that the centres are those is seen here.
+    pub fn making(&self) -> Outcome<Making> {
+        let points = self.points();
+        let centres: Vec<[i32; 2]> = points.iter().filter(|p| p.m == 0 && (p.a - p.b) % 3 == 0).map(|p| [p.a, p.b]).collect();
+        let laid = sizes::growing(points.len(), |slots| Table::base(slots, &centres)).map_err(|refused| self.refused(refused.refusal))?;
+        let base = laid.counts().map_err(|refusal| self.refused(refusal))?;
+        Ok(Making { hexagons: centres.len(), subdivisions: (points.len() - base.vertices) / NEW_VERTICES, base })
     }
 
     /// The full file.

@@ -138,7 +138,8 @@ fn reduce_and_restore() {
 #[test]
 fn check() {
     let desk = Desk::with_plan("check");
-    let counts = "28 vertices, 48 edges, 21 faces";
+    let sums = "3 hexagons and 2 subdivisions fit together: V = 16 + 6*2 = 28, E = 24 + 12*2 = 48, F = 3*3 + 6*2 = 21";
+    let counts = format!("28 vertices, 48 edges, 21 faces\n{sums}");
     assert_eq!(desk.good("check plan.full"), format!("plan.full is a full file\nas a reduced file it is {TWELVE}\n28 lines: {counts}\n"));
     assert_eq!(
         desk.good("check plan.reduced"),
@@ -146,7 +147,8 @@ fn check() {
     );
     let alone = desk.fed("lay - -q", b"0\t0\n").out;
     let both = "standard input is a full file, and a reduced one as well: no vertex can be left out of it\n7 lines: 7 vertices, 9 edges, 3 faces\n";
-    assert_eq!(desk.fed("check -", alone.as_bytes()).out, both);
+    let sums = "1 hexagon and 0 subdivisions fit together: V = 7 + 6*0 = 7, E = 9 + 12*0 = 9, F = 3*1 + 6*0 = 3\n";
+    assert_eq!(desk.fed("check -", alone.as_bytes()).out, format!("{both}{sums}"));
 }
 
 /// Every command that takes a plan refuses what is none alike.

@@ -69,7 +69,11 @@ fn counted() {
     assert!(vertices > 64_000);
     assert_eq!((numbers[0], numbers[2], numbers[3..].iter().sum()), (vertices, faces, vertices));
     let told = format!(": {vertices} vertices, {} edges, {faces} faces\n", numbers[1]);
-    assert!(desk.good("check plan.reduced").ends_with(&told));
+    let (checked, hexagons) = (desk.good("check plan.reduced"), centres(HALF).count());
+    assert!(checked.contains(&told));
+    let base = vertices - 6 * 3;
+    assert!(checked.contains(&format!("\n{hexagons} hexagons and 3 subdivisions fit together: V = {base} + 6*3 = {vertices}, E = ")));
+    assert!(checked.ends_with(&format!(" = {}, F = 3*{hexagons} + 6*3 = {faces}\n", numbers[1])));
 }
 
 #[test]

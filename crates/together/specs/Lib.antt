@@ -1,0 +1,21 @@
+-- Document 02, ticket 8: a plan holds together. What is proved of it: Together (stars, faces and queries), GrownFrom and Counted (records, edges and faces
+-- by hexagons and subdivisions), Making (both told by the records). The mathematics stands in docs/MODEL.md, "Faces and edges".
+pub mod Together
+pub mod GrownFrom
+pub mod Counted
+pub mod Making
+pub mod Examples
+-- how it is proved. A star's opposites by steps; cells; the corners of a vertex are theirs
+pub mod StarOpposites
+pub mod Cells
+pub mod Corners
+pub mod Places
+-- each corner shows a live cell's face, and each live cell's face is found
+pub mod Faces
+-- faces by starts, edges by labels
+pub mod Inventory
+pub mod Added
+pub mod Chains
+pub mod Starts
+pub mod BaseStarts
+pub mod Edges
