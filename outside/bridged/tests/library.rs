@@ -1,8 +1,8 @@
-//! The library behind the bridge against the mesher: the whole suite, and how much stack it uses.
+//! The library behind the bridge against the mesher: the whole suite, and how much stack it uses, measured where the suite puts the largest cases.
 
 use bridged::Library;
 
-differential::suite!(Library::start());
+differential::suite!(Library::start(), rest);
 
 /// The stack of the deepest chain, twelve vertices under way at once: the most that was in use, the bridge's own included.
 #[test]

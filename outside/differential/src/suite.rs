@@ -436,7 +436,7 @@ pub fn small_stack(caller: &dyn Caller) {
     assert_eq!(run(Case::Census { input, table: lent.clone(), scratch: lent, out: vec![0; 128] }).number, 0);
 }
 
-/// Test functions of the whole suite for a caller.
+/// Test functions of the whole suite for a caller, or, after the word `rest`, of what a caller that measures its stack does not run there.
 #[macro_export]
 macro_rules! suite {
     ($caller:expr; $($name:ident),+) => {
@@ -446,10 +446,14 @@ macro_rules! suite {
         })+
     };
     ($caller:expr) => {
+        $crate::suite!($caller; small_stack, bring_deepest);
+        $crate::suite!($caller, rest);
+    };
+    ($caller:expr, rest) => {
         $crate::suite!($caller; random_cases, fuzzed_readers, all_stars, single_edits, single_bytes, every_length);
-        $crate::suite!($caller; nearly_grown_files, deep_meshes, large_meshes, crowded_tables, small_stack);
+        $crate::suite!($caller; nearly_grown_files, deep_meshes, large_meshes, crowded_tables);
         $crate::suite!($caller; edges_at_the_rim, edges_of_edited_tables, edges_of_scattered_stars);
-        $crate::suite!($caller; bring_refusals_in_order, bring_every_vertex, bring_deepest);
+        $crate::suite!($caller; bring_refusals_in_order, bring_every_vertex);
         $crate::suite!($caller; viewer_refusals_in_order, viewer_every_length, viewer_widths, viewer_coordinates, viewer_read_back);
         $crate::suite!($caller; viewer_of_edited_tables, viewer_of_scattered_stars);
         $crate::suite!($caller; findings_malformed, findings_done, findings_refusals_in_order, findings_bytes, fuzzed_findings, long_findings);
