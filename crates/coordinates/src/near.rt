@@ -5,6 +5,11 @@ ghost use lib.IntN.{natAbs, _+ℤ_};
 ghost use Rattle.text.specs.Near.{widest};
 ghost use Rattle.coordinates.specs.Coordinates.{nearX, nearY};
 
+// The square root of 300,000,000, as a fraction: it only guides the search for a root.
+const ROOT: u64 = 4540467268;
+
+const ROOT_OF_ONE: u64 = 262144;
+
 // 2a+b: x, times 2 × 3^m.
 pub fn across(a: i32, b: i32) -> i32
     requires { ⌜ (natAbs a ≤ widest) × (natAbs b ≤ widest) ⌝ }
@@ -46,6 +51,33 @@ fn root(q: u64) -> u64
     low
 }
 
+// The same where a guess is the root, or one below it, as it nearly always is: then nothing is halved. It is right whatever is guessed.
+fn root_near(q: u64, guess: u64) -> u64
+    requires { ⌜ guess < 4294967294 ⌝ }
+    ensures { λ r. ⌜ (r * r ≤ q) × ((q < (r + 1) * (r + 1)) × (r < 4294967296)) ⌝ }
+{
+    let next = guess + 1;
+    let after = guess + 2;
+    if q < guess * guess {
+        return root(q);
+    }
+    if q < next * next {
+        return guess;
+    }
+    if q < after * after {
+        return next;
+    }
+    root(q)
+}
+
+// Twice the ten-thousandths of y, or one fewer.
+fn guess(b: u64, p: u64) -> u64
+    requires { ⌜ (b ≤ widest) × (1 ≤ p) ⌝ }
+    ensures { λ r. ⌜ r < 4294967294 ⌝ }
+{
+    b * ROOT / ROOT_OF_ONE / p
+}
+
 // The ten-thousandths of x, by the size of 2a+b.
 pub fn near_x(s: u32, m: u8) -> u32
     requires { ⌜ (s ≤ 3 * widest) × (m ≤ 6) ⌝ }
@@ -62,6 +94,6 @@ pub fn near_y(b: u32, m: u8) -> u32
 {
     let p = power(m);
     let s = b as u64;
-    let w = root(300000000 * (s * s) / (p * p));
+    let w = root_near(300000000 * (s * s) / (p * p), guess(s, p));
     ((w + 1) / 2) as u32
 }

@@ -3,29 +3,36 @@
 -- `across-narrow`, `far-ended`, `far-across`, `far-none`, `far-counted`.
 -- A corner of another star: `corner-first`, `corner-second`, `corner-third`. A corner: `corner-none`, `corner-counted`. A face:
 -- `before-second`, `before-third`, `before-fourth`. A slot: `sides-free`, `sides-holds`, `faces-free`, `faces-holds`, `degree-counts`.
+-- Plain corners: `inners-none`, `plain-none`, `plain-face`, `plain-free`, `plain-holds`, `all-more`.
 -- Assumes nothing.
-use mathlib.Core.Path.{_≡_, sym, ap, _∙_}
+use mathlib.Core.Path.{_≡_, refl, sym, ap, _∙_}
 use mathlib.Core.Bool.{Bool, true, false, cond, not, _&&_, _||_, or-true}
 use mathlib.Core.List.{List}
-use Prim.Native.Nat.{ℕ, _+_, _*_, _≤_}
+use Prim.Native.Nat.{ℕ, suc, _+_, _*_, _≤_}
 use native.Mathlib.Nat.{mul-add}
 use native.Mathlib.Omega.{arith}
-use lib.Dec.{eqb}
-use Rattle.laws.specs.Each.{and-false}
+use borrow.Author.Tests.{ltb-false}
+use lib.Dec.{eqb, ltb}
+use Rattle.laws.specs.Each.{and-false, never}
+use Rattle.laws.specs.Rules.{among, upto}
 use Rattle.lattice.specs.Stars.{adjacentAt}
 use Rattle.lattice.specs.declared.points.Point.{Point}
 use Rattle.lattice.specs.declared.records.Record.{Record}
 use Rattle.lattice.specs.declared.patterns.Spot.the-variants.{At, Nothing}
 use Rattle.table.specs.Slots.{slotsOf, slotAt}
 use Rattle.table.specs.Search.{samePoint}
+use Rattle.table.specs.Entries.{holds}
 use Rattle.table.specs.declared.slots.Slot.the-variants.{Free, Holds}
+use Rattle.table.specs.declared.entries.Looked.{Looked}
+use Rattle.table.specs.declared.entries.Looked.the-variants.{Absent, Held}
 use Rattle.queries.specs.Queries.{chosenAt, isPoint}
 use Rattle.counts.specs.Counts.{bit, nextPlace, turned}
 use Rattle.counts.specs.Across.{apexOf}
 use Rattle.counts.specs.Earlier.{sumBelow, slotSum, slotIn, prevPlace, faced, nearIn, nearBefore, nearCount, farIs, farBefore, apexSeen, endHas}
 use Rattle.counts.specs.Earlier.{narrowElse, acrossElse, farOne, farAt, farCount}
 use Rattle.counts.specs.Earlier.{starSides, slotSides, spotIs, cornerIs, faceSeen, faceBefore, faceOn, faceCount, cornerCount, starFaces}
-use Rattle.counts.specs.Earlier.{slotFaces, degreeAt, slotDegree}
+use Rattle.counts.specs.Earlier.{slotFaces, degreeAt, slotDegree, earlierIn, heldAnd, namesFace, faceIn, innerIn, innersBefore}
+use Rattle.counts.specs.Earlier.{plainWith, plainAt, plainStar, plainIn, plainSlot}
 use Rattle.counts.specs.DifferentLaws.{sum-none, sum-more}
 use Rattle.counts.specs.declared.faces.Face.{Face}
 
@@ -157,6 +164,57 @@ module _ (t : List ℕ) (k : ℕ) (v : Record) (j : ℕ) where
       → bit (not b) ≡ cornerCount t k v j
   unfolding cornerCount
   corner-counted o e f g b h = ap (λ (x : Bool). bit (not x)) (sym h ∙ ap (faceBefore t k) g) ∙ ap (faceCount t k v j) (sym e)
+
+-- ---- plain corners
+
+module _ (t : List ℕ) (k : ℕ) where
+  -- a vertex without a star names nothing
+  inner-names : (f : Face) (s : ℕ) → innerIn t k s ≡ false → faceIn t k f s ≡ false
+  unfolding innerIn faceIn namesFace
+  inner-names f s h = go (earlierIn t k s) h
+    where
+      go : (l : Looked) → heldAnd (λ u. ltb 0 (u .d)) l ≡ false → heldAnd (namesFace t f) l ≡ false
+      go Absent e = refl
+      go (Held u) e = let z : u .d ≡ 0 = omega (arith, ltb-false 0 (u .d) e) in ap (λ (d : ℕ). among d (cornerIs t u f)) z
+
+  pub inners-none : (f : Face) → innersBefore t k f ≡ false → faceBefore t k f ≡ false
+  unfolding faceBefore
+  inners-none f h =
+      let a = innerIn t k (slotIn t (f .adjacent)) in
+      let b = innerIn t k (slotIn t (f .opposite)) in
+      let c = innerIn t k (slotIn t (f .next)) in
+      let x = neither a (b || c) h in
+      let y = neither b c (x .1) in
+      λ i.
+      inner-names (turned f) (slotIn t (f .adjacent)) (x .0) i
+      || (inner-names (turned (turned f)) (slotIn t (f .opposite)) (y .0) i || inner-names (turned (turned (turned f))) (slotIn t (f .next)) (y .1) i)
+    where
+      neither : (b c : Bool) → b || c ≡ false → (b ≡ false) × (c ≡ false)
+      neither true c e = absurd (never (sym e))
+      neither false c e = (refl, e)
+
+  module _ (v : Record) (j : ℕ) where
+    pub plain-none : chosenAt t v j ≡ Nothing → false ≡ plainAt t k v j
+    unfolding plainAt
+    plain-none e = ap (plainWith t k v j) (sym e)
+
+    pub plain-face : (o : Point) → chosenAt t v j ≡ At o → (f : Face) → f ≡ faceOn v j o → (x y z : Bool) → x ≡ holds t (adjacentAt v j)
+        → y ≡ innersBefore t k f → z ≡ faceBefore t k f → x && (not y || z) ≡ plainAt t k v j
+    unfolding plainAt
+    plain-face o e f g x y z hx hy hz =
+        (λ i. hx i && (not (hy i) || hz i)) ∙ ap (λ (f : Face). holds t (adjacentAt v j) && (not (innersBefore t k f) || faceBefore t k f)) g
+        ∙ ap (plainWith t k v j) (sym e)
+
+  pub plain-free : slotAt t k ≡ Free → true ≡ plainSlot t k
+  unfolding plainSlot
+  plain-free e = ap (plainIn t k) (sym e)
+
+  pub plain-holds : (v : Record) → slotAt t k ≡ Holds v → plainStar t k v ≡ plainSlot t k
+  unfolding plainSlot
+  plain-holds v e = ap (plainIn t k) (sym e)
+
+pub all-more : (f : ℕ → Bool) (i : ℕ) (p b : Bool) → p ≡ upto i f → b ≡ f i → b && p ≡ upto (i + 1) f
+all-more f i p b e h = let z : i + 1 ≡ suc i = omega arith in (λ i. h i && e i) ∙ ap (λ (n : ℕ). upto n f) (sym z)
 
 -- ---- the three other vertices of a face
 

@@ -1,14 +1,15 @@
 -- What the functions below `counts` promise: each face is counted at the first of the vertices that name it, in the order of slots (FaceLaws), and so
 -- is each side (EdgeLaws), first those at their ends, then those that no end has. `sumBelow` a sum · `earlierOf` the record at a point, if it stands
 -- before a slot · `faced`, `hasNear`, `nearBefore`, `nearCount` the sides at a vertex · `hasFar`, `farBefore`, `acrossElse`, `farCount` those across ·
--- `cornerIs`, `namesFace`, `faceBefore`, `cornerCount` its faces · `slotSides`, `slotFaces`, `slotDegree` what a slot adds.
+-- `cornerIs`, `namesFace`, `faceBefore`, `cornerCount` its faces · `slotSides`, `slotFaces`, `slotDegree` what a slot adds · `innersBefore` vertices with a
+-- star before a slot, `plainAt`, `plainOf` plain corners.
 -- Assumes nothing.
 use mathlib.Core.Path.{_≡_}
 use mathlib.Core.Bool.{Bool, true, false, cond, not, _&&_, _||_}
 use mathlib.Core.List.{List}
 use Prim.Native.Nat.{ℕ, zero, suc, _+_, _-_}
 use lib.Dec.{eqb, ltb}
-use Rattle.laws.specs.Rules.{among}
+use Rattle.laws.specs.Rules.{among, upto}
 use Rattle.lattice.specs.Stars.{adjacentAt}
 use Rattle.lattice.specs.declared.points.Point.{Point}
 use Rattle.lattice.specs.declared.records.Record.{Record}
@@ -16,7 +17,7 @@ use Rattle.lattice.specs.declared.patterns.Spot.{Spot}
 use Rattle.lattice.specs.declared.patterns.Spot.the-variants.{At, Nothing}
 use Rattle.table.specs.Slots.{slotsOf, slotAt}
 use Rattle.table.specs.Search.{samePoint, findOf}
-use Rattle.table.specs.Entries.{heldIn}
+use Rattle.table.specs.Entries.{heldIn, holds}
 use Rattle.table.specs.declared.slots.Slot.{Slot}
 use Rattle.table.specs.declared.slots.Slot.the-variants.{Free, Holds}
 use Rattle.table.specs.declared.probe.Found.{Found}
@@ -215,6 +216,40 @@ starFaces t k v = sumBelow (cornerCount t k v) (v .d)
 unfoldable pub slotFaces : List ℕ → ℕ → ℕ
 slotFaces t k = slotSum (starFaces t k) (slotAt t k)
 
+-- ---- plain corners
+-- the vertex in slot s stands before slot k, and has a star
+unfoldable pub innerIn : List ℕ → ℕ → ℕ → Bool
+innerIn t k s = heldAnd (λ u. ltb 0 (u .d)) (earlierIn t k s)
+
+abbrev pub innersIn : List ℕ → ℕ → ℕ → ℕ → ℕ → Bool
+innersIn t k a o b = innerIn t k a || (innerIn t k o || innerIn t k b)
+
+-- one of the three others of a face does
+abbrev pub innersBefore : List ℕ → ℕ → Face → Bool
+innersBefore t k f = innersIn t k (slotIn t (f .adjacent)) (slotIn t (f .opposite)) (slotIn t (f .next))
+
+-- corner j of v, in slot k, is whole, and if a vertex with a star stands before slot k in its face, one that names the face does
+abbrev pub plainWith : List ℕ → ℕ → Record → ℕ → Spot → Bool
+plainWith t k v j (At o) = holds t (adjacentAt v j) && (not (innersBefore t k (faceOn v j o)) || faceBefore t k (faceOn v j o))
+plainWith t k v j Nothing = false
+
+unfoldable pub plainAt : List ℕ → ℕ → Record → ℕ → Bool
+plainAt t k v j = plainWith t k v j (chosenAt t v j)
+
+abbrev pub plainStar : List ℕ → ℕ → Record → Bool
+plainStar t k v = upto (v .d) (plainAt t k v)
+
+abbrev pub plainIn : List ℕ → ℕ → Slot → Bool
+plainIn t k Free = true
+plainIn t k (Holds v) = plainStar t k v
+
+unfoldable pub plainSlot : List ℕ → ℕ → Bool
+plainSlot t k = plainIn t k (slotAt t k)
+
+-- all corners are
+unfoldable pub plainOf : List ℕ → Bool
+plainOf t = upto (slotsOf t) (plainSlot t)
+
 -- ---- degrees
 -- no record has it
 abbrev pub noDegree : ℕ
@@ -232,6 +267,6 @@ slotDegree t d k = bit (eqb (degreeAt (slotAt t k)) d)
 abbrev pub degrees : ℕ → ℕ → ℕ → ℕ → ℕ → Degrees
 degrees d0 d3 d4 d5 d6 = record { d0 = d0; d3 = d3; d4 = d4; d5 = d5; d6 = d6 }
 
--- ---- faces and sides together
-abbrev pub facesAndSides : ℕ → ℕ → Counted
-facesAndSides f s = record { faces = f; sides = s }
+-- ---- faces, sides and plainness together
+abbrev pub facesAndSides : ℕ → ℕ → Bool → Counted
+facesAndSides f s p = record { faces = f; sides = s; plain = p }

@@ -12,10 +12,11 @@ ghost use Rattle.table.specs.declared.slots.Slot.the-variants.{Holds};
 ghost use Rattle.counts.specs.Counts.{bit, nextPlace, edgesIn, facesIn};
 ghost use Rattle.counts.specs.Strides.{oppositeBy};
 ghost use Rattle.counts.specs.Earlier.{placedOf, Round, facesAndSides, cornerCount, starFaces, slotFaces, sideCount};
-ghost use Rattle.counts.specs.Earlier.{starSides, slotSides};
+ghost use Rattle.counts.specs.Earlier.{starSides, slotSides, plainAt, plainStar, plainSlot, plainOf};
 use crate::choices::Choice;
 use crate::choices::choose;
 use crate::earlier::Placed;
+use crate::earlier::inners_before;
 use crate::earlier::with_slot;
 use crate::faces::Face;
 use crate::faces::face_seen;
@@ -30,10 +31,11 @@ use lattice::adjacent_of;
 use table::Slot;
 use table::read_slot;
 
-// Faces and sides.
+// Faces and sides, and whether the corners are plain: whole, and a face is counted at the first of its vertices that have a star.
 pub struct Counted {
     pub faces: u32,
     pub sides: u32,
+    pub plain: bool,
 }
 
 // 1 where a face is counted, else 0.
@@ -61,7 +63,8 @@ fn count_face(
     requires { ⌜ slotAt (now t) k ≡ Holds v ⌝ }
     requires { ⌜ Round (now t) v j a o b ⌝ }
     requires { ⌜ oppositeBy v j second ≡ At (o .at) ⌝ }
-    ensures { λ r. ⌜ (r ≡ facesAndSides (cornerCount (now (t .entry)) k v j) (sideCount (now (t .entry)) k v j)) × ((r .faces ≤ 1) × (r .sides ≤ 3)) ⌝ }
+    ensures { λ r. ⌜ r ≡ facesAndSides (cornerCount (now (t .entry)) k v j) (sideCount (now (t .entry)) k v j) (plainAt (now (t .entry)) k v j) ⌝ }
+    ensures { λ r. ⌜ (r .faces ≤ 1) × (r .sides ≤ 3) ⌝ }
 {
     let at = v.at;
     let adjacent = a.at;
@@ -78,7 +81,13 @@ fn count_face(
     let seen = face_seen(t, face, a.slot, o.slot, b.slot, fits, k, n);
     let faces = new_face(seen);
     let sides = near + far_count(t, v, j, a, o, b, fits, seen, k, n);
-    Counted { faces, sides }
+    let before = inners_before(t, a.slot, o.slot, b.slot, k, n);
+    let plain = (a.slot < n) & (!before | seen);
+    Counted {
+        faces,
+        sides,
+        plain,
+    }
 }
 
 // What is counted at corner j of v, in slot k, between its adjacent points a and b: its face, the side from v to a, and the two sides across from v.
@@ -87,7 +96,8 @@ fn count_corner(t: &[u8], v: Record, j: u8, a: Placed, b: Placed, k: usize, n: u
     requires { ⌜ Inner v × (j < v .d) ⌝ }
     requires { ⌜ slotAt (now t) k ≡ Holds v ⌝ }
     requires { ⌜ (a ≡ placedOf (now t) (adjacentAt v j)) × (b ≡ placedOf (now t) (adjacentAt v (nextPlace (v .d) j))) ⌝ }
-    ensures { λ r. ⌜ (r ≡ facesAndSides (cornerCount (now (t .entry)) k v j) (sideCount (now (t .entry)) k v j)) × ((r .faces ≤ 1) × (r .sides ≤ 3)) ⌝ }
+    ensures { λ r. ⌜ r ≡ facesAndSides (cornerCount (now (t .entry)) k v j) (sideCount (now (t .entry)) k v j) (plainAt (now (t .entry)) k v j) ⌝ }
+    ensures { λ r. ⌜ (r .faces ≤ 1) × (r .sides ≤ 3) ⌝ }
 {
     match choose(t, v, j, n) {
         Choice::First(o) => count_face(t, v, j, false, a, o, b, k, n),
@@ -95,7 +105,11 @@ fn count_corner(t: &[u8], v: Record, j: u8, a: Placed, b: Placed, k: usize, n: u
         Choice::Neither => {
             let has = has_face(t, v, prev_place(v.d, j), n);
             let sides = near_count(t, v, j, a, has, false, k, n);
-            Counted { faces: 0, sides }
+            Counted {
+                faces: 0,
+                sides,
+                plain: false,
+            }
         }
     }
 }
@@ -105,14 +119,20 @@ fn count_star(t: &[u8], v: Record, k: usize, n: usize) -> Counted
     requires { ⌜ InOrder (now t) × ((n ≡ slotsOf (now t)) × (k < n)) ⌝ }
     requires { ⌜ validOf v ≡ true ⌝ }
     requires { ⌜ slotAt (now t) k ≡ Holds v ⌝ }
-    ensures { λ r. ⌜ (r ≡ facesAndSides (starFaces (now (t .entry)) k v) (starSides (now (t .entry)) k v)) × ((r .faces ≤ 6) × (r .sides ≤ 18)) ⌝ }
+    ensures { λ r. ⌜ r ≡ facesAndSides (starFaces (now (t .entry)) k v) (starSides (now (t .entry)) k v) (plainStar (now (t .entry)) k v) ⌝ }
+    ensures { λ r. ⌜ (r .faces ≤ 6) × (r .sides ≤ 18) ⌝ }
 {
     let d = v.d;
     if d == 0 {
-        return Counted { faces: 0, sides: 0 };
+        return Counted {
+            faces: 0,
+            sides: 0,
+            plain: true,
+        };
     }
     let mut faces = 0;
     let mut sides = 0;
+    let mut plain = true;
     let mut a = with_slot(t, adjacent_of(v, 0), n);
     let mut j = 0;
     while j < d {
@@ -120,19 +140,29 @@ fn count_star(t: &[u8], v: Record, k: usize, n: usize) -> Counted
         let c = count_corner(t, v, j, a, b, k, n);
         faces += c.faces;
         sides += c.sides;
+        plain = c.plain & plain;
         a = b;
         j += 1;
     }
-    Counted { faces, sides }
+    Counted {
+        faces,
+        sides,
+        plain,
+    }
 }
 
 // What is counted in slot k.
 fn count_slot(t: &[u8], k: usize, n: usize) -> Counted
     requires { ⌜ InOrder (now t) × ((n ≡ slotsOf (now t)) × (k < n)) ⌝ }
-    ensures { λ r. ⌜ (r ≡ facesAndSides (slotFaces (now (t .entry)) k) (slotSides (now (t .entry)) k)) × ((r .faces ≤ 6) × (r .sides ≤ 18)) ⌝ }
+    ensures { λ r. ⌜ r ≡ facesAndSides (slotFaces (now (t .entry)) k) (slotSides (now (t .entry)) k) (plainSlot (now (t .entry)) k) ⌝ }
+    ensures { λ r. ⌜ (r .faces ≤ 6) × (r .sides ≤ 18) ⌝ }
 {
     match read_slot(t, k) {
-        Slot::Free => Counted { faces: 0, sides: 0 },
+        Slot::Free => Counted {
+            faces: 0,
+            sides: 0,
+            plain: true,
+        },
         Slot::Holds(v) => count_star(t, v, k, n),
     }
 }
@@ -140,16 +170,22 @@ fn count_slot(t: &[u8], k: usize, n: usize) -> Counted
 // The different faces of a table, and their different sides. In time linear in the slots, as long as the searches are short.
 pub fn count_corners(t: &[u8], n: usize) -> Counted
     requires { ⌜ InOrder (now t) × (n ≡ slotsOf (now t)) ⌝ }
-    ensures { λ r. ⌜ r ≡ facesAndSides (facesIn (now (t .entry))) (edgesIn (now (t .entry))) ⌝ }
+    ensures { λ r. ⌜ r ≡ facesAndSides (facesIn (now (t .entry))) (edgesIn (now (t .entry))) (plainOf (now (t .entry))) ⌝ }
 {
     let mut faces = 0;
     let mut sides = 0;
+    let mut plain = true;
     let mut k = 0;
     while k < n {
         let s = count_slot(t, k, n);
         faces += s.faces;
         sides += s.sides;
+        plain = s.plain & plain;
         k += 1;
     }
-    Counted { faces, sides }
+    Counted {
+        faces,
+        sides,
+        plain,
+    }
 }

@@ -10,6 +10,7 @@ ghost use Rattle.counts.specs.Counts.{nextPlace, turned};
 ghost use Rattle.counts.specs.Strides.{ToldOf};
 ghost use Rattle.counts.specs.Earlier.{spotIs, cornerIs, namesFace, slotIn, faceIn, faceBefore};
 use crate::earlier::earlier;
+use crate::earlier::inners_before;
 use crate::fits::Fits;
 use crate::fits::told_earlier;
 use lattice::Point;
@@ -135,7 +136,7 @@ fn face_before(
     face_in(t, turn(third), next, k, n)
 }
 
-// The same where some of them are known to name it by their strides.
+// The same where some of them are known to name it by their strides. Only those that have a star can.
 pub fn face_seen(
     t: &[u8],
     f: Face,
@@ -153,6 +154,9 @@ pub fn face_seen(
 {
     if told_earlier(fits, adjacent, opposite, next, k) {
         return true;
+    }
+    if !inners_before(t, adjacent, opposite, next, k, n) {
+        return false;
     }
     face_before(t, f, adjacent, opposite, next, k, n)
 }

@@ -51,15 +51,40 @@ fn fit_in(t: &[u8], s: usize, there: bool, x: u8, y: u8, z: u8, n: usize) -> u8
     }
 }
 
-// The same of all three, in slots a, o and b, by the strides from v to a, to b, and from these to o.
-fn fits_by(t: &[u8], a: usize, o: usize, b: usize, va: u8, vb: u8, ao: u8, bo: u8, n: usize) -> Fits
+// The same where it is asked for, else 0.
+fn fit_asked(t: &[u8], asked: bool, s: usize, there: bool, x: u8, y: u8, z: u8, n: usize) -> u8
+    requires { ⌜ InOrder (now t) × (n ≡ slotsOf (now t)) ⌝ }
+    ensures { λ r. ⌜ FitThere (now (t .entry)) s there x y z r ⌝ }
+{
+    if !asked {
+        return 0;
+    }
+    fit_in(t, s, there, x, y, z, n)
+}
+
+// The same of all three, in slots a, o and b, by the strides from v, in slot k, to a, to b, and from these to o. Of a and of b it is asked only where
+// that is worth something: where they stand before v, or nothing is known of o.
+fn fits_by(
+    t: &[u8],
+    a: usize,
+    o: usize,
+    b: usize,
+    va: u8,
+    vb: u8,
+    ao: u8,
+    bo: u8,
+    k: usize,
+    n: usize,
+) -> Fits
     requires { ⌜ InOrder (now t) × (n ≡ slotsOf (now t)) ⌝ }
     requires { ⌜ ((va ≤ 240) × (vb ≤ 240)) × ((ao ≤ 240) × (bo ≤ 240)) ⌝ }
     ensures { λ r. ⌜ FitsBy (now (t .entry)) a o b va vb ao bo r ⌝ }
 {
-    let adjacent = fit_in(t, a, b < n, ao, back(va), back(bo), n);
     let opposite = fit_in(t, o, true, back(bo), back(ao), back(vb), n);
-    let next = fit_in(t, b, a < n, back(vb), bo, va, n);
+    let lone = opposite == 0;
+    let adjacent = fit_asked(t, lone | (a < k), a, b < n, ao, back(va), back(bo), n);
+    let told = ((opposite == 2) & (o < k)) | (adjacent == 2);
+    let next = fit_asked(t, lone | ((b < k) & !told), b, a < n, back(vb), bo, va, n);
     Fits {
         adjacent,
         opposite,
@@ -107,7 +132,7 @@ pub fn fits_of(
             next: 0,
         };
     }
-    fits_by(t, a.slot, o.slot, b.slot, va, vb, ao, bo, n)
+    fits_by(t, a.slot, o.slot, b.slot, va, vb, ao, bo, k, n)
 }
 
 // Whether one of the three, in these slots, stands before slot k and is known to name the face.

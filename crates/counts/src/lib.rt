@@ -8,6 +8,7 @@ ghost use mathlib.Core.Path.{_≡_};
 ghost use Rattle.table.specs.Slots.{slotsOf};
 ghost use Rattle.table.specs.Order.{InOrder};
 ghost use Rattle.counts.specs.Counts.{countsOf};
+ghost use Rattle.counts.specs.Earlier.{plainOf};
 
 mod across;
 mod choices;
@@ -25,6 +26,7 @@ use crate::degrees::count_degrees;
 pub use choices::Choice;
 pub use choices::choose;
 pub use earlier::Placed;
+pub use earlier::inner_before;
 pub use earlier::with_slot;
 pub use faces::Face;
 pub use faces::face_seen;
@@ -45,21 +47,29 @@ pub struct Counts {
     pub d6: u32,
 }
 
-// The numbers of a table in order, of n slots. In time linear in the slots, as long as the searches are short.
-pub fn counts_of(t: &[u8], n: usize) -> Counts
+// What is counted, and whether every corner of the table is plain.
+pub struct Surveyed {
+    pub counts: Counts,
+    pub plain: bool,
+}
+
+// The numbers of a table in order, of n slots, and whether its corners are plain: each has its adjacent point and its opposite in the table, and a face is
+// counted at the first of its vertices that have a star. In time linear in the slots, as long as the searches are short.
+pub fn survey(t: &[u8], n: usize) -> Surveyed
     requires { ⌜ InOrder (now t) × (n ≡ slotsOf (now t)) ⌝ }
-    ensures { λ r. ⌜ r ≡ countsOf (now (t .entry)) ⌝ }
+    ensures { λ r. ⌜ (r .counts ≡ countsOf (now (t .entry))) × (r .plain ≡ plainOf (now (t .entry))) ⌝ }
 {
     let corners = count_corners(t, n);
     let edges = corners.sides;
     let faces = corners.faces;
+    let plain = corners.plain;
     let degrees = count_degrees(t, n);
     let d0 = degrees.d0;
     let d3 = degrees.d3;
     let d4 = degrees.d4;
     let d5 = degrees.d5;
     let d6 = degrees.d6;
-    Counts {
+    let counts = Counts {
         vertices: d0 + d3 + d4 + d5 + d6,
         edges,
         faces,
@@ -68,5 +78,14 @@ pub fn counts_of(t: &[u8], n: usize) -> Counts
         d4,
         d5,
         d6,
-    }
+    };
+    Surveyed { counts, plain }
+}
+
+// The numbers alone.
+pub fn counts_of(t: &[u8], n: usize) -> Counts
+    requires { ⌜ InOrder (now t) × (n ≡ slotsOf (now t)) ⌝ }
+    ensures { λ r. ⌜ r ≡ countsOf (now (t .entry)) ⌝ }
+{
+    survey(t, n).counts
 }

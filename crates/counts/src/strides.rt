@@ -69,17 +69,39 @@ pub fn back(c: u8) -> u8
     if c % 12 < 6 { c + 6 } else { c - 6 }
 }
 
-// The place of a star's row that has this stride, or d.
+// A direction that has gone round once at most.
+fn round(e: u8) -> u8
+    requires { ⌜ e < 24 ⌝ }
+    ensures { λ r. ⌜ r < 12 ⌝ }
+{
+    if e < 12 { e } else { e - 12 }
+}
+
+// The place of a star of degree d that has a direction at orientation 0, if one has: it only guides the search for a stride.
+fn place_near(d: u8, e: u8) -> u8
+    requires { ⌜ e < 12 ⌝ }
+{
+    let places = row(
+        d,
+        0xfff2fff1fff0,
+        0xff3f2ff1fff0,
+        0xff4f3f2f1ff0,
+        0xf5f4f3f2f1f0,
+    );
+    ((places >> (4 * e)) % 16) as u8
+}
+
+// The place of a star's row that has this stride, or d. It is right whatever place is tried.
 fn place_of(row: u64, d: u8, k: u8, n: u8, c: u8) -> u8
     requires { ⌜ (d ≤ 6) × ((k < 12) × (n ≤ 12)) ⌝ }
     ensures { λ r. ⌜ (r ≤ d) × (r < d → strideOf row r k n ≡ c) ⌝ }
 {
-    let mut i = 0;
-    while i < d {
-        if stride(row, i, k, n) == c {
-            return i;
-        }
-        i += 1;
+    let i = place_near(d, round(c % 12 + 12 - k));
+    if d <= i {
+        return d;
+    }
+    if stride(row, i, k, n) == c {
+        return i;
     }
     d
 }

@@ -46,7 +46,8 @@ module _ (cs ps : List ℤ) where
       m : ℕ
       m = natAbs (getD ps (3 * i + 2) (pos 0))
 
-      go : (c : Bool) → unless c (meshAfter 3 t) (subdivideOf t a b m) .number ≡ 0 → GrownFrom (unless c (meshAfter 3 t) (subdivideOf t a b m) .bytes) cs (S + 1)
+      go : (c : Bool) → unless c (meshAfter 3 t) (subdivideOf t a b m) .number ≡ 0
+          → GrownFrom (unless c (meshAfter 3 t) (subdivideOf t a b m) .bytes) cs (S + 1)
       go true z = divided t cs S K a b m z
       go false z = absurd (omega arith)
 

@@ -28,7 +28,8 @@ pub mod Findings
 pub mod Search
 -- document 02's ticket 4: a vertex brought to degree 6
 pub mod Bring
--- document 02's ticket 5: OFF and OBJ files
+-- document 02's ticket 5: OFF and OBJ files, whose faces turn left
+pub mod Turning
 pub mod Viewer
 -- document 02's ticket 7: no new point is deeper than 6, and no call answers 6
 pub mod Unused

@@ -1,8 +1,8 @@
 -- Document 02, ticket 5: what the OFF and the OBJ file are, over the definition that the promises of `write_off` and `write_obj` cite. What the two share is
 -- said once, of any style: the calls are those of `offStyle` and `objStyle` (`off-is`, `obj-is`).
 -- `view-number`, `view-untouched` "Refusals: 1, 7, 13", and the output unchanged · `torn-query`, `query-torn` 7 exactly where the faces query of some vertex
--- answers 7 · `Viewed`, `view-done` accepted: what stands in the output · `EachFace`, `each-face` every face of the mesh once, counter-clockwise as the star
--- has it, the smallest number first, rising · `Placed`, `number-place` numbers are places in the full file · `Near`, `near` each coordinate within half of a
+-- answers 7 · `Viewed`, `view-done` accepted: what stands in the output · `EachFace`, `each-face` every face of the mesh once, counter-clockwise
+-- (Turning), the smallest number first, rising · `Placed`, `number-place` numbers are places in the full file · `Near`, `near` each coordinate within half of a
 -- ten-thousandth, and no other so near; `zero-plain` "zero has no sign" · `Head`, `off-head`, `obj-head` the counts are the census's V, F and E.
 -- Assumes nothing.
 use mathlib.Core.Path.{_≡_, refl, sym, ap, _∙_, subst}
@@ -36,14 +36,18 @@ use Rattle.sorting.specs.SortLaws.{Rising, sort-length}
 use Rattle.writers.specs.Files.{before, sorted, OutputAfter, outputAfter, putOf}
 use Rattle.coordinates.specs.Coordinates.{acrossOf, nearX, nearY, coordinate, decimals, flat, blank, positionText}
 use Rattle.coordinates.specs.NearLaws.{InsideX, InsideY, x-inside, y-inside, x-one, y-one, x-zero, y-zero}
-use Rattle.viewer.specs.Viewer.{offStyle, objStyle, howMany, meshFaces, cornersOf, leastOf, faceCorners, headText, vertexMark, vertexText, faceText, texts}
-use Rattle.viewer.specs.Viewer.{viewerFile, tornAt, tornOf, viewOf, writeOffOf, writeObjOf}
-use Rattle.viewer.specs.Once.{wholeCorner, torn-star}
+use Rattle.mesh_faces.specs.MeshFaces.{meshFaces}
+use Rattle.viewer.specs.Viewer.{offStyle, objStyle, howMany, cornersOf, leastOf, faceCorners, headText, vertexMark, vertexText, faceText, texts}
+use Rattle.mesh_faces.specs.MeshFaces.{tornAt, tornOf}
+use Rattle.viewer.specs.Viewer.{viewerFile, viewOf, writeOffOf, writeObjOf}
+use Rattle.mesh_faces.specs.Once.{wholeCorner, torn-star}
 use Rattle.viewer.specs.FaceLaws.{Differ, Least, Rises, mesh-face, face-mesh, mesh-apart, least-round, least-first, corners-rise, corners-once, corners-many}
 use Rattle.viewer.specs.declared.styles.Style.{Style}
 use Rattle.viewer.specs.declared.corners.Corners.{Corners}
 use Rattle.demands.specs.Numbers.{Rule, _⇒_, firstOf, faces-number, queryRules}
 use Rattle.demands.specs.Forms.{own-form, valid-normal}
+use Rattle.demands.specs.Turning.{LeftFace, face-left}
+pub use Rattle.demands.specs.Turning.{Left, LeftRound, left-round}
 pub use Rattle.viewer.specs.Places.{Placed, number-place}
 
 -- ---- the faces
@@ -57,8 +61,10 @@ pub record EachFace (t : List ℕ) (qs : List Corners) : Type 0 where
   pub different : Rising Differ faces
   -- the lines are theirs, each as often
   pub once : (test : Corners → Bool) → howMany test qs ≡ howMany (λ f. test (leastOf t f)) faces
-  -- "counter-clockwise": a line has the numbers of the face in its own order round, that of document 01's patterns, read from one of its vertices on
+  -- a line has the numbers of the face in its own order round, read from one of its vertices on
   pub turned : (f : Face) → (g : Face) × SameRound f g × (leastOf t f ≡ cornersOf t g)
+  -- "counter-clockwise": that order turns left at each vertex, from whichever it is read (`left-round`)
+  pub left : (f : Face) → List·Memᴰ f faces → LeftFace f
   -- "smallest first"
   pub smallest : (f : Face) → Least (leastOf t f)
   -- "faces rise by their numbers"
@@ -72,6 +78,7 @@ each-face t o untorn = record {
   different = mesh-apart t;
   once = corners-once t;
   turned = least-round t;
+  left = λ f m. let (v, n, k) = mesh-face t f m in face-left t o v n f k;
   smallest = λ f. least-first (cornersOf t f);
   rise = corners-rise t o untorn;
 }

@@ -1,9 +1,10 @@
 -- Laws that every floor cites; each file opens with an index of what it holds.
--- whole numbers for `omega`: Parts, Sizes, Linear, Multiples, Residue, Thirds
+-- whole numbers for `omega`: Parts, Sizes, Linear, Multiples, Products, Residue, Thirds
 pub mod Parts
 pub mod Sizes
 pub mod Linear
 pub mod Multiples
+pub mod Products
 pub mod Residue
 pub mod Thirds
 -- what the machine makes of them: Machine, Flags, Signs

@@ -10,7 +10,9 @@ pub mod Examples
 pub mod Reading
 -- their laws, each file over the one before
 pub mod SlotLaws
+pub mod PairLaws
 pub mod SearchLaws
+pub mod HomeLaws
 pub mod OrderLaws
 pub mod EntryLaws
 pub mod ChangeLaws

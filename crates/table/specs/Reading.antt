@@ -1,10 +1,11 @@
--- How the code reads a slot, word by word: what the promises below `read_slot` cite.
--- `Word` a word read from four bytes · `allOnes` three words that are twelve bytes of 255 (SlotLaws: `free-words`).
+-- How the code reads a slot, word by word, and a weight: what the promises below `read_slot`, `look` and `home` cite.
+-- `Word` a word read from four bytes · `allOnes` three words that are twelve bytes of 255 (SlotLaws: `free-words`) ·
+-- `pairOf` two words as one number, `First` those that a slot begins with · `over` more than any weight.
 -- Assumes nothing.
 use mathlib.Core.Path.{_≡_}
 use mathlib.Core.Bool.{Bool, _&&_}
 use mathlib.Core.List.{List}
-use Prim.Native.Nat.{ℕ, _+_, _<_}
+use Prim.Native.Nat.{ℕ, _+_, _*_, _<_}
 use lib.Dec.{eqb}
 use lib.ListN.{getD}
 use Rattle.laws.specs.Words.{wordAt}
@@ -19,3 +20,17 @@ pub record Word (t : List ℕ) (p r : ℕ) : Type 0 where
 
 abbrev pub allOnes : ℕ → ℕ → ℕ → Bool
 allOnes a b c = (eqb a 4294967295 && eqb b 4294967295) && eqb c 4294967295
+
+-- two words as one number, the first the low one
+abbrev pub pairOf : ℕ → ℕ → ℕ
+pairOf a b = a + 4294967296 * b
+
+-- r is the first two words from p on, as one number
+pub record First (t : List ℕ) (p r : ℕ) : Type 0 where
+  pub low : Word t p (wordAt t p)
+  pub high : Word t (p + 4) (wordAt t (p + 4))
+  pub is : r ≡ pairOf (wordAt t p) (wordAt t (p + 4))
+
+-- 65,536 times 2 to the 32: a multiple of the most slots that is over every weight
+abbrev pub over : ℕ
+over = 281474976710656

@@ -1,5 +1,6 @@
 -- The laws of the slots. What stands above cites these and never opens a byte.
--- `table-slots`, `slots-table`, `test-table` the fit of a length, `lengths-..` of two · `free-words`, `slot-free`, `slot-held` a slot read word by word ·
+-- `table-slots`, `slots-table`, `test-table` the fit of a length, `lengths-..` of two · `free-first`, `free-words`, `slot-free`,
+-- `slot-held` a slot read word by word ·
 -- `slot-written` one written in three parts · `put-same`, `put-other`, `put-length` a slot written and read back · `free-none`, `free-more` a count of
 -- free slots · `cleared-free` · `home-below` · `slot-same` equal bytes, equal slots.
 -- Assumes nothing.
@@ -111,6 +112,20 @@ module _ (t : List ℕ) (p w : ℕ) (W : Word t p w) where
   bytes-ones : getD t p 0 ≡ 255 → getD t (p + 1) 0 ≡ 255 → getD t (p + 2) 0 ≡ 255 → getD t (p + 3) 0 ≡ 255 → w ≡ 4294967295
   bytes-ones e0 e1 e2 e3 = word-bytes ∙ rw (e0, e1, e2, e3)
 
+free-byte : (t : List ℕ) (p : ℕ) → freeAt t p ≡ true → (x k : ℕ) → x ≡ p + k → k < slotWidth → _≡_ {A = ℕ} (getD t x 0) 255
+unfolding freeAt
+free-byte t p h x k e l =
+    ap (λ (y : ℕ). getD t y 0) e ∙ eqb-true (getD t (p + k) 0) 255 (upto-each (λ j. eqb (getD t (p + j) 0) 255) slotWidth k h l)
+
+-- a free slot begins with two words of ones
+pub free-first : (t : List ℕ) (p a b : ℕ) → Word t p a → Word t (p + 4) b → freeAt t p ≡ true → (a ≡ 4294967295) × (b ≡ 4294967295)
+free-first t p a b A B h =
+    let e = free-byte t p h in (
+      bytes-ones t p a A (e p 0 (omega arith) (omega arith)) (e (p + 1) 1 refl (omega arith)) (e (p + 2) 2 refl (omega arith)) (e (p + 3) 3 refl (omega arith)),
+      bytes-ones t (p + 4) b B (e (p + 4) 4 refl (omega arith)) (e (p + 4 + 1) 5 (omega arith) (omega arith))
+          (e (p + 4 + 2) 6 (omega arith) (omega arith)) (e (p + 4 + 3) 7 (omega arith) (omega arith)),
+    )
+
 module _ (t : List ℕ) (p a b c : ℕ) (A : Word t p a) (B : Word t (p + 4) b) (C : Word t (p + 8) c) where
   at : (x k : ℕ) → x ≡ p + k → getD t x 0 ≡ getD t (p + k) 0
   at x k e = ap (λ (y : ℕ). getD t y 0) e
@@ -138,17 +153,11 @@ module _ (t : List ℕ) (p a b c : ℕ) (A : Word t p a) (B : Word t (p + 4) b) 
       )
 
   free-all : freeAt t p ≡ true → allOnes a b c ≡ true
-  unfolding freeAt
   free-all h =
-      let e : (x k : ℕ) → x ≡ p + k → k < slotWidth → _≡_ {A = ℕ} (getD t x 0) 255 = λ x k q l. at x k q
-      ∙ eqb-true (getD t (p + k) 0) 255 (upto-each (λ j. eqb (getD t (p + j) 0) 255) slotWidth k h l) in
-      let ea = bytes-ones t p a A (e p 0 (omega arith) (omega arith))
-      (e (p + 1) 1 refl (omega arith)) (e (p + 2) 2 refl (omega arith)) (e (p + 3) 3 refl (omega arith)) in
-      let eb = bytes-ones t (p + 4) b B (e (p + 4) 4 refl (omega arith))
-      (e (p + 4 + 1) 5 (omega arith) (omega arith)) (e (p + 4 + 2) 6 (omega arith) (omega arith)) (e (p + 4 + 3) 7 (omega arith) (omega arith)) in
-      let ec = bytes-ones t (p + 8) c C (e (p + 8) 8 refl (omega arith))
-      (e (p + 8 + 1) 9 (omega arith) (omega arith)) (e (p + 8 + 2) 10 (omega arith) (omega arith)) (e (p + 8 + 3) 11 (omega arith) (omega arith)) in
-      rw (ea, eb, ec)
+      let ab = free-first t p a b A B h in
+      let ec = bytes-ones t (p + 8) c C (free-byte t p h (p + 8) 8 refl (omega arith)) (free-byte t p h (p + 8 + 1) 9 (omega arith) (omega arith))
+      (free-byte t p h (p + 8 + 2) 10 (omega arith) (omega arith)) (free-byte t p h (p + 8 + 3) 11 (omega arith) (omega arith)) in
+      rw (ab .0, ab .1, ec)
 
   -- twelve bytes of 255 are three words of ones
   pub free-words : freeAt t p ≡ allOnes a b c

@@ -7,7 +7,7 @@ ghost use lib.Seq.{sets};
 ghost use mir.Syntax.{w32};
 ghost use mir.Val.{toZ, ofZ};
 ghost use Rattle.laws.specs.Words.{wordBytes};
-ghost use Rattle.table.specs.Reading.{Word};
+ghost use Rattle.table.specs.Reading.{Word, pairOf};
 
 // The greatest word, and the first that stands for a negative number.
 const LAST: u32 = 4294967295;
@@ -27,6 +27,13 @@ pub fn word(t: &[u8], p: usize) -> u32
     ensures { λ r. ⌜ Word (now (t .entry)) p r ⌝ }
 {
     wide(t[p]) + 256 * wide(t[p + 1]) + 65536 * wide(t[p + 2]) + 16777216 * wide(t[p + 3])
+}
+
+// Two words as one number, the first the low one: the compiler reads both at once.
+pub fn pair(a: u32, b: u32) -> u64
+    ensures { λ r. ⌜ r ≡ pairOf a b ⌝ }
+{
+    (a as u64) + 4294967296 * (b as u64)
 }
 
 // A word as a signed number. Two branches, since a cast asks that the number fits.

@@ -2,14 +2,18 @@
 ghost use mathlib.Core.Path.{_≡_};
 ghost use mathlib.Core.Bool.{true};
 ghost use Prim.Native.Nat.{_<_};
-ghost use Rattle.table.specs.Slots.{Table, freeSlots};
+ghost use Rattle.table.specs.Slots.{Table, slotAt, freeSlots};
+ghost use Rattle.table.specs.Search.{meets, findOf};
+ghost use Rattle.table.specs.declared.probe.Meet.the-variants.{Hit};
 ghost use Rattle.table.specs.Order.{isAt, placedAt, allPlaced, inOrderOf};
+use crate::home::home;
 use crate::probe::Found;
-use crate::probe::find;
+use crate::probe::find_from;
 use crate::slots::Slot;
 use crate::slots::one_if_free;
 use crate::slots::read_slot;
 use crate::slots::slots_of;
+use lattice::Point;
 use lattice::valid;
 
 // The search ended at slot i.
@@ -23,6 +27,19 @@ fn is_at(f: Found, i: usize) -> bool
     }
 }
 
+// The search for p ends at slot i, which holds it: where that is its home, nothing has to be looked at.
+fn found_at(t: &[u8], p: Point, i: usize, n: usize) -> bool
+    requires { ⌜ Table (now t) n × (i < n) ⌝ }
+    requires { ⌜ meets (slotAt (now t) i) p ≡ Hit ⌝ }
+    ensures { λ v. ⌜ v ≡ isAt (findOf (now (t .entry)) p) i ⌝ }
+{
+    let h = home(p, n);
+    if h == i {
+        return true;
+    }
+    is_at(find_from(t, p, h, n), i)
+}
+
 // Slot i is free, or holds a valid record that the search for its point finds there.
 fn placed(t: &[u8], i: usize, n: usize) -> bool
     requires { ⌜ Table (now t) n × (i < n) ⌝ }
@@ -34,7 +51,7 @@ fn placed(t: &[u8], i: usize, n: usize) -> bool
         Slot::Holds(r) => {
             if valid(r) {
                 let q = r.at;
-                is_at(find(t, q, n), i)
+                found_at(t, q, i, n)
             } else {
                 false
             }

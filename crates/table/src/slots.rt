@@ -21,14 +21,14 @@ pub enum Slot {
 }
 
 // The bytes of a slot, and how many slots a table may have.
-const SLOT_WIDTH: usize = 12;
+pub const SLOT_WIDTH: usize = 12;
 
 const FEWEST: usize = 16;
 
-const MOST: usize = 65536;
+pub const MOST: usize = 65536;
 
 // Four bytes of 255.
-const ONES: u32 = 4294967295;
+pub const ONES: u32 = 4294967295;
 
 // The number of slots, or 0 where the length doesn't fit.
 pub fn slots_of(t: &[u8]) -> usize

@@ -1,5 +1,6 @@
 -- Lines written from the last back, while the keys of those still to come stand sorted at the beginning of the bytes: over any line `g v` of a key v.
--- `texts-append`, `texts-map`, `texts-sort` lines one after the other, as long in any order · `texts-least` each at least w bytes · `Left` k keys are left,
+-- `texts-append`, `texts-map`, `texts-sort` lines one after the other, as long in any order · `texts-least`, `texts-most` each at least,
+-- or at most, w bytes · `firsts-start`, `firsts-more`, `firsts-fewer` the lines of the first keys · `Left` k keys are left,
 -- the lines of the others stand from `at` on: `left-start`, `left-top`, `left-place`, `left-room`, `left-step`, `left-end`.
 -- Assumes nothing.
 use mathlib.Core.Path.{_≡_, refl, sym, ap, _∙_, subst}
@@ -7,11 +8,12 @@ use mathlib.Core.Bool.{Bool, true, false, cond}
 use mathlib.Core.List.{List, [], _∷_, _++_, map, append-assoc, append-nil, List·Memᴰ, List·Memᴰ·head, List·Memᴰ·tail}
 use Prim.Native.Nat.{ℕ, zero, suc, _+_, _*_, _≤_, _<_}
 use native.Mathlib.Omega.{arith}
+use native.Mathlib.Decide.{decLt}
 use native.Mathlib.Nat.{mul-le-mul-right}
 use lib.ListN.{length, take, drop, length-append}
 use lib.Seq.{sets, sets-eq, drop-at, drop-cons, drop-length, take-suc, take-length, length-take-le, length-sets}
 use Rattle.laws.specs.Stores.{Wrote}
-use Rattle.sorting.specs.Sorting.{insertBy, sortBy, keyWidth, keyIn}
+use Rattle.sorting.specs.Sorting.{insertBy, sortBy, keyWidth, keyIn, firsts}
 use Rattle.sorting.specs.Tally.{nth}
 use Rattle.sorting.specs.Keys.{key-before}
 use Rattle.viewer.specs.Viewer.{texts}
@@ -69,6 +71,42 @@ module _ {A : Type 0} (g : A → List ℕ) where
       let b = h x in
       let c = length-append (g x) (texts g xs) in
       omega arith
+
+  -- each at most w bytes
+  pub texts-most : (w : ℕ) (xs : List A) → ((x : A) → List·Memᴰ x xs → length (g x) ≤ w) → length (texts g xs) ≤ w * length xs
+  unfolding texts
+  texts-most w [] h = omega arith
+  texts-most w (x ∷ xs) h =
+      let a = texts-most w xs (λ y m. h y (List·Memᴰ·tail m)) in
+      let b = h x (List·Memᴰ·head refl) in
+      let c = length-append (g x) (texts g xs) in
+      omega arith
+
+-- the lines of the first keys
+module _ (g : ℕ → List ℕ) (f : ℕ → ℕ) where
+  pub firsts-start : 0 ≡ length (texts g (firsts f 0))
+  unfolding texts firsts
+  firsts-start = refl
+
+  pub firsts-more : (i : ℕ) → length (texts g (firsts f (i + 1))) ≡ length (texts g (firsts f i)) + length (g (f i))
+  unfolding firsts
+  firsts-more i =
+      let z : i + 1 ≡ suc i = omega arith in
+      ap (λ (n : ℕ). length (texts g (firsts f n))) z ∙ texts-long g (firsts f i) (f i ∷ [])
+      ∙ ap (λ (l : List ℕ). length (texts g (firsts f i)) + length l) (texts-one g (f i))
+
+  pub firsts-fewer : (i k : ℕ) → i ≤ k → length (texts g (firsts f i)) ≤ length (texts g (firsts f k))
+  firsts-fewer i zero h = let e : i ≡ 0 = omega arith in omega (arith, ap (λ (n : ℕ). length (texts g (firsts f n))) e)
+  firsts-fewer i (suc k) h = go (decLt k i) (λ l. firsts-fewer i k l)
+    where
+      go : Dec (k < i) → (i ≤ k → length (texts g (firsts f i)) ≤ length (texts g (firsts f k)))
+          → length (texts g (firsts f i)) ≤ length (texts g (firsts f (suc k)))
+      go (yes l) ih = let e : i ≡ suc k = omega arith in omega (arith, ap (λ (n : ℕ). length (texts g (firsts f n))) e)
+      go (no l) ih =
+          let a = ih (omega arith) in
+          let b = firsts-more k in
+          let z : k + 1 ≡ suc k = omega arith in
+          omega (arith, a, b, ap (λ (n : ℕ). length (texts g (firsts f n))) z)
 
 pub texts-map : {A B : Type 0} (g : B → List ℕ) (f : A → B) (xs : List A) → texts g (map f xs) ≡ texts (λ x. g (f x)) xs
 unfolding texts

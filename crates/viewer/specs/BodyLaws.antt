@@ -15,6 +15,7 @@ use Rattle.laws.specs.Words.{wordAt}
 use Rattle.lattice.specs.declared.records.Record.{Record}
 use Rattle.table.specs.Slots.{slotsOf}
 use Rattle.table.specs.Order.{InOrder}
+use Rattle.counts.specs.Counts.{facesIn}
 use Rattle.counts.specs.declared.faces.Face.{Face}
 use Rattle.sorting.specs.Sorting.{sortBy, keyWidth, keyIn, keysIn, Sorts}
 use Rattle.sorting.specs.SortLaws.{sort-length}
@@ -24,14 +25,15 @@ use Rattle.sorting.specs.KeyLaws.{firsts-length, firsts-at}
 use Rattle.writers.specs.Files.{sorted}
 use Rattle.writers.specs.Kept.{recordKeyed}
 use Rattle.writers.specs.KeptLaws.{Filled}
-use Rattle.viewer.specs.Viewer.{vertexText, texts, meshFaces, tornOf}
+use Rattle.mesh_faces.specs.MeshFaces.{meshFaces, tornOf}
+use Rattle.viewer.specs.Viewer.{vertexText, texts}
 use Rattle.viewer.specs.Packed.{unpacked}
 use Rattle.viewer.specs.Ranks.{keysOf, ordered, Stand}
-use Rattle.viewer.specs.Stored.{Stored, stored-none, stored-one, stored-then}
+use Rattle.viewer.specs.Stored.{Stored, stored-none, stored-one, stored-then, Guessed}
 use Rattle.viewer.specs.Backward.{texts-least, texts-sort}
 use Rattle.viewer.specs.Lines.{faceKey, keyLine, vertexLine, Queue, face-least, vertex-least, vertices-sorted, faces-sorted, keys-append, keys-long}
 use Rattle.viewer.specs.FaceLaws.{mesh-four}
-use Rattle.viewer.specs.CallLaws.{vertexPart, facePart, standing-records}
+use Rattle.viewer.specs.CallLaws.{vertexPart, facePart, standing-records, faces-many}
 use Rattle.viewer.specs.declared.styles.Style.{Style}
 
 -- the first k keys as a list, where they are known one by one
@@ -134,6 +136,12 @@ module _ (s : Style) (ks o : List ℕ) (k end : ℕ) (q : Queue s ks o k end) wh
       room = omega (arith, w .long, q .room);
     }
 
+    -- the lines are as long
+    pub queue-lines : length (texts (keyLine s) (keysIn o′ k)) ≡ length (texts (keyLine s) ks)
+    queue-lines =
+        ap (λ (l : List ℕ). length (texts (keyLine s) l)) (w .keys) ∙ texts-sort (keyLine s) ltb (keysIn o k)
+        ∙ ap (λ (l : List ℕ). length (texts (keyLine s) l)) (keys-are o ks k (q .count) (q .keys))
+
     pub queue-past : drop end o′ ≡ drop end o
     queue-past = w .past end queue-keys
 
@@ -178,7 +186,7 @@ pub record Body (s : Style) (t : List ℕ) (start total : ℕ) (out : List ℕ) 
   pub room : total ≤ length out
 
 module _ {s : Style} {t : List ℕ} {start total : ℕ} {out : List ℕ} (b : Body s t start total out) where
-  many : 21 * length (keysOf t) ≤ start
+  pub many : 21 * length (keysOf t) ≤ start
   many = omega (arith, vertices-least s t (b .order), b .vertices)
 
   more : start + 10 * length (meshFaces t) ≤ total
@@ -187,12 +195,30 @@ module _ {s : Style} {t : List ℕ} {start total : ℕ} {out : List ℕ} (b : Bo
   pub body-keys : keyWidth * length (keysOf t) ≤ length out
   body-keys = omega (arith, many, more, b .room)
 
-  module _ {o₁ o₂ : List ℕ} {k : ℕ} (f : Filled out (keysOf t) o₁ k) (w : Sorts o₁ k o₂) where
-    pub body-stand : Stand t o₂ k
-    body-stand = stand-made t out o₁ o₂ k f w (omega (arith, body-keys, f .count))
+  pub body-least : start + 10 * facesIn t ≤ total
+  body-least = omega (arith, more, faces-many t)
 
+  -- the vertices' keys stand sorted, and the bytes past the file are as they were
+  pub record Arranged (o₂ : List ℕ) (k : ℕ) : Type 0 where
+    pub count : k ≡ length (keysOf t)
+    pub stand : Stand t o₂ k
+    pub long : length o₂ ≡ length out
+    pub past : drop total o₂ ≡ drop total out
+
+  pub body-arranged : {o₁ o₂ o₃ : List ℕ} {k : ℕ} (base n : ℕ) → Filled out (keysOf t) o₁ k → Sorts o₁ k o₂ → Guessed o₂ k base n o₃
+      → (k < base → keyWidth * (base + n) ≤ total) → Arranged o₃ k
+  body-arranged {o₁} {o₂} {o₃} {k} base n f w g h =
+      let st = stand-made t out o₁ o₂ k f w (omega (arith, body-keys, f .count)) in
+      record {
+        count = f .count;
+        stand = record { count = st .count; keys = λ i l. g .keys i l ∙ st .keys i l; room = omega (arith, st .room, g .long) };
+        long = g .long ∙ w .long ∙ f .long;
+        past = g .past total h ∙ w .past total (omega (arith, many, more, f .count)) ∙ f .past total (omega (arith, many, more));
+      }
+
+  module _ {o₂ : List ℕ} {k : ℕ} (f : Arranged o₂ k) where
     pub body-room : keyWidth * (k + length (meshFaces t)) ≤ length o₂
-    body-room = omega (arith, many, more, b .room, f .count, f .long, w .long)
+    body-room = omega (arith, many, more, b .room, f .count, f .long)
 
     module _ {o₃ : List ℕ} {past : ℕ} (g : FacesIn t o₂ k (meshFaces t) o₃ past) where
       abbrev from : ℕ
@@ -205,13 +231,12 @@ module _ {s : Style} {t : List ℕ} {start total : ℕ} {out : List ℕ} (b : Bo
       body-from = omega (arith, many, f .count)
 
       pub body-long : length o₃ ≡ length out
-      body-long = g .stored .long ∙ w .long ∙ f .long
+      body-long = g .stored .long ∙ f .long
 
       stays : drop total o₃ ≡ drop total out
       stays =
           let c = keys-long t (meshFaces t) in
-          g .stored .past total (omega (arith, many, more, f .count)) ∙ w .past total (omega (arith, many, more, f .count))
-          ∙ f .past total (omega (arith, many, more))
+          g .stored .past total (omega (arith, many, more, f .count)) ∙ f .past
 
       part-is : part ≡ drop from o₃
       part-is = take-all (length o₃ - from) (drop from o₃) (omega (arith, length-drop from o₃))
@@ -254,7 +279,7 @@ module _ {s : Style} {t : List ℕ} {start total : ℕ} {out : List ℕ} (b : Bo
 
         pub body-kept : Stand t o₄ k
         body-kept =
-            let st = stand-kept t o₂ o₃ k k past (meshFaces t) body-stand g (omega arith) in
+            let st = stand-kept t o₂ o₃ k k past (meshFaces t) (f .stand) g (omega arith) in
             record {
               count = st .count;
               keys = λ i l. key-front k o₃ (p ++ rest) i inside l ∙ st .keys i l;

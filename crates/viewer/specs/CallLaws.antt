@@ -1,29 +1,32 @@
 -- The file's parts as the code writes them, and the calls' cases: `vertexPart`, `facePart` · `vertex-part`, `face-part` how long they are, slot by slot ·
--- `head-alike` without a head the numbers are no matter · `view-long`, `view-done` the file of its three parts · `view-disorder`, `view-torn`, `view-whole`
--- refused with 1, with 7, or not · `put-short`, `put-done` with 13, or not.
+-- `faces-many` how many faces there are, `face-part-most` how long they are at most · `view-long`, `view-done` the file of its three parts ·
+-- `view-disorder`, `view-torn`, `view-whole` refused with 1, with 7, or not · `put-short`, `put-done` with 13, or not.
 -- Assumes nothing.
 use mathlib.Core.Path.{_≡_, refl, sym, ap, _∙_, subst}
 use mathlib.Core.Bool.{Bool, true, false, cond, not}
 use mathlib.Core.List.{List, [], _∷_, _++_, map, append-assoc}
-use Prim.Native.Nat.{ℕ, zero, suc, _+_, _≤_, _<_}
+use Prim.Native.Nat.{ℕ, zero, suc, _+_, _*_, _≤_, _<_}
 use native.Mathlib.Omega.{arith}
 use borrow.Author.Tests.{lt-ltb, le-ltb}
 use lib.Dec.{ltb}
 use lib.ListN.{length, drop, length-append}
 use Rattle.laws.specs.Choices.{unless}
+use Rattle.laws.specs.Some.{someOf}
 use Rattle.table.specs.Slots.{slotsOf, slotAt}
 use Rattle.table.specs.Order.{InOrder, inOrderOf}
 use Rattle.table.specs.Entries.{listed, recordsOf, recordsBelow}
 use Rattle.lattice.specs.declared.records.Record.{Record}
 use Rattle.counts.specs.declared.faces.Face.{Face}
-use Rattle.counts.specs.Counts.{countsOf}
+use Rattle.counts.specs.Counts.{bit, each, facesAt, sameFace, differentAfter, facesIn, countsOf}
 use Rattle.counts.specs.declared.Counts.{Counts}
 use Rattle.writers.specs.Files.{sorted, before, OutputAfter, outputAfter, putOf}
 use Rattle.writers.specs.Kept.{standing}
-use Rattle.viewer.specs.Viewer.{rises, leastOf, meshFaces, faceCorners, headText, vertexText, faceText, texts, viewerFile, tornOf, viewOf}
-use Rattle.viewer.specs.Once.{freshBelow, fresh-all}
-use Rattle.viewer.specs.Backward.{texts-sort, texts-map}
-use Rattle.viewer.specs.Lines.{faceLine}
+use Rattle.mesh_faces.specs.MeshFaces.{onceAfter, meshFaces, tornOf}
+use Rattle.viewer.specs.Viewer.{rises, leastOf, faceCorners, headText, vertexText, faceText, texts, viewerFile, viewOf}
+use Rattle.mesh_faces.specs.Once.{freshBelow, fresh-all}
+use Rattle.viewer.specs.Backward.{texts-sort, texts-map, texts-most}
+use Rattle.viewer.specs.Lines.{faceLine, faceMost, face-most, face-small}
+use Rattle.viewer.specs.FaceLaws.{mesh-four}
 use Rattle.viewer.specs.declared.styles.Style.{Style}
 
 abbrev pub vertexPart : Style → List ℕ → List ℕ
@@ -55,9 +58,33 @@ face-part s t o n e =
     ∙ ap length (sym (texts-map (faceText s) (leastOf t) (meshFaces t)))
     ∙ sym (texts-sort (faceText s) rises (map (leastOf t) (meshFaces t)))
 
-pub head-alike : (s : Style) (c d : Counts) → s .head ≡ false → headText s c ≡ headText s d
-unfolding headText
-head-alike s c d e = rw e refl
+-- as many as the census counts
+once-many : (seen fs : List Face) → length (onceAfter sameFace seen fs) ≡ differentAfter sameFace seen fs
+unfolding onceAfter differentAfter
+once-many seen [] = refl
+once-many seen (x ∷ xs) =
+    let b = someOf (sameFace x) seen in
+    let a = length-append (cond b [] (x ∷ [])) (onceAfter sameFace (seen ++ x ∷ []) xs) in
+    omega (arith, a, one b, once-many (seen ++ x ∷ []) xs)
+  where
+    one : (b : Bool) → length (cond b [] (x ∷ [])) ≡ bit (not b)
+    one true = refl
+    one false = refl
+
+pub faces-many : (t : List ℕ) → facesIn t ≡ length (meshFaces t)
+faces-many t = sym (once-many [] (each (facesAt t) (recordsOf t)))
+
+-- and none has a longer line
+pub face-part-most : (s : Style) (t : List ℕ) → InOrder t → tornOf t ≡ false → s .first ≤ 1 → length (facePart s t) ≤ faceMost * facesIn t
+face-part-most s t o untorn h =
+    let most = texts-most (faceLine s t) faceMost (meshFaces t) (λ f m. face-most s (leastOf t f) h (face-small t o f (mesh-four t o untorn f m))) in
+    omega (
+      arith,
+      ap (λ (fs : List Face). length (texts (faceLine s t) fs)) (fresh-all t o),
+      face-part s t o (slotsOf t) refl,
+      most,
+      faces-many t,
+    )
 
 module _ (s : Style) (t : List ℕ) where
   pub view-long : (h v f : ℕ) → h ≡ length (headText s (countsOf t)) → v ≡ length (vertexPart s t) → f ≡ length (facePart s t)

@@ -19,7 +19,8 @@ use Rattle.counts.specs.Counts.{differentAfter, gather, each, fits, sameFace, o
 use Rattle.text.specs.Decimal.{digitsBy, digits}
 use Rattle.text.specs.LineOrder.{earlier}
 use Rattle.writers.specs.Files.{outputAfter, putOf}
-use Rattle.viewer.specs.Viewer.{howMany, onceAfter, leastFirst, rises, headText, texts, viewerFile, tornOf, viewOf}
+use Rattle.mesh_faces.specs.MeshFaces.{onceAfter, tornOf}
+use Rattle.viewer.specs.Viewer.{howMany, leastFirst, rises, headText, texts, viewerFile, viewOf}
 use Rattle.viewer.specs.Viewer.{corners, faceCorners, writeOffOf, writeObjOf}
 
 -- [a, b, 0], of degree d, at level 0

@@ -6,8 +6,6 @@ pub mod Packed
 -- numbers of vertices
 pub mod Counting
 pub mod Ranks
--- each face once
-pub mod Once
 -- keys stored, and lines written from the last back
 pub mod Stored
 pub mod Backward

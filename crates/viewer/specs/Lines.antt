@@ -1,7 +1,7 @@
 -- The lines of vertices and faces by their keys, and how long they are: `faceLine`, `faceKey`, `vertexLine` of a face and of a key · `face-parts`,
--- `face-long`, `face-least` · `vertex-marked`, `vertex-plain`, `vertex-mark`, `vertex-room`, `vertex-least` · `head-is`, `head-parts`, `head-long`,
--- `head-none`, `stored-first` bytes stored at the beginning · `vertices-start`, `vertices-more` slot by slot · `ordered-inside`, `keyed-close` the record
--- of a key · `faces-sorted`, `vertices-sorted` the lines of sorted keys are the file's.
+-- `face-long`, `face-least`, `face-most` · `vertex-marked`, `vertex-plain`, `vertex-mark`, `vertex-room`, `vertex-least` · `head-is`, `head-parts`,
+-- `head-long`, `head-none`, `stored-first` bytes stored at the beginning · `vertices-start`, `vertices-more` slot by slot · `ordered-inside`,
+-- `keyed-close` the record of a key · `faces-sorted`, `vertices-sorted` the lines of sorted keys are the file's.
 -- Assumes nothing.
 use mathlib.Core.Path.{_≡_, refl, sym, ap, _∙_, subst}
 use mathlib.Core.Logic.{_⊎_, inl, inr}
@@ -22,7 +22,7 @@ use Rattle.table.specs.Entries.{listed, recordsOf}
 use Rattle.counts.specs.declared.Counts.{Counts}
 use Rattle.counts.specs.declared.faces.Face.{Face}
 use Rattle.text.specs.Decimal.{digits, ended, feed}
-use Rattle.text.specs.DecimalLaws.{digits-some}
+use Rattle.text.specs.DecimalLaws.{digits-some, width-below}
 use Rattle.text.specs.LineOrder.{Close, close}
 use Rattle.sorting.specs.Sorting.{sortBy, keyIn}
 use Rattle.sorting.specs.Tally.{nth}
@@ -32,12 +32,13 @@ use Rattle.writers.specs.Kept.{places, recordIn, recordKeyed, keysBelow, standi
 use Rattle.writers.specs.KeptLaws.{standing-more, keys-inside, keys-sorted}
 use Rattle.coordinates.specs.Coordinates.{blank, positionText}
 use Rattle.coordinates.specs.TextLaws.{position-least}
-use Rattle.viewer.specs.Viewer.{cornersOf, nextFirst, isLeast, leastFirst, leastOf, rises, faceCorners, meshFaces, numberOf}
+use Rattle.mesh_faces.specs.MeshFaces.{meshFaces}
+use Rattle.viewer.specs.Viewer.{cornersOf, nextFirst, isLeast, leastFirst, leastOf, rises, faceCorners, numberOf}
 use Rattle.viewer.specs.Viewer.{headText, vertexMark, vertexText, faceText, texts}
-use Rattle.viewer.specs.Packed.{packed, unpacked, Small, pack-rises, unpack-all}
+use Rattle.viewer.specs.Packed.{many, packed, unpacked, Small, pack-rises, unpack-all}
 use Rattle.viewer.specs.Ranks.{keysOf, ordered, held-number}
 use Rattle.counts.specs.Counts.{gather}
-use Rattle.viewer.specs.Once.{Four, freshAt, freshStar, freshIn, freshSlot, freshBelow, fresh-more, gather-more}
+use Rattle.mesh_faces.specs.Once.{Four, freshAt, freshStar, freshIn, freshSlot, freshBelow, fresh-more, gather-more}
 use Rattle.viewer.specs.Backward.{texts-map, texts-none, texts-one, texts-long}
 use Rattle.viewer.specs.declared.styles.Style.{Style}
 use Rattle.viewer.specs.declared.corners.Corners.{Corners}
@@ -93,7 +94,7 @@ face-parts s q =
     let z = length-append c d in
     omega arith
 
-corners-long : (s : Style) (q : Corners) → length (faceText s q) ≡ 6 + (widthOf s (q .a) + (widthOf s (q .b) + (widthOf s (q .c) + widthOf s (q .d))))
+pub corners-long : (s : Style) (q : Corners) → length (faceText s q) ≡ 6 + (widthOf s (q .a) + (widthOf s (q .b) + (widthOf s (q .c) + widthOf s (q .d))))
 corners-long s q =
     let x = face-parts s q in
     let a = ended-long (digits (s .first + q .a)) blank in
@@ -120,6 +121,17 @@ pub face-least : (s : Style) (q : Corners) → 10 ≤ length (faceText s q)
 face-least s q =
     omega
     (arith, corners-long s q, digits-some (s .first + q .a), digits-some (s .first + q .b), digits-some (s .first + q .c), digits-some (s .first + q .d))
+
+-- the bytes of the longest line of a face
+abbrev pub faceMost : ℕ
+faceMost = 26
+
+pub face-most : (s : Style) (q : Corners) → s .first ≤ 1 → Small q → length (faceText s q) ≤ faceMost
+face-most s q h w =
+    omega (arith, corners-long s q, few (q .a) (w .a), few (q .b) (w .b), few (q .c) (w .c), few (q .d) (w .d))
+  where
+    few : (n : ℕ) → n < many → widthOf s n ≤ 5
+    few n l = width-below 5 (s .first + n) (omega arith) (omega arith)
 
 pub vertex-marked : (s : Style) (r : Record) → s .marked ≡ true → length (vertexText s r) ≡ length (positionText (r .at)) + 2
 unfolding vertexText

@@ -1,6 +1,7 @@
 -- The numbers of vertices by orders: `belowOf` how many records have a lower order, `number-below` which is a vertex's number · `Cut` the order from which on
 -- vertices have at least so many earlier ones, `cut-made` by halving · `Cuts` where numbers become longer, `cuts-width` how long one is · `Stand` the
--- vertices' keys stand sorted, `Searched` one looked for, `stand-number` a number by them · `held-close`, `held-number` a vertex of the table.
+-- vertices' keys stand sorted, `Searched` one looked for, `searched-at` and guessed, `stand-number` a number by them ·
+-- `held-close`, `held-number` a vertex of the table.
 -- Assumes nothing.
 use mathlib.Core.Path.{_≡_, refl, sym, ap, _∙_, subst}
 use mathlib.Core.Bool.{Bool, true, false, not}
@@ -262,6 +263,18 @@ module _ (t : List ℕ) (x low high middle : ℕ) (w : Searched t x low high) (i
       go : (i : ℕ) → middle ≤ i → i < length (ordered t) → Dec (middle < i) → x ≤ nth (ordered t) i
       go i l m (yes n) = let r = ordered-rises t middle i n m in omega arith
       go i l m (no n) = let e : i ≡ middle = omega arith in subst (λ (j : ℕ). x ≤ nth (ordered t) j) (sym e) h
+
+-- found without halving
+pub searched-at : (t : List ℕ) (x g : ℕ) → g < length (ordered t) → x ≤ nth (ordered t) g → (0 < g → nth (ordered t) (g - 1) < x) → Searched t x g g
+searched-at t x g inside high low = record { below = λ i l. under i l (decLt i (g - 1)); above = λ i l m. over i l m (decLt g i) }
+  where
+    under : (i : ℕ) → i < g → Dec (i < g - 1) → nth (ordered t) i < x
+    under i l (yes m) = let r = ordered-rises t i (g - 1) m (omega arith) in let h = low (omega arith) in omega arith
+    under i l (no m) = let e : i ≡ g - 1 = omega arith in subst (λ (j : ℕ). nth (ordered t) j < x) (sym e) (low (omega arith))
+
+    over : (i : ℕ) → g ≤ i → i < length (ordered t) → Dec (g < i) → x ≤ nth (ordered t) i
+    over i l m (yes n) = let r = ordered-rises t g i n m in omega arith
+    over i l m (no n) = let e : i ≡ g = omega arith in subst (λ (j : ℕ). x ≤ nth (ordered t) j) (sym e) high
 
 key-lower : (r : Record) (x k : ℕ) → k < places → ltb (keyOf r k) (x * places) ≡ ltb (orderOf (r .at)) x
 unfolding keyOf

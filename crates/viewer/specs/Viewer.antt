@@ -1,21 +1,20 @@
 -- Document 02, ticket 5: "OFF files for the viewer", and OBJ files. What the promises cite: `writeOffOf`, `writeObjOf`, which
 -- are `viewOf` at `offStyle` and at `objStyle`.
 -- What the two formats share is said once, over a `Style`: a head or none, `v` before a vertex or nothing, what stands before a face, the first number.
--- `numberOf` a vertex's number · `meshFaces` each face once, `cornersOf` its four numbers, `leastFirst` turned, `faceCorners` all in their order ·
--- `headText`, `vertexText`, `faceText` the lines · `viewerFile` the file · `tornAt` a vertex whose faces query is torn · `viewOf` what the call does.
+-- `numberOf` a vertex's number · `cornersOf` the four numbers of a face, `leastFirst` turned, `faceCorners` all in their order · `headText`, `vertexText`,
+-- `faceText` the lines · `viewerFile` the file · `viewOf` what the call does. Each face once, and which vertex is torn: `mesh_faces`' MeshFaces.
 -- Assumes nothing.
 use mathlib.Core.Bool.{Bool, true, false, cond, not, _&&_, _||_}
 use mathlib.Core.List.{List, [], _∷_, _++_, map}
-use Prim.Native.Nat.{ℕ, zero, suc, _+_}
+use Prim.Native.Nat.{ℕ, _+_}
 use lib.Dec.{eqb, ltb, leb}
 use Rattle.laws.specs.Choices.{unless}
-use Rattle.laws.specs.Some.{someOf}
 use Rattle.lattice.specs.declared.points.Point.{Point}
 use Rattle.lattice.specs.declared.records.Record.{Record}
 use Rattle.table.specs.Order.{inOrderOf}
 use Rattle.table.specs.Entries.{recordsOf}
-use Rattle.queries.specs.Queries.{adjacentsThere, cornersThere}
-use Rattle.counts.specs.Counts.{bit, each, facesAt, sameFace, countsOf}
+use Rattle.counts.specs.Counts.{bit, countsOf}
+use Rattle.mesh_faces.specs.MeshFaces.{meshFaces, tornOf}
 use Rattle.counts.specs.declared.Counts.{Counts}
 use Rattle.counts.specs.declared.faces.Face.{Face}
 use Rattle.text.specs.Decimal.{digits, ended, feed}
@@ -61,15 +60,6 @@ abbrev pub numberOf : List ℕ → Point → ℕ
 numberOf t p = howMany (λ r. earlier (r .at) p) (recordsOf t)
 
 -- ---- faces
-
--- those of a list with no same one before them; `seen` are the ones before
-unfoldable pub onceAfter : {A : Type 0} → (A → A → Bool) → List A → List A → List A
-onceAfter same seen [] = []
-onceAfter same seen (x ∷ xs) = cond (someOf (same x) seen) [] (x ∷ []) ++ onceAfter same (seen ++ x ∷ []) xs
-
--- "each face": the different faces of the vertices, as the census counts them
-abbrev pub meshFaces : List ℕ → List Face
-meshFaces t = onceAfter sameFace [] (each (facesAt t) (recordsOf t))
 
 abbrev pub corners : ℕ → ℕ → ℕ → ℕ → Corners
 corners a b c d = record { a = a; b = b; c = c; d = d }
@@ -136,13 +126,6 @@ unfoldable pub viewerFile : Style → List ℕ → List ℕ
 viewerFile s t = headText s (countsOf t) ++ (texts (vertexText s) (sorted (recordsOf t)) ++ texts (faceText s) (faceCorners t))
 
 -- ---- the call
-
--- the faces query at a vertex is torn: an adjacent is absent, or a corner has no opposite in the table; a boundary vertex has neither
-abbrev pub tornAt : List ℕ → Record → Bool
-tornAt t r = not (adjacentsThere t r && cornersThere t r)
-
-unfoldable pub tornOf : List ℕ → Bool
-tornOf t = someOf (tornAt t) (recordsOf t)
 
 -- "Refusals: 1, 7, 13."
 unfoldable pub viewOf : Style → List ℕ → List ℕ → OutputAfter

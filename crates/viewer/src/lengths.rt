@@ -9,17 +9,18 @@ ghost use Rattle.table.specs.Slots.{slotsOf, slotAt};
 ghost use Rattle.table.specs.Order.{InOrder};
 ghost use Rattle.table.specs.declared.slots.Slot.the-variants.{Holds};
 ghost use Rattle.counts.specs.declared.faces.Face.{Face};
-ghost use Rattle.viewer.specs.Viewer.{tornOf, texts};
+ghost use Rattle.mesh_faces.specs.MeshFaces.{tornOf};
+ghost use Rattle.viewer.specs.Viewer.{texts};
 ghost use Rattle.viewer.specs.Ranks.{Cuts};
-ghost use Rattle.viewer.specs.Once.{freshAt, freshStar, freshSlot, freshBelow, Four};
+ghost use Rattle.mesh_faces.specs.Once.{freshAt, freshStar, freshSlot, freshBelow, Four};
 ghost use Rattle.viewer.specs.Lines.{faceLine};
-use crate::fresh::Fresh;
-use crate::fresh::fresh_at;
 use crate::numbers::Widths;
 use crate::numbers::number_width;
 use crate::styles::Style;
 use counts::Face;
 use lattice::Record;
+use mesh_faces::Fresh;
+use mesh_faces::fresh_at;
 use table::Slot;
 use table::read_slot;
 
@@ -46,7 +47,7 @@ fn corner_length(t: &[u8], v: Record, j: u8, k: usize, n: usize, s: Style, w: Wi
 {
     match fresh_at(t, v, j, k, n) {
         Fresh::Not => 0,
-        Fresh::Is(f) => face_length(s, w, f),
+        Fresh::Is(f, _) => face_length(s, w, f),
     }
 }
 

@@ -7,12 +7,12 @@ ghost use Rattle.laws.specs.Stores.{Wrote};
 ghost use Rattle.table.specs.Slots.{slotWidth, slotsOf, slotAt};
 ghost use Rattle.table.specs.Order.{InOrder};
 ghost use Rattle.text.specs.LineOrder.{Close};
-ghost use Rattle.sorting.specs.Sorting.{keyWidth};
+ghost use Rattle.sorting.specs.Sorting.{keyWidth, keysIn};
 ghost use Rattle.writers.specs.Kept.{places, keyed, keysBelow, recordKeyed, standing, Added};
 ghost use Rattle.writers.specs.KeptLaws.{Filled};
 ghost use Rattle.viewer.specs.Viewer.{headText, vertexText, texts};
 ghost use Rattle.viewer.specs.Ranks.{Stand, ordered};
-ghost use Rattle.viewer.specs.Lines.{keyLine, slotLine, vertexLine, Queue};
+ghost use Rattle.viewer.specs.Lines.{keyLine, faceMost, slotLine, vertexLine, Queue};
 use crate::corners::unpack;
 use crate::styles::Style;
 use coordinates::position_back;
@@ -162,6 +162,35 @@ fn face_back(out: &mut [u8], end: usize, s: Style, v: u64) -> usize
     let at = past - 2;
     write_bytes(out, at, &mark);
     at
+}
+
+// How long the line of a face is, by its key.
+fn key_length(s: Style, v: u64) -> usize
+    requires { ⌜ s .first ≤ 1 ⌝ }
+    ensures { λ w. ⌜ (w ≡ length (keyLine s v)) × (w ≤ faceMost) ⌝ }
+{
+    let q = unpack(v);
+    let first = s.first;
+    let a = width(first + q.a as u32);
+    let b = width(first + q.b as u32);
+    let c = width(first + q.c as u32);
+    let d = width(first + q.d as u32);
+    6 + a + b + c + d
+}
+
+// How long the lines of k keys of faces are.
+pub fn keys_length(out: &[u8], k: usize, s: Style) -> usize
+    requires { ⌜ (s .first ≤ 1) × (keyWidth * k ≤ length (now out)) ⌝ }
+    requires { ⌜ length (texts (keyLine s) (keysIn (now out) k)) ≤ length (now out) ⌝ }
+    ensures { λ w. ⌜ w ≡ length (texts (keyLine s) (keysIn (now (out .entry)) k)) ⌝ }
+{
+    let mut total = 0;
+    let mut i = 0;
+    while i < k {
+        total += key_length(s, key(out, i));
+        i += 1;
+    }
+    total
 }
 
 // Writes the lines of k sorted keys of faces, the last before a position.

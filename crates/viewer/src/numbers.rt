@@ -1,5 +1,6 @@
 // The numbers of vertices: by their sorted keys, or, before any byte is written, how many digits they have.
 ghost use mathlib.Core.Path.{_≡_};
+ghost use mathlib.Core.Bool.{true};
 ghost use mathlib.Core.List.{List};
 ghost use Prim.Native.Nat.{ℕ, _+_, _*_, _≤_, _<_};
 ghost use lib.Dec.{ltb, leb};
@@ -10,7 +11,8 @@ ghost use Rattle.table.specs.Order.{InOrder};
 ghost use Rattle.text.specs.Decimal.{digits};
 ghost use Rattle.text.specs.LineOrder.{Close};
 ghost use Rattle.viewer.specs.Viewer.{numberOf};
-ghost use Rattle.viewer.specs.Ranks.{belowAt, belowOf, Cut, Cuts, Stand};
+ghost use Rattle.sorting.specs.Sorting.{keyWidth};
+ghost use Rattle.viewer.specs.Ranks.{belowAt, belowOf, Cut, Cuts, Stand, Searched};
 use lattice::Point;
 use sorting::key;
 use table::Slot;
@@ -121,7 +123,7 @@ pub fn number_width(w: Widths, first: u32, p: Point) -> usize
 }
 
 // The number of the vertex at p: how many of the k sorted keys come before its own.
-pub fn number_among(out: &[u8], k: usize, p: Point) -> u64
+fn number_among(out: &[u8], k: usize, p: Point) -> u64
     requires { ⌜ Close p × ((t : List ℕ) × (InOrder t × Stand t (now out) k)) ⌝ }
     ensures { λ r. ⌜ ((t : List ℕ) → InOrder t → Stand t (now (out .entry)) k → r ≡ numberOf t p) ⌝ }
 {
@@ -137,4 +139,33 @@ pub fn number_among(out: &[u8], k: usize, p: Point) -> u64
         }
     }
     low as u64
+}
+
+// Key g is the first that is not below x: then no search is needed.
+fn is_place(out: &[u8], k: usize, x: u64, g: usize) -> bool
+    requires { ⌜ keyWidth * k ≤ length (now out) ⌝ }
+    ensures { λ r. ⌜ (r ≡ true → (g ≤ k) × ((t : List ℕ) → Stand t (now (out .entry)) k → Searched t x g g)) ⌝ }
+{
+    if k <= g {
+        return false;
+    }
+    if key(out, g) < x {
+        return false;
+    }
+    if g == 0 {
+        return true;
+    }
+    key(out, g - 1) < x
+}
+
+// The number of the vertex at p, which is a guess, or found by halving.
+pub fn number_near(out: &[u8], k: usize, p: Point, g: usize) -> u64
+    requires { ⌜ Close p × ((t : List ℕ) × (InOrder t × Stand t (now out) k)) ⌝ }
+    ensures { λ r. ⌜ ((t : List ℕ) → InOrder t → Stand t (now (out .entry)) k → r ≡ numberOf t p) ⌝ }
+{
+    let x = order(p) * PLACES;
+    if is_place(out, k, x, g) {
+        return g as u64;
+    }
+    number_among(out, k, p)
 }

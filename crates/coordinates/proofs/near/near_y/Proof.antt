@@ -26,10 +26,10 @@ is b m p w h e r =
 
 returns : tie.Need-returns
 returns c =
-    let p = c .before in
+    let p = c .before .before in
     let s = p .before in
-    let e = c .root .ensures in
-    is (s .args .b) (s .args .m) (p .power .result) (c .root .result) (s .pre .0) (p .power .ensures .0) (e .0, e .1 .0)
+    let e = c .root-near .ensures in
+    is (s .args .b) (s .args .m) (p .power .result) (c .root-near .result) (s .pre .0) (p .power .ensures .0) (e .0, e .1 .0)
 
 pub near-y-spec : {M : Type 1} → statement M
 near-y-spec =
@@ -40,6 +40,7 @@ near-y-spec =
     (λ c. record { fits = omega (arith, square (c .before .args .b) (c .before .pre .0)) })
     (λ c. record { fits = omega (arith, power-square (c .power .result) (c .power .ensures .1 .1)) })
     (λ c. one-le-mul (c .power .ensures .1 .0) (c .power .ensures .1 .0))
+    (λ c κs. (c .before .pre .0, c .power .ensures .1 .0))
     (λ c κs. search needs)
     (λ c. search needs)
     (λ c. search needs)

@@ -7,7 +7,7 @@ use Rattle.laws.specs.Each.{never}
 use Rattle.queries.specs.Queries.{isPoint, chosenAt}
 use Rattle.counts.specs.Earlier.{facesAndSides}
 use Rattle.counts.specs.Choices.{choice-first, choice-second, choice-neither}
-use Rattle.counts.specs.CaseLaws.{faced-second, corner-none, far-none}
+use Rattle.counts.specs.CaseLaws.{faced-second, corner-none, far-none, plain-none}
 use Rattle.counts.proofs.corners.count_corner.Statement.{statement}
 use Rattle.counts.proofs.corners.count_corner.Tie as tie
 
@@ -72,7 +72,10 @@ returns-3 c =
     let n = choice-neither (a .t .now) (a .v) (a .j) (sym (h .choose .ensures) ∙ o .enum-told .given .1) in
     let e = c .near-count .ensures in
     let f = far-none (a .t .now) (a .k) (a .v) (a .j) n in
-    ((λ i. facesAndSides (corner-none (a .t .now) (a .k) (a .v) (a .j) n i) (both (c .near-count .result) _ _ (e .0) f i)), (omega arith, omega (arith, e .1)))
+    let p = plain-none (a .t .now) (a .k) (a .v) (a .j) n in (
+      (λ i. facesAndSides (corner-none (a .t .now) (a .k) (a .v) (a .j) n i) (both (c .near-count .result) _ _ (e .0) f i) (p i)),
+      (omega arith, omega (arith, e .1)),
+    )
   where
     both : (x y z : ℕ) → x ≡ y → 0 ≡ z → x ≡ y + z
     both x y z e f = omega arith

@@ -1,18 +1,21 @@
 -- `counts::count_face` meets its promise: the side to the adjacent point, the face, the two sides across. Assumes nothing.
 use mathlib.Core.Path.{_≡_, ap, sym, _∙_, subst}
-use Prim.Native.Nat.{_+_, _<_}
+use Prim.Native.Nat.{ℕ, _+_, _<_}
 use native.Mathlib.Omega.{arith}
 use borrow.Author.Needs.{needs}
 use borrow.Author.Tests.{ltb-true}
 use Rattle.lattice.specs.declared.points.Point.{Point}
-use Rattle.table.specs.Slots.{slotsOf}
+use Rattle.table.specs.Slots.{Table, slotsOf}
 use Rattle.queries.specs.Queries.{isPoint}
 use Rattle.counts.specs.Counts.{face}
-use Rattle.counts.specs.Earlier.{facesAndSides, Spared, faceBefore, faceOn}
-use Rattle.counts.specs.EarlierLaws.{placed-at, placed-slot}
+use lib.Dec.{ltb}
+use Rattle.lattice.specs.Stars.{adjacentAt}
+use Rattle.counts.specs.Earlier.{facesAndSides, Spared, faceBefore, faceOn, innersIn}
+use Rattle.counts.specs.EarlierLaws.{placed-at, placed-slot, holds-slot}
 use Rattle.counts.specs.EdgeLaws.{far-spared}
 use Rattle.counts.specs.Strides.{ToldOf}
-use Rattle.counts.specs.CaseLaws.{faced-first, corner-counted}
+use Rattle.counts.specs.CaseLaws.{faced-first, corner-counted, plain-face}
+use Rattle.counts.specs.declared.earlier.Placed.{Placed}
 use Rattle.counts.specs.declared.faces.Face.{Face}
 use Rattle.counts.proofs.corners.count_face.Statement.{statement}
 use Rattle.counts.proofs.corners.count_face.Tie as tie
@@ -83,19 +86,33 @@ far-count-requires c κs =
       ),
     )
 
+inners-before-requires : tie.Need-inners-before-requires
+inners-before-requires c κs =
+    let s = c .before .before .before .before .before .before .before .before .before .before .before in
+    (subst (λ (n : ℕ). Table (s .args .t .now) n) (sym (s .pre .0 .1 .0)) (s .pre .0 .0 .fits), omega (arith, s .pre .0 .1 .1))
+
 returns : tie.Need-returns
 returns c =
-    let w = c .before in
+    let h = c .before in
+    let q = h .before in
+    let w = q .before in
     let b = w .before in
     let n = b .before in
     let s = n .before .before .before .before .before .before .before .before in
     let a = s .args in
+    let t = a .t .now in
+    let r = s .pre .1 .1 .1 .0 in
     let e = n .near-count .ensures in
-    let f = c .far-count .ensures in (
+    let f = q .far-count .ensures in
+    let there = (λ i. ltb (ap (λ (x : Placed). x .slot) (r .adjacent) i) (s .pre .0 .1 .0 i))
+    ∙ sym (holds-slot t (s .pre .0 .0 .fits) (adjacentAt (a .v) (a .j))) in
+    let before = h .inners-before .ensures
+    ∙ (λ i. innersIn t (a .k) (placed-slot t _ _ (r .adjacent) i) (r .opposite i) (placed-slot t _ _ (r .next) i)) in (
       (λ i. facesAndSides
           ((w .new-face .ensures .0
-          ∙ corner-counted (a .t .now) (a .k) (a .v) (a .j) (a .o .at) (s .pre .1 .1 .1 .0 .chosen) (asked s) (is s) _ (sym (b .face-seen .ensures))) i)
-          (e .0 i + f .0 i)),
+          ∙ corner-counted t (a .k) (a .v) (a .j) (a .o .at) (r .chosen) (asked s) (is s) _ (sym (b .face-seen .ensures))) i)
+          (e .0 i + f .0 i)
+          (plain-face t (a .k) (a .v) (a .j) (a .o .at) (r .chosen) (asked s) (is s) _ _ _ there before (b .face-seen .ensures) i)),
       (w .new-face .ensures .1, omega (arith, e .1, f .1)),
     )
 
@@ -109,4 +126,5 @@ count-face-spec =
     (λ c κs. search needs)
     far-count-requires
     (λ c. search needs)
+    inners-before-requires
     returns)

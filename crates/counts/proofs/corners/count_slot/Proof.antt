@@ -3,7 +3,7 @@ use mathlib.Core.Path.{sym, _∙_}
 use native.Mathlib.Omega.{arith}
 use borrow.Author.Needs.{needs}
 use Rattle.counts.specs.Earlier.{facesAndSides}
-use Rattle.counts.specs.CaseLaws.{sides-free, sides-holds, faces-free, faces-holds}
+use Rattle.counts.specs.CaseLaws.{sides-free, sides-holds, faces-free, faces-holds, plain-free, plain-holds}
 use Rattle.counts.proofs.corners.count_slot.Statement.{statement}
 use Rattle.counts.proofs.corners.count_slot.Tie as tie
 
@@ -19,8 +19,10 @@ returns : tie.Need-returns
 returns c =
     let r = c .before .before in
     let a = r .before .before .args in
-    let h = sym (r .read-slot .ensures) ∙ c .enum-told .given .1 in
-    ((λ i. facesAndSides (faces-free (a .t .now) (a .k) h i) (sides-free (a .t .now) (a .k) h i)), (omega arith, omega arith))
+    let h = sym (r .read-slot .ensures) ∙ c .enum-told .given .1 in (
+      (λ i. facesAndSides (faces-free (a .t .now) (a .k) h i) (sides-free (a .t .now) (a .k) h i) (plain-free (a .t .now) (a .k) h i)),
+      (omega arith, omega arith),
+    )
 
 returns-2 : tie.Need-returns-2
 returns-2 c =
@@ -29,7 +31,7 @@ returns-2 c =
     let a = r .before .before .args in
     let h = sym (r .read-slot .ensures) ∙ v .v .given .1 in (
       c .count-star .ensures .0 ∙ (λ i. facesAndSides (faces-holds (a .t .now) (a .k) (v .v .given .0 .0) h i)
-          (sides-holds (a .t .now) (a .k) (v .v .given .0 .0) h i)),
+          (sides-holds (a .t .now) (a .k) (v .v .given .0 .0) h i) (plain-holds (a .t .now) (a .k) (v .v .given .0 .0) h i)),
       c .count-star .ensures .1,
     )
 

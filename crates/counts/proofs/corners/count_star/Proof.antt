@@ -7,13 +7,14 @@ use native.Mathlib.Omega.{arith}
 use borrow.Author.Needs.{needs}
 use borrow.Author.Tests.{ne-eqb}
 use lib.Dec.{eqb}
+use Rattle.laws.specs.Rules.{upto}
 use Rattle.lattice.specs.Stars.{adjacentAt}
 use Rattle.lattice.specs.RecordLaws.{Inner}
 use Rattle.counts.specs.Counts.{nextPlace}
-use Rattle.counts.specs.Earlier.{sumBelow, placedOf, facesAndSides, cornerCount, sideCount}
+use Rattle.counts.specs.Earlier.{sumBelow, placedOf, facesAndSides, cornerCount, sideCount, plainAt}
 use Rattle.counts.specs.DifferentLaws.{sum-none}
 use Rattle.counts.specs.EarlierLaws.{valid-inner, valid-degree}
-use Rattle.counts.specs.CaseLaws.{Summed, summed-start, summed-more}
+use Rattle.counts.specs.CaseLaws.{Summed, summed-start, summed-more, all-more}
 use Rattle.counts.specs.declared.corners.Counted.{Counted}
 use Rattle.counts.proofs.corners.count_star.Statement.{statement}
 use Rattle.counts.proofs.corners.count_star.Tie as tie
@@ -30,17 +31,20 @@ round-first d = go (eqb 0 d)
     go false = refl
 
 abbrev Inv-loop : tie.InvT-loop
-Inv-loop t v k n d faces₀ sides₀ a₀ j₀ faces sides a j =
-    (j ≤ v .d) × (Summed (cornerCount t k v) 1 j faces × (Summed (sideCount t k v) 3 j sides × (a ≡ placedOf t (adjacentAt v (round (v .d) j)))))
+Inv-loop t v k n d faces₀ sides₀ plain₀ a₀ j₀ faces sides plain a j =
+    (j ≤ v .d)
+    × (Summed (cornerCount t k v) 1 j faces
+    × (Summed (sideCount t k v) 3 j sides × ((a ≡ placedOf t (adjacentAt v (round (v .d) j))) × (plain ≡ upto j (plainAt t k v)))))
 
 abbrev μ-loop : tie.MeasureT-loop
-μ-loop t v k n d faces₀ sides₀ a₀ j₀ faces sides a j = v .d - j
+μ-loop t v k n d faces₀ sides₀ plain₀ a₀ j₀ faces sides plain a j = v .d - j
 
 returns : tie.Need-returns Inv-loop μ-loop
 returns c =
     let a = c .before .before .args in
     let none : (f : ℕ → ℕ) → 0 ≡ sumBelow f (a .v .d) = λ f. sym (sum-none f) ∙ ap (sumBelow f) (sym (c .if1 .taken)) in
-    ((λ i. facesAndSides (none (cornerCount (a .t .now) (a .k) (a .v)) i) (none (sideCount (a .t .now) (a .k) (a .v)) i)), (omega arith, omega arith))
+    let all = ap (λ (d : ℕ). upto d (plainAt (a .t .now) (a .k) (a .v))) (sym (c .if1 .taken)) in
+    ((λ i. facesAndSides (none (cornerCount (a .t .now) (a .k) (a .v)) i) (none (sideCount (a .t .now) (a .k) (a .v)) i) (all i)), (omega arith, omega arith))
 
 adjacent-of-requires : tie.Need-adjacent-of-requires Inv-loop μ-loop
 adjacent-of-requires c κs =
@@ -56,7 +60,7 @@ loop-holds c =
         summed-start (cornerCount t (a .k) (a .v)) 1,
         (
           summed-start (sideCount t (a .k) (a .v)) 3,
-          c .with-slot .ensures ∙ ap (placedOf t) (c .before .adjacent-of .ensures ∙ ap (adjacentAt (a .v)) (round-first (a .v .d))),
+          (c .with-slot .ensures ∙ ap (placedOf t) (c .before .adjacent-of .ensures ∙ ap (adjacentAt (a .v)) (round-first (a .v .d))), refl),
         ),
       ),
     )
@@ -93,7 +97,7 @@ count-corner-requires c κs =
         (star i, omega (arith, i .loop-test .taken)),
         (
           z .pre .1 .1,
-          (i .before .loop .inv .1 .1 .1 ∙ ap (λ (b : Bool). placedOf (a .t .now) (adjacentAt (a .v) (cond b 0 j))) n, next c),
+          (i .before .loop .inv .1 .1 .1 .0 ∙ ap (λ (b : Bool). placedOf (a .t .now) (adjacentAt (a .v) (cond b 0 j))) n, next c),
         ),
       ),
     )
@@ -111,11 +115,11 @@ add-sides c =
     record { fits = omega (arith, l .1 .1 .0 .most, l .0, star i .top, c .before .before .count-corner .ensures .1 .1) }
 
 add-j : tie.Need-add-j Inv-loop μ-loop
-add-j c = let i = loop (c .before .before .before) in record { fits = omega (arith, i .loop-test .taken, star i .top) }
+add-j c = let i = loop (c .before .before .before .before) in record { fits = omega (arith, i .loop-test .taken, star i .top) }
 
 loop-again : tie.Need-loop-again Inv-loop μ-loop
 loop-again c =
-    let r = c .before .before in
+    let r = c .before .before .before in
     let i = loop (r .before) in
     let l = i .before .loop in
     let a = s i .args in
@@ -128,7 +132,10 @@ loop-again c =
         (
           summed-more (sideCount t (a .k) (a .v)) 3 (l .j) (l .sides) (r .count-corner .result .sides) (l .inv .1 .1 .0)
               (ap (λ (x : Counted). x .sides) (e .0)) (e .1 .1),
-          next (r .before),
+          (
+            next (r .before),
+            all-more (plainAt t (a .k) (a .v)) (l .j) (l .plain) (r .count-corner .result .plain) (l .inv .1 .1 .1 .1) (ap (λ (x : Counted). x .plain) (e .0)),
+          ),
         ),
       ),
     )
@@ -142,7 +149,8 @@ returns-2 c =
     let e : l .j ≡ a .v .d = omega (arith, l .inv .0, c .loop-test .left) in
     let d = valid-degree (a .v) (z .pre .1 .0) in (
       (λ i. facesAndSides ((l .inv .1 .0 .is ∙ ap (sumBelow (cornerCount t (a .k) (a .v))) e) i)
-          ((l .inv .1 .1 .0 .is ∙ ap (sumBelow (sideCount t (a .k) (a .v))) e) i)),
+          ((l .inv .1 .1 .0 .is ∙ ap (sumBelow (sideCount t (a .k) (a .v))) e) i)
+          ((l .inv .1 .1 .1 .1 ∙ ap (λ (j : ℕ). upto j (plainAt t (a .k) (a .v))) e) i)),
       (omega (arith, l .inv .1 .0 .most, l .inv .0, d), omega (arith, l .inv .1 .1 .0 .most, l .inv .0, d)),
     )
 

@@ -25,20 +25,20 @@ renamed-true t s r {x} {x′} {y} {y′} {z} {z′} ex ey ez f =
 returns : tie.Need-returns
 returns c =
     let b6 = c .before in
-    let f2 = b6 .before in
-    let b5 = f2 .before in
+    let f1 = b6 .before in
+    let b5 = f1 .before in
     let b4 = b5 .before in
-    let b3 = b4 .before in
-    let f1 = b3 .before in
-    let b2 = f1 .before in
+    let f0 = b4 .before in
+    let b3 = f0 .before in
+    let b2 = b3 .before in
     let b1 = b2 .before in
     let s = b1 .before .before in
     let a = s .args in
     let t = a .t .now in
     record {
-      adjacent = renamed t (a .a) (a .b) (f1 .fit-in .result) (s .pre .0 .1) refl (b1 .back .ensures) (b2 .back2 .ensures) (f1 .fit-in .ensures);
-      opposite = renamed-true t (a .o) (f2 .fit-in2 .result) (b3 .back3 .ensures) (b4 .back4 .ensures) (b5 .back5 .ensures) (f2 .fit-in2 .ensures);
-      next = renamed t (a .b) (a .a) (c .fit-in3 .result) (s .pre .0 .1) (b6 .back6 .ensures) refl refl (c .fit-in3 .ensures);
+      adjacent = renamed t (a .a) (a .b) (f1 .fit-asked .result) (s .pre .0 .1) refl (b4 .back4 .ensures) (b5 .back5 .ensures) (f1 .fit-asked .ensures);
+      opposite = renamed-true t (a .o) (f0 .fit-in .result) (b1 .back .ensures) (b2 .back2 .ensures) (b3 .back3 .ensures) (f0 .fit-in .ensures);
+      next = renamed t (a .b) (a .a) (c .fit-asked2 .result) (s .pre .0 .1) (b6 .back6 .ensures) refl refl (c .fit-asked2 .ensures);
     }
 
 pub fits-by-spec : {M : Type 1} → statement M

@@ -3,8 +3,8 @@ use mathlib.Core.Path.{_≡_, ap, sym, _∙_}
 use mathlib.Core.Bool.{Bool, _&&_}
 use borrow.Author.Needs.{needs}
 use Rattle.table.specs.Search.{findOf}
+use Rattle.table.specs.SearchLaws.{own-hit}
 use Rattle.table.specs.Order.{isAt, placedSlot, placedAt}
-use Rattle.table.specs.declared.probe.Found.{Found}
 use Rattle.table.specs.declared.slots.Slot.{Slot}
 use Rattle.table.specs.declared.slots.Slot.the-variants.{Free, Holds}
 use Rattle.table.proofs.order.placed.Statement.{statement}
@@ -20,16 +20,22 @@ module _ (c : tie.After-read-slot) where
 returns : tie.Need-returns
 returns c = at-slot (c .before .before) Free (c .enum-told .given .1)
 
+found-at-requires : tie.Need-found-at-requires
+found-at-requires c κs =
+    let k = c .before .before .before .before in
+    let r = k .before .before in
+    let st = r .before .before in
+    (st .pre, own-hit _ (k .s .given .0 .0) (sym (r .read-slot .ensures) ∙ k .s .given .1))
+
 returns-2 : tie.Need-returns-2
 returns-2 c =
-    let fd = c .before in
-    let th = fd .before .before in
+    let th = c .before .before in
     let v = th .before in
     let k = v .before .before in
     let r = k .before .before in
     let a = r .before .before .args in
     let rec = k .s .given .0 .0 in
-    c .is-at .ensures ∙ ap (λ (x : Found). isAt x (a .i)) (fd .find .ensures .0)
+    c .found-at .ensures
     ∙ ap (λ (b : Bool). b && isAt (findOf (a .t .now) (rec .at)) (a .i)) (sym (sym (v .valid .ensures) ∙ th .if1 .taken))
     ∙ at-slot r (Holds rec) (k .s .given .1)
 
@@ -51,8 +57,7 @@ placed-spec =
     (λ c. search needs)
     (λ c. search needs)
     (λ c κs. search needs)
-    (λ c κs. search needs)
-    (λ c κs. search needs)
+    found-at-requires
     returns
     returns-2
     returns-3)

@@ -11,42 +11,42 @@ use Rattle.viewer.specs.Lines.{face-small}
 use Rattle.viewer.proofs.keys.face_key.Statement.{statement}
 use Rattle.viewer.proofs.keys.face_key.Tie as tie
 
-number-among-requires : tie.Need-number-among-requires
-number-among-requires c κs =
-    let p = c .before .pre in
+number-near-requires : tie.Need-number-near-requires
+number-near-requires c κs =
+    let p = c .before .before .pre in
     (held-close (p .0) (p .1 .0) _ (p .1 .1 .1 .at), (p .0, (p .1 .0, p .1 .1 .0)))
 
-number-among-requires-2 : tie.Need-number-among-requires-2
-number-among-requires-2 c κs =
-    let p = c .before .before .pre in
+number-near-requires-2 : tie.Need-number-near-requires-2
+number-near-requires-2 c κs =
+    let p = c .before .before .before .before .pre in
     (held-close (p .0) (p .1 .0) _ (p .1 .1 .1 .adjacent), (p .0, (p .1 .0, p .1 .1 .0)))
 
-number-among-requires-3 : tie.Need-number-among-requires-3
-number-among-requires-3 c κs =
-    let p = c .before .before .before .pre in
+number-near-requires-3 : tie.Need-number-near-requires-3
+number-near-requires-3 c κs =
+    let p = c .before .before .before .before .before .before .pre in
     (held-close (p .0) (p .1 .0) _ (p .1 .1 .1 .opposite), (p .0, (p .1 .0, p .1 .1 .0)))
 
-number-among-requires-4 : tie.Need-number-among-requires-4
-number-among-requires-4 c κs =
-    let p = c .before .before .before .before .pre in
+number-near-requires-4 : tie.Need-number-near-requires-4
+number-near-requires-4 c κs =
+    let p = c .before .before .before .before .before .before .before .before .pre in
     (held-close (p .0) (p .1 .0) _ (p .1 .1 .1 .next), (p .0, (p .1 .0, p .1 .1 .0)))
 
 -- the four numbers, turned
 module _ (c : tie.After-least-first) where
-  abbrev d : tie.After-number-among4
+  abbrev d : tie.After-number-near4
   d = c .before
 
   abbrev s : tie.Start
-  s = d .before .before .before .before .before
+  s = d .before .before .before .before .before .before .before .before .before
 
   turned : (t : List ℕ) → InOrder t → Stand t (s .args .out .now) (s .args .k) → c .least-first .result ≡ leastOf t (s .args .f)
   turned t o w =
       c .least-first .ensures
       ∙ (λ i. leastFirst (corners
-      (d .before .before .before .number-among .ensures t o w i)
-      (d .before .before .number-among2 .ensures t o w i)
-      (d .before .number-among3 .ensures t o w i)
-      (d .number-among4 .ensures t o w i)))
+      (d .before .before .before .before .before .before .number-near .ensures t o w i)
+      (d .before .before .before .before .number-near2 .ensures t o w i)
+      (d .before .before .number-near3 .ensures t o w i)
+      (d .number-near4 .ensures t o w i)))
 
 pack-requires : tie.Need-pack-requires
 pack-requires c κs =
@@ -60,10 +60,14 @@ pub face-key-spec : {M : Type 1} → statement M
 face-key-spec =
     tie.close
     (tie.spec
-    number-among-requires
-    number-among-requires-2
-    number-among-requires-3
-    number-among-requires-4
+    (λ c κs. search needs)
+    number-near-requires
+    (λ c κs. search needs)
+    number-near-requires-2
+    (λ c κs. search needs)
+    number-near-requires-3
+    (λ c κs. search needs)
+    number-near-requires-4
     (λ c κs. search needs)
     pack-requires
     returns)

@@ -7,7 +7,7 @@ use borrow.Author.Needs.{needs}
 use lib.ListN.{length}
 use Rattle.counts.specs.declared.faces.Face.{Face}
 use Rattle.sorting.specs.Keys.{Put}
-use Rattle.viewer.specs.Once.{freshOf, freshAt, Four, fresh-four}
+use Rattle.mesh_faces.specs.Once.{freshOf, freshAt, Four, fresh-four}
 use Rattle.viewer.specs.BodyLaws.{FacesIn, faces-none, faces-one}
 use Rattle.viewer.proofs.keys.put_corner.Statement.{statement}
 use Rattle.viewer.proofs.keys.put_corner.Tie as tie
@@ -21,7 +21,7 @@ module _ (h : tie.After-f) where
   f = h .f .given .0 .0
 
   one : f ∷ [] ≡ freshAt (s .args .t .now) (s .args .k) (s .args .v) (s .args .j)
-  one = ap freshOf (sym (h .f .given .1)) ∙ h .before .before .fresh-at .ensures
+  one = ap freshOf (sym (h .f .given .1)) ∙ h .before .before .fresh-between .ensures
 
   four : Four (s .args .t .now) f
   four =
@@ -37,18 +37,18 @@ face-key-requires c κs =
 put-key-requires : tie.Need-put-key-requires
 put-key-requires c κs =
     let h = c .before .before .before .before in
-    omega (arith, s h .pre .1 .1 .1 .1 .1, ap length (one h))
+    omega (arith, s h .pre .1 .1 .1 .1 .0 .1, ap length (one h))
 
 add-result : tie.Need-add-result
 add-result c =
     let h = c .before .before .before .before .before .before .before in
-    record { fits = omega (arith, s h .pre .1 .1 .1 .1 .1, ap length (one h), s h .good .1 .1 .1 .1 .1 .0 .0) }
+    record { fits = omega (arith, s h .pre .1 .1 .1 .1 .0 .1, ap length (one h), s h .good .1 .1 .1 .1 .1 .1 .1 .1 .0 .0) }
 
 returns : tie.Need-returns
 returns c =
     let a = c .before .before .before .before .before .args in
     let fs = freshAt (a .t .now) (a .k) (a .v) (a .j) in
-    faces-none (a .t .now) (a .out .now) (a .at) fs (sym (c .before .before .fresh-at .ensures) ∙ ap freshOf (c .enum-told .given .1))
+    faces-none (a .t .now) (a .out .now) (a .at) fs (sym (c .before .before .fresh-between .ensures) ∙ ap freshOf (c .enum-told .given .1))
 
 returns-2 : tie.Need-returns-2
 returns-2 c =

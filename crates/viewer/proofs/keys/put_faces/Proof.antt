@@ -3,16 +3,16 @@ use mathlib.Core.Path.{_≡_, subst}
 use Prim.Native.Nat.{ℕ, _-_, _≤_}
 use native.Mathlib.Omega.{arith}
 use borrow.Author.Needs.{needs}
-use Rattle.viewer.specs.Once.{freshSlot, freshBelow, fresh-start, fresh-more, grown-room}
+use Rattle.mesh_faces.specs.Once.{freshSlot, freshBelow, fresh-start, fresh-more, grown-room}
 use Rattle.viewer.specs.BodyLaws.{FacesIn, faces-none, faces-then, stand-kept}
 use Rattle.viewer.proofs.keys.put_faces.Statement.{statement}
 use Rattle.viewer.proofs.keys.put_faces.Tie as tie
 
 abbrev Inv-loop : tie.InvT-loop
-Inv-loop t n out₀ vertices at₀ k₀ out at k = (k ≤ n) × FacesIn t out₀ vertices (freshBelow t k) out at
+Inv-loop t n plain out₀ vertices base at₀ k₀ out at k = (k ≤ n) × FacesIn t out₀ vertices (freshBelow t k) out at
 
 abbrev μ-loop : tie.MeasureT-loop
-μ-loop t n out₀ vertices at₀ k₀ out at k = n - k
+μ-loop t n plain out₀ vertices base at₀ k₀ out at k = n - k
 
 loop-holds : tie.Need-loop-holds Inv-loop μ-loop
 loop-holds c =
@@ -32,7 +32,10 @@ put-slot-faces-requires c κs =
       p .0,
       (
         stand-kept t (a .out .now) (l .loop .out) (a .vertices) (a .vertices) (l .loop .at) (freshBelow t (l .loop .k)) (p .1 .0) h (omega arith),
-        (omega (arith, i .loop-test .taken), (omega (arith, h .count), omega (arith, h .count, h .stored .long, p .1 .1, room))),
+        (
+          omega (arith, i .loop-test .taken),
+          ((omega (arith, h .count), omega (arith, h .count, h .stored .long, p .1 .1 .0, room)), p .1 .1 .1),
+        ),
       ),
     )
 

@@ -7,7 +7,7 @@ use lib.ListN.{length}
 use Rattle.table.specs.Slots.{slotAt}
 use Rattle.table.specs.declared.slots.Slot.the-variants.{Holds}
 use Rattle.counts.specs.declared.faces.Face.{Face}
-use Rattle.viewer.specs.Once.{freshSlot, freshStar, fresh-free, fresh-holds}
+use Rattle.mesh_faces.specs.Once.{freshSlot, freshStar, fresh-free, fresh-holds}
 use Rattle.viewer.specs.BodyLaws.{FacesIn, faces-none}
 use Rattle.viewer.proofs.keys.put_slot_faces.Statement.{statement}
 use Rattle.viewer.proofs.keys.put_slot_faces.Tie as tie
@@ -27,7 +27,7 @@ put-star-requires : tie.Need-put-star-requires
 put-star-requires c κs =
     let h = c .before .before in
     let p = s h .pre in
-    (p .0, (p .1 .0, ((p .1 .1 .0, here h), (p .1 .1 .1 .0, omega (arith, p .1 .1 .1 .1, ap length (star h))))))
+    (p .0, (p .1 .0, ((p .1 .1 .0, here h), ((p .1 .1 .1 .0 .0, omega (arith, p .1 .1 .1 .0 .1, ap length (star h))), p .1 .1 .1 .1))))
 
 returns : tie.Need-returns
 returns c =
@@ -40,7 +40,7 @@ returns-2 c =
     let w = c .before .before in
     let h = w .before .before .before in
     let a = s h .args in
-    subst (λ (fs : List Face). FacesIn (a .t .now) (a .out .now) (a .at) fs (w .put-star .last .1 .1 .1 .1 .0) (w .put-star .result)) (sym (star h))
+    subst (λ (fs : List Face). FacesIn (a .t .now) (a .out .now) (a .at) fs (w .put-star .last .1 .1 .1 .1 .1 .0) (w .put-star .result)) (sym (star h))
     (w .put-star .ensures)
 
 pub put-slot-faces-spec : {M : Type 1} → statement M

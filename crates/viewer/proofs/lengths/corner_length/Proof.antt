@@ -6,7 +6,7 @@ use borrow.Author.Needs.{needs}
 use lib.ListN.{length}
 use Rattle.counts.specs.declared.faces.Face.{Face}
 use Rattle.viewer.specs.Viewer.{texts}
-use Rattle.viewer.specs.Once.{Four, freshOf, freshAt, fresh-four}
+use Rattle.mesh_faces.specs.Once.{Four, freshOf, freshAt, fresh-four}
 use Rattle.viewer.specs.Lines.{faceLine, long-none, long-one}
 use Rattle.viewer.proofs.lengths.corner_length.Statement.{statement}
 use Rattle.viewer.proofs.lengths.corner_length.Tie as tie

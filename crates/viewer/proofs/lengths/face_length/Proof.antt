@@ -11,7 +11,7 @@ use Rattle.table.specs.Entries.{holds}
 use Rattle.text.specs.LineOrder.{Close}
 use Rattle.viewer.specs.Viewer.{numberOf, cornersOf}
 use Rattle.viewer.specs.Ranks.{Cuts, held-close, held-number}
-use Rattle.viewer.specs.Once.{Four}
+use Rattle.mesh_faces.specs.Once.{Four}
 use Rattle.viewer.specs.Lines.{face-long}
 use Rattle.viewer.proofs.lengths.face_length.Statement.{statement}
 use Rattle.viewer.proofs.lengths.face_length.Tie as tie

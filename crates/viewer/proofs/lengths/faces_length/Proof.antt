@@ -5,7 +5,7 @@ use native.Mathlib.Omega.{arith}
 use borrow.Author.Needs.{needs}
 use lib.ListN.{length}
 use Rattle.viewer.specs.Viewer.{texts}
-use Rattle.viewer.specs.Once.{freshBelow}
+use Rattle.mesh_faces.specs.Once.{freshBelow}
 use Rattle.viewer.specs.Lines.{faceLine, slots-start, slots-more}
 use Rattle.viewer.proofs.lengths.faces_length.Statement.{statement}
 use Rattle.viewer.proofs.lengths.faces_length.Tie as tie

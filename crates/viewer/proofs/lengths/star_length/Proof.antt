@@ -8,7 +8,7 @@ use Rattle.lattice.specs.RecordLaws.{Inner}
 use Rattle.counts.specs.Counts.{gather}
 use Rattle.counts.specs.EarlierLaws.{star-inner, valid-degree}
 use Rattle.viewer.specs.Viewer.{texts}
-use Rattle.viewer.specs.Once.{freshAt}
+use Rattle.mesh_faces.specs.Once.{freshAt}
 use Rattle.viewer.specs.Lines.{faceLine, star-start, star-more}
 use Rattle.viewer.proofs.lengths.star_length.Statement.{statement}
 use Rattle.viewer.proofs.lengths.star_length.Tie as tie
