@@ -90,7 +90,7 @@ fn words(refusal: Refusal) -> &'static str {
         Refusal::LevelTwelve => "it is subdivided as deep as it goes",
         Refusal::Torn => {
             "the mesh is torn there: something that must be beside the vertex is missing or does not fit. \
-             It never comes of a subdivision, of the neighbours or of bringing to six in a mesh that was grown"
+             It never comes in a mesh that was grown"
         }
         Refusal::TooFewSlots => "too few free slots in the table; of the census, an input of over 65,536 bytes",
         Refusal::BadLine => "that line of the file is malformed, or its record is not valid",
