@@ -1,11 +1,13 @@
 -- How many different ones a list has, part by part.
--- `sum-none`, `sum-more` a sum · `among-more`, `slotTest` tests of numbers and of slots · `some-one`, `some-none`, `some-gather`, `some-each` where a
--- test passes in a list put together of parts, `some-same`, `some-or`, `some-over` · `different-one`, `different-place`, `different-nothing` an
--- element, by those before it · `different-star` the different ones of a star, place by place · `different-slots` those of a table, slot by slot.
+-- `gather-mem` which place an element comes of · `sum-none`, `sum-more` a sum · `among-more`, `slotTest` tests of numbers and of slots · `some-one`,
+-- `some-none`, `some-gather`, `some-each` where a test passes in a list put together of parts, `some-same`, `some-or`, `some-over` · `different-one`,
+-- `different-place`, `different-nothing` an element, by those before it · `different-star` the different ones of a star, place by place ·
+-- `different-slots` those of a table, slot by slot.
 -- Assumes nothing.
 use mathlib.Core.Path.{_≡_, refl, sym, ap, _∙_}
+use mathlib.Core.Logic.{_⊎_, inl, inr}
 use mathlib.Core.Bool.{Bool, true, false, not, _||_, or-comm, or-false}
-use mathlib.Core.List.{List, [], _∷_, _++_, append-assoc, append-nil}
+use mathlib.Core.List.{List, [], _∷_, _++_, append-assoc, append-nil, List·Memᴰ, List·Memᴰ·not-nil, List·Memᴰ·append-cases}
 use Prim.Native.Nat.{ℕ, zero, suc, _+_, _<_}
 use native.Mathlib.Omega.{arith}
 use Rattle.laws.specs.Rules.{among}
@@ -17,6 +19,17 @@ use Rattle.table.specs.declared.slots.Slot.{Slot}
 use Rattle.table.specs.declared.slots.Slot.the-variants.{Free, Holds}
 use Rattle.counts.specs.Counts.{bit, differentAfter, gather, each}
 use Rattle.counts.specs.Earlier.{sumBelow, slotSum}
+
+-- ---- an element of what the places give is of one of them
+pub gather-mem : {A : Type 0} (d : ℕ) (g : ℕ → List A) (x : A) → List·Memᴰ x (gather d g) → (j : ℕ) × (j < d) × List·Memᴰ x (g j)
+unfolding gather
+gather-mem zero g x m = absurd (List·Memᴰ·not-nil m)
+gather-mem {A} (suc d) g x m = go (List·Memᴰ·append-cases (gather d g) m) (λ k. gather-mem d g x k)
+  where
+    go : List·Memᴰ x (gather d g) ⊎ List·Memᴰ x (g d) → (List·Memᴰ x (gather d g) → (j : ℕ) × (j < d) × List·Memᴰ x (g j))
+        → (j : ℕ) × (j < suc d) × List·Memᴰ x (g j)
+    go (inl k) ih = let w = ih k in (w .0, omega (arith, w .1), w .2)
+    go (inr k) ih = (d, omega arith, k)
 
 -- ---- sums
 

@@ -27,10 +27,7 @@ use Rattle.lattice.specs.declared.patterns.Spot.{Spot}
 use Rattle.lattice.specs.declared.patterns.Spot.the-variants.{At, Nothing}
 use Rattle.geometry.specs.GeometryLaws.{low-normal, scale-lift, sum-same, sum-sum}
 use Rattle.geometry.specs.StarSteps.{turnOf, downOf}
-
--- "Corner j lies between adjacent j and the next, the last before the first."
-abbrev pub after : ℕ → ℕ → ℕ
-after d j = cond (eqb (j + 1) d) 0 (j + 1)
+use Rattle.counts.specs.Counts.{nextPlace}
 
 -- the face x, a, o, w, as a vertex at a has it: "Its face is v, adjacent j, opposite j, next adjacent."
 pub record Seen (x a o w : Point) : Type 0 where
@@ -39,7 +36,7 @@ pub record Seen (x a o w : Point) : Type 0 where
   pub at : vertex .at ≡ a
   pub adjacent : adjacentAt vertex place ≡ o
   pub opposite : (firstAt vertex place ≡ w) ⊎ (secondAt vertex place ≡ At w)
-  pub next : adjacentAt vertex (after (vertex .d) place) ≡ x
+  pub next : adjacentAt vertex (nextPlace (vertex .d) place) ≡ x
 
 -- ---- places of pattern points at depth 4, raised by h: what is left of two levels when their common half is taken off
 abbrev raised : ℕ → Point → Point
@@ -70,7 +67,7 @@ oneOf (suc c) d k j = secondOppositeOf d k j
 abbrev faceTest : ℕ → ℕ → Point → Point → Point → ℕ → ℕ → ℕ → ℕ → Test
 faceTest g h p o w d k i c =
     adds (raised g p) (raised h (adjacentOf d k i)) (raised g o)
-    & backs (raised g p) (raised h (adjacentOf d k (after d i)))
+    & backs (raised g p) (raised h (adjacentOf d k (nextPlace d i)))
     & addsSpot h (raised g p) (oneOf c d k i) (raised g w)
 
 -- ---- from the test to the points
@@ -109,7 +106,7 @@ module _ (x : Point) (n n′ : Level) (g g′ h : ℕ) (e : n .0 / 2 ≡ g + h) 
         at = refl;
         adjacent = two-steps (adjacentOf d k i) o a;
         opposite = opp c s;
-        next = step-back (adjacentOf d k (after d i)) t b;
+        next = step-back (adjacentOf d k (nextPlace d i)) t b;
       }
     where
       spot-inj : {y z : Point} → At y ≡ At z → y ≡ z
@@ -159,7 +156,7 @@ secondStar d k j =
     (star 4 ((way d k j + 11) % 12) 1 0)
 
 abbrev starTest : ℕ → ℕ → ℕ → ℕ → ℕ → Point → Star → Test
-starTest g h d k j o s = faceTest g h (adjacentOf d k j) o (adjacentOf d k (after d j)) (s .deg) (s .turn) (s .place) (s .which)
+starTest g h d k j o s = faceTest g h (adjacentOf d k j) o (adjacentOf d k (nextPlace d j)) (s .deg) (s .turn) (s .place) (s .which)
 
 -- the second opposite, where there is one; an acute corner from its own level, any other from a level below
 abbrev secondTest : ℕ → ℕ → ℕ → Spot → Test
@@ -192,14 +189,14 @@ module _ (v : Record) (i : Inner v) (hk : v .k < 12) (j : ℕ) (hj : j < v .d) w
   further : (t : ℕ) → (v .n .0 + t) / 2 ≡ (v .k % 2 + t) / 2 + v .n .0 / 2
   further t = omega (arith, i .parity)
 
-  pub first-seen : Seen (v .at) (adjacentAt v j) (firstAt v j) (adjacentAt v (after (v .d) j))
+  pub first-seen : Seen (v .at) (adjacentAt v j) (firstAt v j) (adjacentAt v (nextPlace (v .d) j))
   first-seen =
       let s = firstStar (v .d) (v .k) j in
       let t = downOf (v .d) j in
       seen (v .at) (v .n) (level (v .n .0 + t)) 0 ((v .k % 2 + t) / 2) (v .n .0 / 2) same-half (further t) (adjacentOf (v .d) (v .k) j) (i .normal)
-      (firstOppositeOf (v .d) (v .k) j) (adjacentOf (v .d) (v .k) (after (v .d) j)) (s .deg) (s .turn) (s .place) (s .which) (holds .0)
+      (firstOppositeOf (v .d) (v .k) j) (adjacentOf (v .d) (v .k) (nextPlace (v .d) j)) (s .deg) (s .turn) (s .place) (s .which) (holds .0)
 
-  pub second-seen : (o : Point) → secondAt v j ≡ At o → 0 < v .n .0 → Seen (v .at) (adjacentAt v j) o (adjacentAt v (after (v .d) j))
+  pub second-seen : (o : Point) → secondAt v j ≡ At o → 0 < v .n .0 → Seen (v .at) (adjacentAt v j) o (adjacentAt v (nextPlace (v .d) j))
   second-seen o e up = go (secondOppositeOf (v .d) (v .k) j) (holds .1 .0) e
     where
       s : Star
@@ -216,18 +213,18 @@ module _ (v : Record) (i : Inner v) (hk : v .k < 12) (j : ℕ) (hj : j < v .d) w
 
       -- from the level of the step, or from one below the star's
       from : (q : Point) → Means (secondTest (v .d) (v .k) j (At q)) → (a : ℕ) → acute (v .d) j ≡ a → a ≤ 1
-          → Seen (v .at) (adjacentAt v j) (stepOf (v .at) (v .n) q) (adjacentAt v (after (v .d) j))
+          → Seen (v .at) (adjacentAt v j) (stepOf (v .at) (v .n) q) (adjacentAt v (nextPlace (v .d) j))
       from q (x, y) (suc zero) f l =
           seen (v .at) (v .n) (level (v .n .0 + t)) 0 ((v .k % 2 + t) / 2) (v .n .0 / 2) same-half (further t) (adjacentOf (v .d) (v .k) j) (i .normal)
-          q (adjacentOf (v .d) (v .k) (after (v .d) j)) (s .deg) (s .turn) (s .place) (s .which) (x (omega arith))
+          q (adjacentOf (v .d) (v .k) (nextPlace (v .d) j)) (s .deg) (s .turn) (s .place) (s .which) (x (omega arith))
       from q (x, y) zero f l =
           seen (v .at) (v .n) (level (v .n .0 - 1)) (((v .k + 1) % 2 + 1) / 2) 0 ((v .n .0 - 1) / 2) (omega (arith, i .parity)) (omega arith)
           (adjacentOf (v .d) (v .k) j) (i .normal)
-          q (adjacentOf (v .d) (v .k) (after (v .d) j)) (s .deg) (s .turn) (s .place) (s .which) (y (omega arith))
+          q (adjacentOf (v .d) (v .k) (nextPlace (v .d) j)) (s .deg) (s .turn) (s .place) (s .which) (y (omega arith))
       from q m (suc (suc a)) f l = absurd (omega arith)
 
       go : (p : Spot) → Means (secondTest (v .d) (v .k) j p) → onSpot (stepOf (v .at) (v .n)) p ≡ At o
-          → Seen (v .at) (adjacentAt v j) o (adjacentAt v (after (v .d) j))
+          → Seen (v .at) (adjacentAt v j) o (adjacentAt v (nextPlace (v .d) j))
       go (At q) m f =
-          subst (λ (y : Point). Seen (v .at) (adjacentAt v j) y (adjacentAt v (after (v .d) j))) (spot-inj f) (from q m (acute (v .d) j) refl (holds .1 .1))
+          subst (λ (y : Point). Seen (v .at) (adjacentAt v j) y (adjacentAt v (nextPlace (v .d) j))) (spot-inj f) (from q m (acute (v .d) j) refl (holds .1 .1))
       go Nothing m f = absurd (spot-none f)

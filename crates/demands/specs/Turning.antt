@@ -6,10 +6,9 @@
 -- one test over degree, orientation and place.
 -- Assumes nothing.
 use mathlib.Core.Path.{_≡_, refl, sym, _∙_, ap, subst}
-use mathlib.Core.Logic.{_⊎_, inl, inr}
 use mathlib.Core.Bool.{Bool, true, false, cond}
-use mathlib.Core.List.{List, [], _∷_, _++_, List·Memᴰ, List·Memᴰ·not-nil, List·Memᴰ·append-cases, List·Memᴰ·eq-of-singleton}
-use Prim.Native.Nat.{ℕ, zero, suc, _+_, _*_, _/_, _-_, _^_, _≤_, _<_}
+use mathlib.Core.List.{List, List·Memᴰ, List·Memᴰ·not-nil, List·Memᴰ·eq-of-singleton}
+use Prim.Native.Nat.{ℕ, suc, _+_, _*_, _/_, _-_, _^_, _≤_, _<_}
 use native.Mathlib.Omega.{arith}
 use native.Mathlib.Nat.{mul-pos}
 use lib.IntN.{ℤ, pos, natAbs, _+ℤ_, _-ℤ_, _*ℤ_, zero-*ℤ, +ℤ-idr, pos-*ℤ-pos}
@@ -33,7 +32,8 @@ use Rattle.table.specs.Order.{InOrder}
 use Rattle.table.specs.Entries.{recordsOf, holds}
 use Rattle.table.specs.MapLaws.{records-looked, lookup-valid}
 use Rattle.queries.specs.Queries.{there, chosenAt}
-use Rattle.counts.specs.Counts.{gather, nextPlace, face, faceWith, facesAt, turned}
+use Rattle.counts.specs.Counts.{nextPlace, face, faceWith, facesAt, turned}
+use Rattle.counts.specs.DifferentLaws.{gather-mem}
 use Rattle.counts.specs.FaceLaws.{SameRound, straight, once, twice, thrice}
 use Rattle.counts.specs.declared.faces.Face.{Face}
 
@@ -195,16 +195,6 @@ left-round f g (once e) l = subst LeftFace e (left-turned f l)
 left-round f g (twice e) l = subst LeftFace e (left-turned (turned f) (left-turned f l))
 left-round f g (thrice e) l = subst LeftFace e (left-turned (turned (turned f)) (left-turned (turned f) (left-turned f l)))
 
-gathered : {A : Type 0} (d : ℕ) (g : ℕ → List A) (x : A) → List·Memᴰ x (gather d g) → (j : ℕ) × (j < d) × List·Memᴰ x (g j)
-unfolding gather
-gathered zero g x m = absurd (List·Memᴰ·not-nil m)
-gathered (suc d) g x m = go (List·Memᴰ·append-cases (gather d g) m) (gathered d g x)
-  where
-    go : List·Memᴰ x (gather d g) ⊎ List·Memᴰ x (g d) → (List·Memᴰ x (gather d g) → (j : ℕ) × (j < d) × List·Memᴰ x (g j))
-        → (j : ℕ) × (j < suc d) × List·Memᴰ x (g j)
-    go (inl n) r = let (j, h, k) = r n in (j, omega arith, k)
-    go (inr n) r = (d, omega arith, n)
-
 module _ (t : List ℕ) (o : InOrder t) (v : Record) (m : List·Memᴰ v (recordsOf t)) where
   module _ (j : ℕ) (h : j < v .d) where
     valid : validOf v ≡ true
@@ -239,5 +229,5 @@ module _ (t : List ℕ) (o : InOrder t) (v : Record) (m : List·Memᴰ v (record
 
   pub face-left : (f : Face) → List·Memᴰ f (facesAt t v) → LeftFace f
   face-left f n =
-      let (j, h, k) = gathered (v .d) (λ j. faceWith v j (chosenAt t v j)) f n in
+      let (j, h, k) = gather-mem (v .d) (λ j. faceWith v j (chosenAt t v j)) f n in
       spot-left j h (chosenAt t v j) refl f k

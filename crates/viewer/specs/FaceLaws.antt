@@ -8,7 +8,7 @@ use mathlib.Core.Logic.{_⊎_, inl, inr}
 use mathlib.Core.Bool.{Bool, true, false, cond, not, _&&_, _||_, or-false, or-true}
 use mathlib.Core.List.{List, [], _∷_, _++_, map, List·Memᴰ, List·Memᴰ·head, List·Memᴰ·tail, List·Memᴰ·cases-cons, List·Memᴰ·not-nil}
 use mathlib.Core.List.{Memᴰ·append-left, Memᴰ·append-right, List·Memᴰ·append-cases, List·Memᴰ·eq-of-singleton, Memᴰ·of-map}
-use Prim.Native.Nat.{ℕ, zero, suc, _+_, _≤_, _<_}
+use Prim.Native.Nat.{ℕ, _+_, _≤_, _<_}
 use native.Mathlib.Omega.{arith}
 use native.Mathlib.Decide.{decLt}
 use borrow.Author.Tests.{ltb-true, ltb-false, lt-ltb, leb-true, le-leb}
@@ -23,9 +23,10 @@ use Rattle.table.specs.Order.{InOrder}
 use Rattle.table.specs.Entries.{recordsOf}
 use Rattle.table.specs.MapLaws.{records-looked, lookup-stands}
 use Rattle.queries.specs.Queries.{chosenAt}
-use Rattle.counts.specs.Counts.{bit, differentAfter, gather, each, face, faceWith, facesAt, turned, sameFace, facesIn}
+use Rattle.counts.specs.Counts.{bit, differentAfter, each, face, faceWith, facesAt, turned, sameFace, facesIn}
 use Rattle.counts.specs.FaceLaws.{SameRound, straight, once, twice, thrice, round-same}
 use Rattle.counts.specs.SetLaws.{Alike}
+use Rattle.counts.specs.DifferentLaws.{gather-mem}
 use Rattle.counts.specs.SameLaws.{faces-alike}
 use Rattle.counts.specs.declared.faces.Face.{Face}
 use Rattle.sorting.specs.SortLaws.{mem-sort, sort-length, Rising, rising-into, Decides, sort-rising}
@@ -153,16 +154,6 @@ module _ {A B : Type 0} (g : A → List B) where
       go : (v ≡ u) ⊎ List·Memᴰ v vs → (List·Memᴰ v vs → List·Memᴰ x (each g vs)) → List·Memᴰ x (g u ++ each g vs)
       go (inl e) ih = Memᴰ·append-left (each g vs) (subst (λ (z : A). List·Memᴰ x (g z)) e k)
       go (inr n) ih = Memᴰ·append-right (g u) (ih n)
-
-gather-mem : {A : Type 0} (d : ℕ) (g : ℕ → List A) (x : A) → List·Memᴰ x (gather d g) → (j : ℕ) × (j < d) × List·Memᴰ x (g j)
-unfolding gather
-gather-mem zero g x m = absurd (List·Memᴰ·not-nil m)
-gather-mem {A} (suc d) g x m = go (List·Memᴰ·append-cases (gather d g) m) (λ k. gather-mem d g x k)
-  where
-    go : List·Memᴰ x (gather d g) ⊎ List·Memᴰ x (g d) → (List·Memᴰ x (gather d g) → (j : ℕ) × (j < d) × List·Memᴰ x (g j))
-        → (j : ℕ) × (j < suc d) × List·Memᴰ x (g j)
-    go (inl k) ih = let w = ih k in (w .0, omega (arith, w .1), w .2)
-    go (inr k) ih = (d, omega arith, k)
 
 abbrev pub Differ : Face → Face → Type 0
 Differ f g = sameFace f g ≡ false
