@@ -5,6 +5,8 @@ pub mod Patterns
 pub mod Stars
 pub mod AnswerRows
 pub mod Rows
+pub mod Terms
+pub mod Arms
 pub mod Subdivision
 pub mod Ranks
 pub mod Examples
@@ -15,6 +17,7 @@ pub mod RecordLaws
 pub mod PatternLaws
 pub mod RowLaws
 pub mod StarLaws
+pub mod ArmLaws
 pub mod AnswerRowLaws
 pub mod Places
 pub mod RankBounds
