@@ -19,6 +19,7 @@ pub mod ChangeLaws
 pub mod WriteLaws
 pub mod RecordLaws
 pub mod LookLaws
+pub mod GroupLaws
 pub mod PutLaws
 pub mod AllLaws
 -- what the floors above cite: the index of the three before
