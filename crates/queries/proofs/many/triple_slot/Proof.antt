@@ -1,5 +1,6 @@
--- `queries::answer_triple` meets its promise: by whether its m is a byte. Assumes nothing.
+-- `queries::triple_slot` meets its promise: by whether its m is a byte. Assumes nothing.
 use mathlib.Core.Path.{_≡_, sym, _∙_, ap, subst}
+use mathlib.Core.Bool.{Bool, true, false}
 use mathlib.Core.List.{List}
 use Prim.Native.Nat.{ℕ, _+_, _*_}
 use borrow.Author.Needs.{needs}
@@ -10,22 +11,25 @@ use lib.Signed.{ltZ, nonNeg}
 use mir.Syntax.{w32, w8}
 use mir.Val.{SFits, toZ, ofZ, Fits}
 use mir.Facts.{toZ-ofZ}
-use Rattle.lattice.specs.declared.stars.Answer.{Answer}
-use Rattle.queries.specs.Queries.{queryOf}
-use Rattle.queries.specs.Asked.{answerAt}
-use Rattle.laws.specs.Triples.{below-byte, above-byte, Byte, within-byte}
-use Rattle.lattice.specs.AnswerRowLaws.{answer-parts}
-use Rattle.queries.specs.ManyLaws.{triple-3, triple-one}
-use Rattle.queries.proofs.many.answer_triple.Statement.{statement}
-use Rattle.queries.proofs.many.answer_triple.Tie as tie
+use Rattle.laws.specs.Choices.{unless}
+use Rattle.laws.specs.Triples.{isByte, below-byte, above-byte, Byte, within-byte}
+use Rattle.lattice.specs.Points.{normalOf}
+use Rattle.table.specs.Entries.{slotIn}
+use Rattle.table.specs.Search.{findOf}
+use Rattle.queries.specs.ManyLaws.{tripleSlot}
+use Rattle.queries.proofs.many.triple_slot.Statement.{statement}
+use Rattle.queries.proofs.many.triple_slot.Tie as tie
 
 -- the triple, as the machine reads it
 module _ (c : tie.After-m) where
   abbrev start : tie.Start
   start = c .before .before .before .before
 
-  abbrev query : ℤ → ℤ → ℕ → Answer
-  query = queryOf (answerAt (start .args .q) (start .args .t .now)) (start .args .t .now)
+  abbrev t : List ℕ
+  t = start .args .t .now
+
+  abbrev n : ℕ
+  n = start .args .n
 
   abbrev ps : List ℤ
   ps = start .args .points .now
@@ -39,19 +43,22 @@ module _ (c : tie.After-m) where
   read : toZ w32 (ofZ w32 M) ≡ M
   read = toZ-ofZ (record { sfits = c .m .given })
 
+  -- where the point is found, if its m is a byte
+  abbrev found : ℤ → ℤ → ℤ → ℕ
+  found a b m = slotIn n (findOf t (normalOf a b (natAbs m)))
+
+  by-byte : (b : Bool) → isByte M ≡ b → unless b n (found (getD ps (3 * i) (pos 0)) (getD ps (3 * i + 1) (pos 0)) M) ≡ tripleSlot t n ps i
+  by-byte b e = ap (λ (x : Bool). unless x n (found (getD ps (3 * i) (pos 0)) (getD ps (3 * i + 1) (pos 0)) M)) (sym e)
+
 returns : tie.Need-returns
 returns c =
-    let e = c .before .before in
-    let k = e .before in
-    let p = answer-parts (triple-3 (query k) (ps k) (i k) (below-byte (M k) (ap (λ (z : ℤ). ltZ z (pos 0)) (sym (read k)) ∙ e .if1 .taken))) in
-    (c .refuse-row .ensures .0 ∙ p .0, c .refuse-row .ensures .1 ∙ p .1)
+    let k = c .before in
+    by-byte k false (below-byte (M k) (ap (λ (z : ℤ). ltZ z (pos 0)) (sym (read k)) ∙ c .if1 .taken))
 
 returns-2 : tie.Need-returns-2
 returns-2 c =
-    let e = c .before .before in
-    let k = e .before .before in
-    let p = answer-parts (triple-3 (query k) (ps k) (i k) (above-byte (M k) (ap (λ (z : ℤ). ltZ (pos 255) z) (sym (read k)) ∙ e .if2 .taken))) in
-    (c .refuse-row2 .ensures .0 ∙ p .0, c .refuse-row2 .ensures .1 ∙ p .1)
+    let k = c .before .before in
+    by-byte k false (above-byte (M k) (ap (λ (z : ℤ). ltZ (pos 255) z) (sym (read k)) ∙ c .if2 .taken))
 
 byte : (c : tie.Else2) → Byte (M (c .before .before))
 byte c =
@@ -59,23 +66,22 @@ byte c =
     within-byte (M k) (ap (λ (z : ℤ). ltZ z (pos 0)) (sym (read k)) ∙ c .before .if1 .left)
     (ap (λ (z : ℤ). ltZ (pos 255) z) (sym (read k)) ∙ c .if2 .left)
 
-cast-answer-in : tie.Need-cast-answer-in
-cast-answer-in c =
+cast-slot-by-guess : tie.Need-cast-slot-by-guess
+cast-slot-by-guess c =
     let k = c .before .before in
     let b = byte c in
     subst (λ (z : ℤ). T (nonNeg z) × Fits w8 (natAbs z)) (sym (read k)) (b .sign, record { fits = b .size })
 
 returns-3 : tie.Need-returns-3
 returns-3 c =
-    let e = c .before .before in
+    let e = c .before in
     let k = e .before .before in
     let fa : SFits w32 (getD (ps k) (3 * i k) (pos 0)) = record { sfits = k .before .before .a .given } in
     let fb : SFits w32 (getD (ps k) (3 * i k + 1) (pos 0)) = record { sfits = k .before .b .given } in
-    let p = answer-parts ((λ j. query k (toZ-ofZ fa j) (toZ-ofZ fb j) (natAbs (read k j))) ∙ triple-one (query k) (ps k) (i k) (byte e .is)) in
-    (c .answer-in .ensures .0 ∙ p .0, c .answer-in .ensures .1 ∙ p .1)
+    c .slot-by-guess .ensures ∙ (λ j. found k (toZ-ofZ fa j) (toZ-ofZ fb j) (read k j)) ∙ by-byte k true (byte e .is)
 
-pub answer-triple-spec : {M : Type 1} → statement M
-answer-triple-spec =
+pub triple-slot-spec : {M : Type 1} → statement M
+triple-slot-spec =
     tie.close
     (tie.spec
     (λ c. search needs)
@@ -89,10 +95,8 @@ answer-triple-spec =
     (λ c. search needs)
     (λ c. search needs)
     (λ c. search needs)
-    (λ c κs. search needs)
     returns
-    (λ c κs. search needs)
     returns-2
-    cast-answer-in
+    cast-slot-by-guess
     (λ c κs. search needs)
     returns-3)
