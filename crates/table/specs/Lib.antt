@@ -15,6 +15,7 @@ pub mod SearchLaws
 pub mod HomeLaws
 pub mod OrderLaws
 pub mod EntryLaws
+pub mod RunLaws
 pub mod ChangeLaws
 pub mod WriteLaws
 pub mod RecordLaws

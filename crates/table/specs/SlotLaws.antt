@@ -1,5 +1,5 @@
 -- The laws of the slots. What stands above cites these and never opens a byte.
--- `table-slots`, `slots-table`, `test-table` the fit of a length, `lengths-..` of two · `free-first`, `free-words`, `slot-free`,
+-- `table-slots`, `slots-table`, `test-table` the fit of a length, `lengths-..` of two · `free-byte`, `free-first`, `free-words`, `slot-free`,
 -- `slot-held` a slot read word by word ·
 -- `slot-written` one written in three parts · `put-same`, `put-other`, `put-length` a slot written and read back · `free-none`, `free-more` a count of
 -- free slots · `cleared-free` · `home-below` · `slot-same` equal bytes, equal slots.
