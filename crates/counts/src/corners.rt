@@ -26,8 +26,10 @@ use crate::sides::far_count;
 use crate::sides::has_face;
 use crate::sides::near_count;
 use crate::sides::prev_place;
+use lattice::ANSWER_NUMBERS;
 use lattice::Record;
-use lattice::adjacent_of;
+use lattice::point_at;
+use lattice::ring;
 use table::Slot;
 use table::read_slot;
 
@@ -133,10 +135,12 @@ fn count_star(t: &[u8], v: Record, k: usize, n: usize) -> Counted
     let mut faces = 0;
     let mut sides = 0;
     let mut plain = true;
-    let mut a = with_slot(t, adjacent_of(v, 0), n);
+    let mut row = [0; ANSWER_NUMBERS];
+    ring(&mut row, v);
+    let mut a = with_slot(t, point_at(&row, v, 0), n);
     let mut j = 0;
     while j < d {
-        let b = with_slot(t, adjacent_of(v, next_place(d, j)), n);
+        let b = with_slot(t, point_at(&row, v, next_place(d, j)), n);
         let c = count_corner(t, v, j, a, b, k, n);
         faces += c.faces;
         sides += c.sides;

@@ -27,8 +27,10 @@ use counts::Face;
 use counts::Placed;
 use counts::next_place;
 use counts::with_slot;
+use lattice::ANSWER_NUMBERS;
 use lattice::Record;
-use lattice::adjacent_of;
+use lattice::point_at;
+use lattice::ring;
 use mesh_faces::Fresh;
 use mesh_faces::fresh_between;
 use sorting::put_key;
@@ -114,10 +116,12 @@ fn put_star(
         return from;
     }
     let mut at = from;
-    let mut a = with_slot(t, adjacent_of(v, 0), n);
+    let mut row = [0; ANSWER_NUMBERS];
+    ring(&mut row, v);
+    let mut a = with_slot(t, point_at(&row, v, 0), n);
     let mut j = 0;
     while j < d {
-        let b = with_slot(t, adjacent_of(v, next_place(d, j)), n);
+        let b = with_slot(t, point_at(&row, v, next_place(d, j)), n);
         at = put_corner(t, v, j, a, b, k, n, plain, out, vertices, base, at);
         a = b;
         j += 1;

@@ -1,6 +1,6 @@
 -- `counts::count_star` meets its promise: nothing without a star. The invariant: the corners so far are counted, and a is the next adjacent
 -- point. Assumes nothing.
-use mathlib.Core.Path.{_≡_, refl, ap, sym, _∙_}
+use mathlib.Core.Path.{_≡_, refl, ap, sym, _∙_, subst}
 use mathlib.Core.Bool.{Bool, true, false, cond}
 use Prim.Native.Nat.{ℕ, _≤_, _-_}
 use native.Mathlib.Omega.{arith}
@@ -10,6 +10,7 @@ use lib.Dec.{eqb}
 use Rattle.laws.specs.Rules.{upto}
 use Rattle.lattice.specs.Stars.{adjacentAt}
 use Rattle.lattice.specs.RecordLaws.{Inner}
+use Rattle.table.specs.Slots.{Table}
 use Rattle.counts.specs.Counts.{nextPlace}
 use Rattle.counts.specs.Earlier.{sumBelow, placedOf, facesAndSides, cornerCount, sideCount, plainAt}
 use Rattle.counts.specs.DifferentLaws.{sum-none}
@@ -31,13 +32,13 @@ round-first d = go (eqb 0 d)
     go false = refl
 
 abbrev Inv-loop : tie.InvT-loop
-Inv-loop t v k n d faces₀ sides₀ plain₀ a₀ j₀ faces sides plain a j =
+Inv-loop t v k n d faces₀ sides₀ plain₀ row a₀ j₀ faces sides plain a j =
     (j ≤ v .d)
     × (Summed (cornerCount t k v) 1 j faces
     × (Summed (sideCount t k v) 3 j sides × ((a ≡ placedOf t (adjacentAt v (round (v .d) j))) × (plain ≡ upto j (plainAt t k v)))))
 
 abbrev μ-loop : tie.MeasureT-loop
-μ-loop t v k n d faces₀ sides₀ plain₀ a₀ j₀ faces sides plain a j = v .d - j
+μ-loop t v k n d faces₀ sides₀ plain₀ row a₀ j₀ faces sides plain a j = v .d - j
 
 returns : tie.Need-returns Inv-loop μ-loop
 returns c =
@@ -46,21 +47,28 @@ returns c =
     let all = ap (λ (d : ℕ). upto d (plainAt (a .t .now) (a .k) (a .v))) (sym (c .if1 .taken)) in
     ((λ i. facesAndSides (none (cornerCount (a .t .now) (a .k) (a .v)) i) (none (sideCount (a .t .now) (a .k) (a .v)) i) (all i)), (omega arith, omega arith))
 
-adjacent-of-requires : tie.Need-adjacent-of-requires Inv-loop μ-loop
-adjacent-of-requires c κs =
-    let s = c .before .before in
-    (valid-inner (s .args .v) 0 (s .pre .1 .0) (omega (arith, c .if1 .left)), omega (arith, c .if1 .left))
+ring-requires : tie.Need-ring-requires Inv-loop μ-loop
+ring-requires c κs =
+    let i = c .before in
+    let s = i .before .before in
+    valid-inner (s .args .v) 0 (s .pre .1 .0) (omega (arith, i .if1 .left))
+
+point-at-requires : tie.Need-point-at-requires Inv-loop μ-loop
+point-at-requires c κs =
+    let i = c .before .before .before in
+    let s = i .before .before in
+    (c .before .ring .ensures, (valid-inner (s .args .v) 0 (s .pre .1 .0) (omega (arith, i .if1 .left)), omega (arith, i .if1 .left)))
 
 loop-holds : tie.Need-loop-holds Inv-loop μ-loop
 loop-holds c =
-    let a = c .before .before .before .before .args in
+    let a = c .before .before .before .before .before .before .before .args in
     let t = a .t .now in (
       omega arith,
       (
         summed-start (cornerCount t (a .k) (a .v)) 1,
         (
           summed-start (sideCount t (a .k) (a .v)) 3,
-          (c .with-slot .ensures ∙ ap (placedOf t) (c .before .adjacent-of .ensures ∙ ap (adjacentAt (a .v)) (round-first (a .v .d))), refl),
+          (c .with-slot .ensures ∙ ap (placedOf t) (c .before .point-at .ensures ∙ ap (adjacentAt (a .v)) (round-first (a .v .d))), refl),
         ),
       ),
     )
@@ -68,22 +76,28 @@ loop-holds c =
 -- in the loop there is a star
 module _ (c : tie.In-loop Inv-loop μ-loop) where
   abbrev s : tie.Start Inv-loop μ-loop
-  s = c .before .before .before .before .before .before
+  s = c .before .before .before .before .before .before .before .before .before
 
   star : Inner (s .args .v)
   star = valid-inner (s .args .v) (c .before .loop .j) (s .pre .1 .0) (omega (arith, c .loop-test .taken))
 
-adjacent-of-requires-2 : tie.Need-adjacent-of-requires-2 Inv-loop μ-loop
-adjacent-of-requires-2 c κs = (star (c .before), c .next-place .ensures .1)
+point-at-requires-2 : tie.Need-point-at-requires-2 Inv-loop μ-loop
+point-at-requires-2 c κs =
+    (c .before .before .before .before .before .before .before .ring .ensures, (star (c .before .before), c .next-place .ensures .1))
+
+with-slot-requires-2 : tie.Need-with-slot-requires-2 Inv-loop μ-loop
+with-slot-requires-2 c κs =
+    let z = s (c .before .before .before) in
+    subst (λ (n : ℕ). Table (z .args .t .now) n) (sym (z .pre .0 .1 .0)) (z .pre .0 .0 .fits)
 
 -- the next adjacent point
 module _ (c : tie.After-with-slot2 Inv-loop μ-loop) where
   abbrev loop : tie.In-loop Inv-loop μ-loop
-  loop = c .before .before .before
+  loop = c .before .before .before .before
 
   next : c .with-slot2 .result ≡ placedOf (s loop .args .t .now) (adjacentAt (s loop .args .v) (nextPlace (s loop .args .v .d) (loop .before .loop .j)))
   next = c .with-slot2 .ensures
-      ∙ ap (placedOf (s loop .args .t .now)) (c .before .adjacent-of2 .ensures ∙ ap (adjacentAt (s loop .args .v)) (c .before .before .next-place .ensures .0))
+      ∙ ap (placedOf (s loop .args .t .now)) (c .before .point-at2 .ensures ∙ ap (adjacentAt (s loop .args .v)) (c .before .before .next-place .ensures .0))
 
 count-corner-requires : tie.Need-count-corner-requires Inv-loop μ-loop
 count-corner-requires c κs =
@@ -143,7 +157,7 @@ loop-again c =
 returns-2 : tie.Need-returns-2 Inv-loop μ-loop
 returns-2 c =
     let l = c .before .loop in
-    let z = c .before .before .before .before .before .before in
+    let z = c .before .before .before .before .before .before .before .before .before in
     let a = z .args in
     let t = a .t .now in
     let e : l .j ≡ a .v .d = omega (arith, l .inv .0, c .loop-test .left) in
@@ -161,12 +175,13 @@ count-star-spec =
     Inv-loop
     μ-loop
     returns
-    adjacent-of-requires
+    ring-requires
+    point-at-requires
     (λ c κs. search needs)
     loop-holds
     (λ c κs. search needs)
-    adjacent-of-requires-2
-    (λ c κs. search needs)
+    point-at-requires-2
+    with-slot-requires-2
     count-corner-requires
     add-faces
     add-sides
