@@ -102,8 +102,7 @@ fn count_corner(t: &[u8], v: Record, j: u8, a: Placed, b: Placed, k: usize, n: u
     ensures { λ r. ⌜ (r .faces ≤ 1) × (r .sides ≤ 3) ⌝ }
 {
     match choose(t, v, j, n) {
-        Choice::First(o) => count_face(t, v, j, false, a, o, b, k, n),
-        Choice::Second(o) => count_face(t, v, j, true, a, o, b, k, n),
+        Choice::Is(second, o) => count_face(t, v, j, second, a, o, b, k, n),
         Choice::Neither => {
             let has = has_face(t, v, prev_place(v.d, j), n);
             let sides = near_count(t, v, j, a, has, false, k, n);

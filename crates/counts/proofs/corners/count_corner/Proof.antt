@@ -6,7 +6,7 @@ use borrow.Author.Needs.{needs}
 use Rattle.laws.specs.Each.{never}
 use Rattle.queries.specs.Queries.{isPoint, chosenAt}
 use Rattle.counts.specs.Earlier.{facesAndSides}
-use Rattle.counts.specs.Choices.{choice-first, choice-second, choice-neither}
+use Rattle.counts.specs.Choices.{choice-is, choice-neither}
 use Rattle.counts.specs.CaseLaws.{faced-second, corner-none, far-none, plain-none}
 use Rattle.counts.proofs.corners.count_corner.Statement.{statement}
 use Rattle.counts.proofs.corners.count_corner.Tie as tie
@@ -17,24 +17,8 @@ count-face-requires c κs =
     let h = o .before .before in
     let s = h .before .before in
     let a = s .args in
-    let x = choice-first (a .t .now) (a .v) (a .j) (o .o .given .0 .0) (sym (h .choose .ensures) ∙ o .o .given .1) in (
-      s .pre .0,
-      (
-        s .pre .1 .0,
-        (
-          s .pre .1 .1 .0,
-          (record { adjacent = s .pre .1 .1 .1 .0; chosen = x .chosen; opposite = x .slot; next = s .pre .1 .1 .1 .1 }, x .spot),
-        ),
-      ),
-    )
-
-count-face-requires-2 : tie.Need-count-face-requires-2
-count-face-requires-2 c κs =
-    let o = c .before in
-    let h = o .before .before in
-    let s = h .before .before in
-    let a = s .args in
-    let x = choice-second (a .t .now) (a .v) (a .j) (o .o2 .given .0 .0) (sym (h .choose .ensures) ∙ o .o2 .given .1) in (
+    let g = o .second .given in
+    let x = choice-is (a .t .now) (a .v) (a .j) (g .0 .0) (g .0 .1 .0) (sym (h .choose .ensures) ∙ g .1) in (
       s .pre .0,
       (
         s .pre .1 .0,
@@ -64,8 +48,8 @@ near-count-requires c κs =
       ),
     )
 
-returns-3 : tie.Need-returns-3
-returns-3 c =
+returns-2 : tie.Need-returns-2
+returns-2 c =
     let o = c .before .before .before in
     let h = o .before .before in
     let a = h .before .before .args in
@@ -88,11 +72,8 @@ count-corner-spec =
     (λ c. search needs)
     count-face-requires
     (λ c. search needs)
-    count-face-requires-2
-    (λ c. search needs)
     (λ c κs. search needs)
     (λ c κs. search needs)
     near-count-requires
     (λ c. c .count-face .ensures)
-    (λ c. c .count-face2 .ensures)
-    returns-3)
+    returns-2)
