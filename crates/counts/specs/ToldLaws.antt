@@ -37,7 +37,7 @@ use Rattle.counts.specs.FaceLaws.{makes-names, next-below}
 use Rattle.counts.specs.NearFarLaws.{one-of, left-of, right-of, prev-next, near-has}
 use Rattle.counts.specs.Strides.{walkOf, backOf, oppositeBy, FitIn, FitsBy, Told, ToldOf, toldEarlier}
 use Rattle.counts.specs.StrideLaws.{toAdjacent, adjacent-some, adjacent-walk, back-some, back-walk, toOpposite, fromNext, side-walk, other-walk}
-use Rattle.counts.specs.StrideLaws.{some-opposite}
+use Rattle.counts.specs.StrideLaws.{stride-turn, some-opposite}
 use Rattle.counts.specs.declared.earlier.Placed.{Placed}
 use Rattle.counts.specs.declared.faces.Face.{Face}
 use Rattle.counts.specs.declared.fits.Fits.{Fits}
@@ -79,7 +79,7 @@ module _ (t : List ℕ) where
 
 module _ (t : List ℕ) (o : InOrder t) where
   module _ (s : ℕ) (f : Face) (x y z r : ℕ) (es : s ≡ slotIn t (f .at)) (there : holds t (f .opposite) ≡ true) (wx : walkOf (f .at) x ≡ f .adjacent)
-      (wy : walkOf (f .at) y ≡ f .next) (wz : walkOf (f .adjacent) z ≡ f .opposite) (l : 12 ≤ z) (w : FitIn t s x y z r) where
+      (wy : walkOf (f .at) y ≡ f .next) (wz : walkOf (f .adjacent) z ≡ f .opposite) (l : 16 ≤ z) (w : FitIn t s x y z r) where
     abbrev u : Record
     u = w .rec
 
@@ -110,8 +110,8 @@ module _ (t : List ℕ) (o : InOrder t) where
     last : adjacentAt u n ≡ f .next
     last = sym (adjacent-walk u inn turn n (next-below (u .d) i (w .fit .below))) ∙ (λ a. walkOf (at-it a) (w .fit .next a)) ∙ wy
 
-    long : 12 ≤ toOpposite u inn turn i (w .fit .below) (w .fit .second)
-    long = subst (λ (c : ℕ). 12 ≤ c) (sym (w .fit .side)) l
+    long : 16 ≤ toOpposite u inn turn i (w .fit .below) (w .fit .second)
+    long = subst (λ (c : ℕ). 16 ≤ c) (sym (w .fit .side)) l
 
     opposite : oppositeBy u i (w .fit .second) ≡ At (f .opposite)
     opposite =
@@ -163,7 +163,7 @@ module _ (t : List ℕ) (o : InOrder t) where
         })
 
   told : (s : ℕ) (f : Face) (x y z r : ℕ) → s ≡ slotIn t (f .at) → walkOf (f .at) x ≡ f .adjacent → walkOf (f .at) y ≡ f .next
-      → walkOf (f .adjacent) z ≡ f .opposite → 12 ≤ z → (0 < r → (holds t (f .opposite) ≡ true) × FitIn t s x y z r) → Told t s f r
+      → walkOf (f .adjacent) z ≡ f .opposite → 16 ≤ z → (0 < r → (holds t (f .opposite) ≡ true) × FitIn t s x y z r) → Told t s f r
   told s f x y z r es wx wy wz l g =
       record {
         adjacent = λ h. near s f x y z r es (g h .0) wx wy wz l (g h .1);
@@ -173,7 +173,7 @@ module _ (t : List ℕ) (o : InOrder t) where
 
   -- ---- the other three vertices of the face of corner j of v
   module _ (v : Record) (i : Inner v) (turn : v .k < 12) (j : ℕ) (h : j < v .d) (second : Bool) (q : Point) (e : oppositeBy v j second ≡ At q)
-      (l₁ : 12 ≤ toOpposite v i turn j h second) (l₂ : 12 ≤ fromNext v i turn j h second) where
+      (l₁ : 16 ≤ toOpposite v i turn j h second) (l₂ : 16 ≤ fromNext v i turn j h second) where
     hn : nextPlace (v .d) j < v .d
     hn = next-below (v .d) j h
 
@@ -208,26 +208,26 @@ module _ (t : List ℕ) (o : InOrder t) where
     b-q = other-walk v i turn j h second q e l₂
 
     a-v : walkOf a (backOf toA) ≡ v .at
-    a-v = back-walk (v .at) a toA (low-normal (v .at) (i .normal)) v-a
+    a-v = back-walk (v .at) a toA (stride-turn _ _ _ _) (low-normal (v .at) (i .normal)) v-a
 
     b-v : walkOf b (backOf toB) ≡ v .at
-    b-v = back-walk (v .at) b toB (low-normal (v .at) (i .normal)) v-b
+    b-v = back-walk (v .at) b toB (stride-turn _ _ _ _) (low-normal (v .at) (i .normal)) v-b
 
     q-a : walkOf q (backOf fromA) ≡ a
-    q-a = back-walk a q fromA (normal-low _ _ _) a-q
+    q-a = back-walk a q fromA (stride-turn _ _ _ _) (normal-low _ _ _) a-q
 
     q-b : walkOf q (backOf fromB) ≡ b
-    q-b = back-walk b q fromB (normal-low _ _ _) b-q
+    q-b = back-walk b q fromB (stride-turn _ _ _ _) (normal-low _ _ _) b-q
 
     -- all three, by their strides
     pub round-told : (x y z : Placed) → Round t v j x y z → y .at ≡ q → holds t (v .at) ≡ true → (r : Fits)
         → FitsBy t (x .slot) (y .slot) (z .slot) toA toB fromA fromB r → ToldOf t (faceOn v j q) (x .slot) (y .slot) (z .slot) r
     round-told x y z w eq here r g =
         record {
-          adjacent = told (x .slot) (turned f) fromA (backOf toA) (backOf fromB) (r .adjacent) ea a-q a-v q-b (back-some fromB l₂)
+          adjacent = told (x .slot) (turned f) fromA (backOf toA) (backOf fromB) (r .adjacent) ea a-q a-v q-b (back-some fromB (stride-turn _ _ _ _) l₂)
               (λ k. let u = g .adjacent k in (held-slot b (z .slot) eb (u .0), u .1));
           opposite = told (y .slot) (turned (turned f)) (backOf fromB) (backOf fromA) (backOf toB) (r .opposite) (w .opposite ∙ ap (slotIn t) eq) q-b q-a b-v
-              (back-some toB (adjacent-some v i turn (nextPlace (v .d) j) hn))
+              (back-some toB (stride-turn _ _ _ _) (adjacent-some v i turn (nextPlace (v .d) j) hn))
               (λ k. (here, g .opposite k .1));
           next = told (z .slot) (turned (turned (turned f))) (backOf toB) fromB toA (r .next) eb b-v b-q v-a (adjacent-some v i turn j h)
               (λ k. let u = g .next k in (held-slot a (x .slot) ea (u .0), u .1));
