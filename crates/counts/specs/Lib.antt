@@ -6,6 +6,7 @@ pub mod Across
 pub mod Earlier
 pub mod Strides
 pub mod Choices
+pub mod Beside
 -- their laws
 pub mod DifferentLaws
 pub mod SetLaws
@@ -22,6 +23,7 @@ pub mod ToldLaws
 pub mod DegreeLaws
 pub mod AloneLaws
 pub mod CaseLaws
+pub mod BesideLaws
 pub mod CountLaws
 -- examples that compute
 pub mod Examples

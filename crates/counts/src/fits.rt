@@ -33,7 +33,7 @@ pub struct Fits {
 const LEAST: u8 = 16;
 
 // What the record in slot s has by these strides, where the point across is in the table.
-fn fit_in(t: &[u8], s: usize, there: bool, x: u8, y: u8, z: u8, n: usize) -> u8
+pub fn fit_in(t: &[u8], s: usize, there: bool, x: u8, y: u8, z: u8, n: usize) -> u8
     requires { ⌜ InOrder (now t) × (n ≡ slotsOf (now t)) ⌝ }
     ensures { λ r. ⌜ FitThere (now (t .entry)) s there x y z r ⌝ }
 {

@@ -11,6 +11,7 @@ ghost use Rattle.counts.specs.Counts.{countsOf};
 ghost use Rattle.counts.specs.Earlier.{plainOf};
 
 mod across;
+mod beside;
 mod choices;
 mod corners;
 mod degrees;
