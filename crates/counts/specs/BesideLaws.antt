@@ -61,7 +61,8 @@ module _ (t : List ℕ) (o : InOrder t) (k : ℕ) (l : k ≤ slotsOf t) (v : Rec
 
       go : Earlier a ⊎ Earlier b → f₁ || (f₂ || f₃) ≡ true
       go (inl h) = left-of f₁ (f₂ || f₃)
-          (ap (faceIn t k (turned (faceOn v j (firstAt v j)))) (sym ea) ∙ face-earlier t k a (turned (faceOn v j (firstAt v j))) (h .0) l ∙ w .adjacent (h .1) .1)
+          (ap (faceIn t k (turned (faceOn v j (firstAt v j)))) (sym ea)
+          ∙ face-earlier t k a (turned (faceOn v j (firstAt v j))) (h .0) l ∙ w .adjacent (h .1) .1)
       go (inr h) = right-of f₁ (f₂ || f₃)
           (right-of f₂ f₃
           (ap (faceIn t k (turned (turned (turned (faceOn v j (firstAt v j)))))) (sym eb)

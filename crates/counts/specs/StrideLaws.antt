@@ -82,7 +82,8 @@ adjacent-part d j l h k =
 
 -- the strides to a first opposite are some
 first-part : (d j : ℕ) → 3 ≤ d → d ≤ 6 → j < d
-    → Means (1 ≤? (partOf (sideRow d false) j / 16) & partOf (sideRow d false) j ≤? 62 & 1 ≤? (partOf (otherRow d false) j / 16) & partOf (otherRow d false) j ≤? 62)
+    → Means (1 ≤? (partOf (sideRow d false) j / 16) & partOf (sideRow d false) j ≤? 62 & 1 ≤? (partOf (otherRow d false) j / 16)
+    & partOf (otherRow d false) j ≤? 62)
 first-part d j l h k =
     rule2 7 6
     (λ d j. 3 ≤? d ⇒ suc j ≤? d

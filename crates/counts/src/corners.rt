@@ -21,10 +21,10 @@ use crate::choices::Choice;
 use crate::choices::choose;
 use crate::earlier::Placed;
 use crate::earlier::inners_before;
+use crate::earlier::next_placed;
 use crate::earlier::with_slot;
 use crate::faces::Face;
 use crate::faces::face_seen;
-use crate::faces::next_place;
 use crate::fits::fits_of;
 use crate::sides::far_count;
 use crate::sides::has_face;
@@ -156,7 +156,7 @@ fn count_corner(
     }
 }
 
-// What is counted at v, in slot k. Each adjacent point is searched for once, and the first once more.
+// What is counted at v, in slot k. Each adjacent point is searched for once.
 fn count_star(t: &[u8], v: Record, k: usize, n: usize, marks: &mut [u8; MARK_BYTES]) -> Counted
     requires { ⌜ InOrder (now t) × ((n ≡ slotsOf (now t)) × (k < n)) ⌝ }
     requires { ⌜ validOf v ≡ true ⌝ }
@@ -180,10 +180,11 @@ fn count_star(t: &[u8], v: Record, k: usize, n: usize, marks: &mut [u8; MARK_BYT
     let mut broad = true;
     let mut row = [0; ANSWER_NUMBERS];
     ring(&mut row, v);
-    let mut a = with_slot(t, point_at(&row, v, 0), n);
+    let first = with_slot(t, point_at(&row, v, 0), n);
+    let mut a = first;
     let mut j = 0;
     while j < d {
-        let b = with_slot(t, point_at(&row, v, next_place(d, j)), n);
+        let b = next_placed(t, &row, v, j, first, n);
         let c = count_corner(t, v, j, a, b, k, n, marks);
         faces += c.counted.faces;
         sides += c.counted.sides;

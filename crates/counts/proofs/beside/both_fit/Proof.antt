@@ -24,7 +24,9 @@ stride-requires-2 c κs =
     (omega (arith, c .next-place .ensures .1, p .0 .top), (p .1 .0, p .0 .level))
 
 stride-requires-3 : tie.Need-stride-requires-3
-stride-requires-3 c κs = let p = c .before .before .before .before .before .before .before .pre .1 .0 in (omega (arith, p .1 .1, p .0 .top), (p .1 .0, p .0 .level))
+stride-requires-3 c κs =
+    let p = c .before .before .before .before .before .before .before .pre .1 .0 in
+    (omega (arith, p .1 .1, p .0 .top), (p .1 .0, p .0 .level))
 
 stride-requires-4 : tie.Need-stride-requires-4
 stride-requires-4 c κs =

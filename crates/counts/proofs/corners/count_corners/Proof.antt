@@ -58,7 +58,8 @@ loop-again c =
           summed-more (slotSides t) 18 (l .loop .k) (l .loop .sides) (r .count-slot .result .sides) (l .loop .inv .1 .1 .0)
               (ap (λ (x : Counted). x .sides) (e .0)) (e .1 .0 .1),
           (
-            all-more (plainSlot t) (l .loop .k) (l .loop .plain) (r .count-slot .result .plain) (l .loop .inv .1 .1 .1 .0) (ap (λ (x : Counted). x .plain) (e .0)),
+            all-more (plainSlot t) (l .loop .k) (l .loop .plain) (r .count-slot .result .plain) (l .loop .inv .1 .1 .1 .0)
+                (ap (λ (x : Counted). x .plain) (e .0)),
             e .1 .1,
           ),
         ),

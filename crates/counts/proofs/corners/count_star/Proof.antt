@@ -34,13 +34,14 @@ round-first d = go (eqb 0 d)
     go false = refl
 
 abbrev Inv-loop : tie.InvT-loop
-Inv-loop t v k n marks d faces₀ sides₀ plain₀ broad₀ row a₀ j₀ faces sides plain broad a j =
+Inv-loop t v k n marks d faces₀ sides₀ plain₀ broad₀ row first a₀ j₀ faces sides plain broad a j =
     (j ≤ v .d)
     × (Summed (cornerCount t k v) 1 j faces
-    × (Summed (sideCount t k v) 3 j sides × ((a ≡ placedOf t (adjacentAt v (round (v .d) j))) × ((plain ≡ upto j (plainAt t k v)) × (broad ≡ true → upto j (broadAt t v) ≡ true)))))
+    × (Summed (sideCount t k v) 3 j sides
+    × ((a ≡ placedOf t (adjacentAt v (round (v .d) j))) × ((plain ≡ upto j (plainAt t k v)) × (broad ≡ true → upto j (broadAt t v) ≡ true)))))
 
 abbrev μ-loop : tie.MeasureT-loop
-μ-loop t v k n marks d faces₀ sides₀ plain₀ broad₀ row a₀ j₀ faces sides plain broad a j = v .d - j
+μ-loop t v k n marks d faces₀ sides₀ plain₀ broad₀ row first a₀ j₀ faces sides plain broad a j = v .d - j
 
 returns : tie.Need-returns Inv-loop μ-loop
 returns c =
@@ -86,23 +87,28 @@ module _ (c : tie.In-loop Inv-loop μ-loop) where
   star : Inner (s .args .v)
   star = valid-inner (s .args .v) (c .before .loop .j) (s .pre .1 .0) (omega (arith, c .loop-test .taken))
 
-point-at-requires-2 : tie.Need-point-at-requires-2 Inv-loop μ-loop
-point-at-requires-2 c κs =
-    (c .before .before .before .before .before .before .before .ring .ensures, (star (c .before .before), c .next-place .ensures .1))
-
-with-slot-requires-2 : tie.Need-with-slot-requires-2 Inv-loop μ-loop
-with-slot-requires-2 c κs =
-    let z = s (c .before .before .before) in
-    subst (λ (n : ℕ). Table (z .args .t .now) n) (sym (z .pre .0 .1 .0)) (z .pre .0 .0 .fits)
+-- the first adjacent point, found before the loop
+next-placed-requires : tie.Need-next-placed-requires Inv-loop μ-loop
+next-placed-requires c κs =
+    let i = c .before in
+    let z = s i in
+    let w = i .before .before in
+    let p = w .before in
+    let r = p .before .before in (
+      subst (λ (n : ℕ). Table (z .args .t .now) n) (sym (z .pre .0 .1 .0)) (z .pre .0 .0 .fits),
+      (
+        r .ring .ensures,
+        ((star i, omega (arith, i .loop-test .taken)), w .with-slot .ensures ∙ ap (placedOf (z .args .t .now)) (p .point-at .ensures)),
+      ),
+    )
 
 -- the next adjacent point
-module _ (c : tie.After-with-slot2 Inv-loop μ-loop) where
+module _ (c : tie.After-next-placed Inv-loop μ-loop) where
   abbrev loop : tie.In-loop Inv-loop μ-loop
-  loop = c .before .before .before .before
+  loop = c .before .before
 
-  next : c .with-slot2 .result ≡ placedOf (s loop .args .t .now) (adjacentAt (s loop .args .v) (nextPlace (s loop .args .v .d) (loop .before .loop .j)))
-  next = c .with-slot2 .ensures
-      ∙ ap (placedOf (s loop .args .t .now)) (c .before .point-at2 .ensures ∙ ap (adjacentAt (s loop .args .v)) (c .before .before .next-place .ensures .0))
+  next : c .next-placed .result ≡ placedOf (s loop .args .t .now) (adjacentAt (s loop .args .v) (nextPlace (s loop .args .v .d) (loop .before .loop .j)))
+  next = c .next-placed .ensures
 
 count-corner-requires : tie.Need-count-corner-requires Inv-loop μ-loop
 count-corner-requires c κs =
@@ -152,8 +158,8 @@ loop-again c =
     let e = r .count-corner .ensures in (
       omega (arith, i .loop-test .taken),
       (
-        summed-more (cornerCount t (a .k) (a .v)) 1 (l .j) (l .faces) (r .count-corner .result .counted .faces) (l .inv .1 .0) (ap (λ (x : Counted). x .faces) (e .0))
-            (e .1 .0 .0),
+        summed-more (cornerCount t (a .k) (a .v)) 1 (l .j) (l .faces) (r .count-corner .result .counted .faces) (l .inv .1 .0)
+            (ap (λ (x : Counted). x .faces) (e .0)) (e .1 .0 .0),
         (
           summed-more (sideCount t (a .k) (a .v)) 3 (l .j) (l .sides) (r .count-corner .result .counted .sides) (l .inv .1 .1 .0)
               (ap (λ (x : Counted). x .sides) (e .0)) (e .1 .0 .1),
@@ -199,9 +205,7 @@ count-star-spec =
     point-at-requires
     (λ c κs. search needs)
     loop-holds
-    (λ c κs. search needs)
-    point-at-requires-2
-    with-slot-requires-2
+    next-placed-requires
     count-corner-requires
     add-faces
     add-sides

@@ -31,11 +31,11 @@ round-first d = go (eqb 0 d)
     go false = refl
 
 abbrev Inv-loop : tie.InvT-loop
-Inv-loop t v k n plain out₀ vertices base from d at₀ row a₀ j₀ out at a j =
+Inv-loop t v k n plain out₀ vertices base from d at₀ row first a₀ j₀ out at a j =
     (j ≤ v .d) × (FacesIn t out₀ from (gather j (freshAt t k v)) out at × (a ≡ placedOf t (adjacentAt v (round (v .d) j))))
 
 abbrev μ-loop : tie.MeasureT-loop
-μ-loop t v k n plain out₀ vertices base from d at₀ row a₀ j₀ out at a j = v .d - j
+μ-loop t v k n plain out₀ vertices base from d at₀ row first a₀ j₀ out at a j = v .d - j
 
 returns : tie.Need-returns Inv-loop μ-loop
 returns c =
@@ -78,25 +78,31 @@ module _ (c : tie.In-loop Inv-loop μ-loop) where
   abbrev s : tie.Start Inv-loop μ-loop
   s = l .before .before .before .before .before .before .before .before .before
 
-point-at-requires-2 : tie.Need-point-at-requires-2 Inv-loop μ-loop
-point-at-requires-2 c κs =
-    let i = c .before .before in
-    let r = l i .before .before .before .before in
-    (r .ring .ensures, (star (s i) (l i .loop .j) (omega (arith, i .loop-test .taken)), c .next-place .ensures .1))
-
-with-slot-requires-2 : tie.Need-with-slot-requires-2 Inv-loop μ-loop
-with-slot-requires-2 c κs =
-    let z = s (c .before .before .before) in
-    subst (λ (n : ℕ). Table (z .args .t .now) n) (sym (z .pre .0 .1 .0)) (z .pre .0 .0 .fits)
+-- the first adjacent point, found before the loop
+next-placed-requires : tie.Need-next-placed-requires Inv-loop μ-loop
+next-placed-requires c κs =
+    let i = c .before in
+    let z = s i in
+    let w = l i .before in
+    let p = w .before in
+    let r = p .before .before in (
+      subst (λ (n : ℕ). Table (z .args .t .now) n) (sym (z .pre .0 .1 .0)) (z .pre .0 .0 .fits),
+      (
+        r .ring .ensures,
+        (
+          (star z (l i .loop .j) (omega (arith, i .loop-test .taken)), omega (arith, i .loop-test .taken)),
+          w .with-slot .ensures ∙ ap (placedOf (z .args .t .now)) (p .point-at .ensures),
+        ),
+      ),
+    )
 
 -- the next adjacent point
-module _ (c : tie.After-with-slot2 Inv-loop μ-loop) where
+module _ (c : tie.After-next-placed Inv-loop μ-loop) where
   abbrev i : tie.In-loop Inv-loop μ-loop
-  i = c .before .before .before .before
+  i = c .before .before
 
-  next : c .with-slot2 .result ≡ placedOf (s i .args .t .now) (adjacentAt (s i .args .v) (nextPlace (s i .args .v .d) (l i .loop .j)))
-  next = c .with-slot2 .ensures
-      ∙ ap (placedOf (s i .args .t .now)) (c .before .point-at2 .ensures ∙ ap (adjacentAt (s i .args .v)) (c .before .before .next-place .ensures .0))
+  next : c .next-placed .result ≡ placedOf (s i .args .t .now) (adjacentAt (s i .args .v) (nextPlace (s i .args .v .d) (l i .loop .j)))
+  next = c .next-placed .ensures
 
 put-corner-requires : tie.Need-put-corner-requires Inv-loop μ-loop
 put-corner-requires c κs =
@@ -174,9 +180,7 @@ put-star-spec =
     point-at-requires
     (λ c κs. search needs)
     loop-holds
-    (λ c κs. search needs)
-    point-at-requires-2
-    with-slot-requires-2
+    next-placed-requires
     put-corner-requires
     add-j
     (λ c. search needs)
