@@ -2,7 +2,6 @@
 pub mod Counts
 pub mod Count
 -- what the promises of the functions below cite besides
-pub mod Across
 pub mod Earlier
 pub mod Strides
 pub mod Choices
@@ -12,7 +11,6 @@ pub mod DifferentLaws
 pub mod SetLaws
 pub mod EarlierLaws
 pub mod StarLaws
-pub mod OppositeLaws
 pub mod AcrossLaws
 pub mod FaceLaws
 pub mod SameLaws

@@ -30,7 +30,7 @@ use Rattle.geometry.specs.GeometryLaws.{scale-lift, move-back, sum-sum}
 use Rattle.geometry.specs.SideLaws.{vector}
 use Rattle.geometry.specs.StarSteps.{turnOf, downOf, star-step}
 use Rattle.counts.specs.Counts.{bit, nextPlace}
-use Rattle.counts.specs.OppositeLaws.{oppositeOf, adjacent-depth, opposite-depth}
+use Rattle.across.specs.OppositeLaws.{oppositeOf, adjacent-depth, opposite-depth}
 use Rattle.counts.specs.Strides.{adjacentRow, sideRow, otherRow, partOf, strideWith, strideOf, walkOf, backOf, oppositeBy}
 use Rattle.counts.specs.FaceLaws.{next-below}
 

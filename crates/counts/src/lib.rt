@@ -10,7 +10,6 @@ ghost use Rattle.table.specs.Order.{InOrder};
 ghost use Rattle.counts.specs.Counts.{countsOf};
 ghost use Rattle.counts.specs.Earlier.{plainOf};
 
-mod across;
 mod beside;
 mod choices;
 mod corners;
