@@ -1,18 +1,18 @@
 // E and F, in one pass over the corners: at each the face, the side to its adjacent point, and the two sides across from the vertex.
 ghost use mathlib.Core.Path.{_≡_};
-ghost use mathlib.Core.Bool.{true, false, not};
+ghost use mathlib.Core.Bool.{true, false, not, _||_};
 ghost use Prim.Native.Nat.{_≤_, _<_};
 ghost use Rattle.lattice.specs.Stars.{adjacentAt};
 ghost use Rattle.lattice.specs.Records.{validOf};
 ghost use Rattle.lattice.specs.RecordLaws.{Inner};
 ghost use Rattle.lattice.specs.declared.patterns.Spot.the-variants.{At};
-ghost use Rattle.table.specs.Slots.{slotsOf, slotAt};
+ghost use Rattle.table.specs.Slots.{Table, slotsOf, slotAt};
 ghost use Rattle.table.specs.Order.{InOrder};
 ghost use Rattle.table.specs.declared.slots.Slot.the-variants.{Holds};
 ghost use Rattle.counts.specs.Counts.{bit, nextPlace, edgesIn, facesIn};
 ghost use Rattle.counts.specs.Strides.{oppositeBy};
 ghost use Rattle.counts.specs.Beside.{broadAt, Broad};
-ghost use Rattle.counts.specs.Earlier.{placedOf, Round, facesAndSides, cornerCount, starFaces, slotFaces, sideCount};
+ghost use Rattle.counts.specs.Earlier.{innersIn, placedOf, Round, facesAndSides, cornerCount, starFaces, slotFaces, sideCount};
 ghost use Rattle.counts.specs.Earlier.{starSides, slotSides, plainAt, plainStar, plainSlot, plainOf};
 use crate::beside::MARK_BYTES;
 use crate::beside::known_beside;
@@ -70,6 +70,17 @@ fn new_face(seen: bool) -> u32
     if seen { 0 } else { 1 }
 }
 
+// Whether a face is counted at the first of its vertices that have a star: seen tells whether one of the three others, in these slots, had it before.
+fn is_first(t: &[u8], a: usize, o: usize, b: usize, seen: bool, k: usize, n: usize) -> bool
+    requires { ⌜ Table (now t) n × (k ≤ n) ⌝ }
+    ensures { λ r. ⌜ r ≡ not (innersIn (now (t .entry)) k a o b) || seen ⌝ }
+{
+    if seen {
+        return true;
+    }
+    !inners_before(t, a, o, b, k, n)
+}
+
 // What is counted at corner j of v, in slot k, with a face: from its adjacent point a to the opposite o, the first or the second, and the next adjacent
 // point b.
 fn count_face(
@@ -106,8 +117,7 @@ fn count_face(
     let seen = face_seen(t, face, a.slot, o.slot, b.slot, fits, k, n);
     let faces = new_face(seen);
     let sides = near + far_count(t, v, j, a, o, b, fits, seen, k, n);
-    let before = inners_before(t, a.slot, o.slot, b.slot, k, n);
-    let plain = (a.slot < n) & (!before | seen);
+    let plain = (a.slot < n) & is_first(t, a.slot, o.slot, b.slot, seen, k, n);
     Counted {
         faces,
         sides,
