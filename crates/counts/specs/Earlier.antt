@@ -26,7 +26,7 @@ use Rattle.table.specs.declared.entries.Looked.{Looked}
 use Rattle.table.specs.declared.entries.Looked.the-variants.{Absent, Held}
 use Rattle.queries.specs.Queries.{chosenAt, isPoint}
 use Rattle.counts.specs.Counts.{bit, nextPlace, face, turned}
-use Rattle.counts.specs.Across.{factorOf, acrossOf, apexOf}
+use Rattle.across.specs.Across.{factorOf, acrossOf, apexOf}
 use Rattle.counts.specs.declared.earlier.Placed.{Placed}
 use Rattle.counts.specs.declared.faces.Face.{Face}
 use Rattle.counts.specs.declared.corners.Counted.{Counted}

@@ -1,11 +1,11 @@
--- `counts::factor_y` meets its promise: at each number. Assumes nothing.
+-- `across::factor_y` meets its promise: at each number. Assumes nothing.
 use mathlib.Core.Path.{sym, ap}
 use Prim.Native.Nat.{ℕ}
 use lib.IntN.{ℤ}
-use Rattle.counts.specs.Across.{factorOf}
-use Rattle.counts.specs.AcrossLaws.{past-six}
-use Rattle.counts.proofs.across.factor_y.Statement.{statement}
-use Rattle.counts.proofs.across.factor_y.Tie as tie
+use Rattle.across.specs.Across.{factorOf}
+use Rattle.across.specs.FactorLaws.{past-six}
+use Rattle.across.proofs.factor_y.Statement.{statement}
+use Rattle.across.proofs.factor_y.Tie as tie
 
 abbrev part : ℕ → ℤ
 part c = factorOf c .y

@@ -1,11 +1,11 @@
--- `counts::power` meets its promise: at each number. Assumes nothing.
+-- `across::power` meets its promise: at each number. Assumes nothing.
 use mathlib.Core.Path.{sym, ap}
 use Prim.Native.Nat.{ℕ, _^_}
 use native.Mathlib.Omega.{arith}
 use lib.IntN.{ℤ, pos}
-use Rattle.counts.specs.AcrossLaws.{past-six}
-use Rattle.counts.proofs.across.power.Statement.{statement}
-use Rattle.counts.proofs.across.power.Tie as tie
+use Rattle.across.specs.FactorLaws.{past-six}
+use Rattle.across.proofs.power.Statement.{statement}
+use Rattle.across.proofs.power.Tie as tie
 
 abbrev three : ℕ → ℤ
 three m = pos (3 ^ m)

@@ -1,4 +1,4 @@
--- `counts::apex` meets its promise: the two points at the greater depth, and their sums. Assumes nothing.
+-- `across::apex` meets its promise: the two points at the greater depth, and their sums. Assumes nothing.
 use mathlib.Core.Path.{_≡_, sym, ap, subst, _∙_}
 use Prim.Native.Nat.{ℕ, _≤_}
 use native.Mathlib.Omega.{arith}
@@ -9,10 +9,10 @@ use mir.Val.{toZ, ofZ, SFits}
 use mir.Facts.{toZ-ofZ}
 use Rattle.laws.specs.Machine.{Mx, back, need, whole, value, _+ᵐ_, _-ᵐ_}
 use Rattle.lattice.specs.Points.{lift, normalOf}
-use Rattle.counts.specs.Across.{apexAt, apexOf}
-use Rattle.counts.specs.OppositeLaws.{wide-bound, high-bound, raised-bound}
-use Rattle.counts.proofs.across.apex.Statement.{statement}
-use Rattle.counts.proofs.across.apex.Tie as tie
+use Rattle.across.specs.Across.{apexAt, apexOf}
+use Rattle.across.specs.OppositeLaws.{wide-bound, high-bound, raised-bound}
+use Rattle.across.proofs.apex.Statement.{statement}
+use Rattle.across.proofs.apex.Tie as tie
 
 small : (z : ℤ) → natAbs z ≤ 600000 → natAbs (toZ w32 (ofZ w32 z)) ≤ 600000
 small z h = subst (λ (y : ℤ). natAbs y ≤ 600000) (sym (back (whole {w = w32} z 600000 h) tt)) h

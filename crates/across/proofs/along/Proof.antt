@@ -1,4 +1,4 @@
--- `counts::along` meets its promise: the code's expressions, with the bounds of the `requires`, and what antt computes of them. Assumes nothing.
+-- `across::along` meets its promise: the code's expressions, with the bounds of the `requires`, and what antt computes of them. Assumes nothing.
 use mathlib.Core.Path.{_∙_}
 use borrow.Author.Needs.{needs}
 use lib.Dec.{lit≤}
@@ -6,8 +6,8 @@ use lib.IntN.{pos}
 use mir.Syntax.{w32}
 use Rattle.laws.specs.Machine.{Mx, back, need, whole, _+ᵐ_, _-ᵐ_, _*ᵐ_}
 use Rattle.lattice.specs.Points.{normalOf}
-use Rattle.counts.proofs.across.along.Statement.{statement}
-use Rattle.counts.proofs.across.along.Tie as tie
+use Rattle.across.proofs.along.Statement.{statement}
+use Rattle.across.proofs.along.Tie as tie
 
 abbrev x : tie.Start → Mx w32
 x c = whole (c .args .x) 6 (c .pre .0 .0)

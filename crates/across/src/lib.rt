@@ -3,7 +3,7 @@ ghost use mathlib.Core.Path.{_≡_};
 ghost use Prim.Native.Nat.{_*_, _-_, _^_, _≤_, _<_, max};
 ghost use lib.IntN.{natAbs, pos};
 ghost use Rattle.lattice.specs.Points.{lift};
-ghost use Rattle.counts.specs.Across.{StarPoint, factor, factorOf, alongOf, acrossOf, apexOf};
+ghost use Rattle.across.specs.Across.{StarPoint, factor, factorOf, alongOf, acrossOf, apexOf};
 use lattice::Point;
 use lattice::normalise;
 

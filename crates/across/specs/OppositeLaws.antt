@@ -25,7 +25,7 @@ use Rattle.lattice.specs.declared.patterns.Spot.{Spot}
 use Rattle.lattice.specs.declared.patterns.Spot.the-variants.{At, Nothing}
 use Rattle.table.specs.Entries.{holds}
 use Rattle.queries.specs.Queries.{there, chosenAt}
-use Rattle.counts.specs.Across.{StarPoint}
+use Rattle.across.specs.Across.{StarPoint}
 
 -- ---- the opposites of a corner, as pattern points
 

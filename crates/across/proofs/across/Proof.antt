@@ -1,4 +1,4 @@
--- `counts::across` meets its promise: the two points at depth 7, and the factor's two numbers, handed on. Assumes nothing.
+-- `across::across` meets its promise: the two points at depth 7, and the factor's two numbers, handed on. Assumes nothing.
 use mathlib.Core.Path.{_≡_, sym, ap, subst, _∙_}
 use Prim.Native.Nat.{ℕ, _≤_}
 use native.Mathlib.Omega.{arith}
@@ -12,11 +12,11 @@ use Rattle.laws.specs.Machine.{Mx, run, bound, fine, sized, back, need, whole, 
 use Rattle.lattice.specs.Points.{lift}
 use Rattle.lattice.specs.Places.{wide, high}
 use Rattle.lattice.specs.declared.points.Point.{Point}
-use Rattle.counts.specs.Across.{StarPoint, factor, factorOf, alongOf}
-use Rattle.counts.specs.OppositeLaws.{wide-bound, high-bound, size-wide, size-high}
-use Rattle.counts.specs.AcrossLaws.{factor-size}
-use Rattle.counts.proofs.across.across.Statement.{statement}
-use Rattle.counts.proofs.across.across.Tie as tie
+use Rattle.across.specs.Across.{StarPoint, factor, factorOf, alongOf}
+use Rattle.across.specs.OppositeLaws.{wide-bound, high-bound, size-wide, size-high}
+use Rattle.across.specs.FactorLaws.{factor-size}
+use Rattle.across.proofs.across.Statement.{statement}
+use Rattle.across.proofs.across.Tie as tie
 
 -- the machine's number has the bound of the one that is meant
 sized-back : (e : Mx w32) → T (fine e) → natAbs (toZ w32 (run e)) ≤ bound e

@@ -1,4 +1,4 @@
--- `counts::raised` meets its promise: the product, with the bounds of the `requires`. Assumes nothing.
+-- `across::raised` meets its promise: the product, with the bounds of the `requires`. Assumes nothing.
 use mathlib.Core.Path.{sym, ap, subst, _∙_}
 use Prim.Native.Nat.{_≤_, _-_, _^_}
 use native.Mathlib.Nat.{pow-le-pow-right}
@@ -8,8 +8,8 @@ use lib.IntN.{ℤ, natAbs, _*ℤ_}
 use lib.Dec.{lit<}
 use mir.Syntax.{w32}
 use Rattle.laws.specs.Machine.{Mx, back, need, whole, _*ᵐ_}
-use Rattle.counts.proofs.across.raised.Statement.{statement}
-use Rattle.counts.proofs.across.raised.Tie as tie
+use Rattle.across.proofs.raised.Statement.{statement}
+use Rattle.across.proofs.raised.Tie as tie
 
 module _ (c : tie.After-power) where
   few : natAbs (c .power .result) ≤ 3 ^ 7
