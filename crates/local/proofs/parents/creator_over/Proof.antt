@@ -1,9 +1,8 @@
 -- `local::creator_over` meets its promise: all were subdivided, or the creator tells. Assumes nothing.
 use borrow.Author.Needs.{needs}
-use mathlib.Core.Path.{_≡_, sym, _∙_, ap}
-use mathlib.Core.Bool.{true}
+use mathlib.Core.Path.{sym, _∙_, ap}
 use Prim.Native.Nat.{ℕ, _-_}
-use Rattle.local.specs.Parents.{split, allSplit, creatorIn}
+use Rattle.local.specs.Parents.{split, creatorIn}
 use Rattle.local.specs.ParentLaws.{creator-any}
 use Rattle.local.proofs.parents.creator_over.Statement.{statement}
 use Rattle.local.proofs.parents.creator_over.Tie as tie

@@ -1,7 +1,6 @@
 -- `local::parent_of` meets its promise. Assumes nothing.
 use borrow.Author.Needs.{needs}
 use mathlib.Core.Path.{_∙_, ap}
-use Rattle.table.specs.Entries.{lookUp}
 use Rattle.local.specs.Parents.{standOf, standAt}
 use Rattle.local.proofs.parents.parent_of.Statement.{statement}
 use Rattle.local.proofs.parents.parent_of.Tie as tie

@@ -1,6 +1,6 @@
 -- `local::stepped` meets its promise. Assumes nothing.
 use borrow.Author.Needs.{needs}
-use mathlib.Core.Path.{_≡_, _∙_, ap}
+use mathlib.Core.Path.{_∙_}
 use lib.IntN.{ℤ, _+ℤ_}
 use mir.Syntax.{w32}
 use Rattle.laws.specs.Machine.{Mx, whole, _+ᵐ_, need, back}

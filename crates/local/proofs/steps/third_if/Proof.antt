@@ -4,7 +4,6 @@ use mathlib.Core.Path.{sym, _∙_, ap}
 use mathlib.Core.Bool.{Bool, cond}
 use lib.IntN.{pos}
 use lib.Signed.{quotZ}
-use mir.Syntax.{w32}
 use mir.Facts.{toZ-ofZ}
 use Rattle.laws.specs.Machine.{any, _/ᵐ_, back}
 use Rattle.laws.specs.Flags.{quot-fits}

@@ -1,10 +1,8 @@
 -- `text::decimal::width` meets its promise: by how many bounds the number is past. Assumes nothing.
 use borrow.Author.Needs.{needs}
-use mathlib.Core.Path.{_≡_, _∙_}
+use mathlib.Core.Path.{_∙_}
 use Prim.Native.Nat.{_+_}
 use native.Mathlib.Omega.{arith}
-use lib.ListN.{length}
-use Rattle.text.specs.Decimal.{digits}
 use Rattle.text.specs.DecimalLaws.{width-tens, digits-some, width-below}
 use Rattle.text.proofs.decimal.width.Statement.{statement}
 use Rattle.text.proofs.decimal.width.Tie as tie
