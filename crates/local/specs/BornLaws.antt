@@ -1,6 +1,6 @@
 -- Which points have parents, and what valid records have.
--- `valid-depth`, `valid-small`, `valid-born` · `small-size` · `rank-least`, `rank-deep`, `rank-centre` ranks by depth · `parent-corner` the parents of a centre are corners of it
--- · `turn-even` the directions to hexagons.
+-- `valid-depth`, `valid-small`, `valid-born` · `small-size` · `rank-least`, `rank-deep`, `rank-centre` ranks by depth · `parent-corner` the parents of a
+-- centre are corners of it · `turn-even` the directions to hexagons.
 -- Assumes nothing.
 use mathlib.Core.Path.{_≡_, refl, _∙_, ap, subst}
 use mathlib.Core.Bool.{Bool, true, false, cond, _&&_}

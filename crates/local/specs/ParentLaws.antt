@@ -24,7 +24,8 @@ use Rattle.table.specs.declared.entries.Looked.{Looked}
 use Rattle.table.specs.declared.entries.Looked.the-variants.{Absent, Held}
 use Rattle.local.specs.Sheet.{asOption, sheetOf}
 use Rattle.local.specs.Rings.{one}
-use Rattle.local.specs.Parents.{standOf, standAt, parentAt, parentsOf, seen, split, allThere, allSplit, creatorIn, creatorOver, splitsIn, degrees, turns, sameStar, likeStar, toldIn}
+use Rattle.local.specs.Parents.{standOf, standAt, parentAt, parentsOf, seen, split, allThere, allSplit, creatorIn, creatorOver}
+use Rattle.local.specs.Parents.{splitsIn, degrees, turns, sameStar, likeStar, toldIn}
 use Rattle.local.specs.declared.parents.Parents.{Parents}
 
 -- ---- what is there, and what was subdivided, by its number
@@ -82,8 +83,9 @@ pub parents-star : (t : List ℕ) (r : Record) → (rankOf (r .at) ≡ 0 → ⊥
 unfolding toldIn expected
 parents-star t r h =
     let p = r .at in
-    let over-is : (j : ℕ) → split (rankOf p - 1) (parentAt t p j) ≡ over (sheetOf t) (parentOf p j) (rankOf p - 1) = λ j. split-over t (parentOf p j) (rankOf p - 1) in
-    (λ i. likeStar r (bySplits p (over-is 0 i) (over-is 1 i) (over-is 2 i) (birthOf p) (rankOf p - 1) (r .n .0)))
+    let below = rankOf p - 1 in
+    let over-is : (j : ℕ) → split below (parentAt t p j) ≡ over (sheetOf t) (parentOf p j) below = λ j. split-over t (parentOf p j) below in
+    (λ i. likeStar r (bySplits p (over-is 0 i) (over-is 1 i) (over-is 2 i) (birthOf p) below (r .n .0)))
     ∙ simp (ne-eqb (rankOf (r .at)) 0 h)
 
 pub root-star : (t : List ℕ) (r : Record) → rankOf (r .at) ≡ 0 → sameStar r 6 (r .n .0 % 2) (r .n .0) ≡ starTest (sheetOf t) r

@@ -1,7 +1,8 @@
 -- The records that are kept, their keys, and what sorting the keys does to the records.
 -- `standing-more`, `keys-none`, `keys-more` slot by slot · `keys-length`, `keys-grow` · `keys-sorted` the records of the sorted keys are the records in
 -- file order · `keys-inside` a key's slot is in the table · `lines-sorted` as many bytes in any order · `Filled` the keys in the output: `filled-none`,
--- `filled-same`, `filled-put`, `filled-more` · `tail-order` keys that differ in their orders · `kept-part`, `kept-valid`, `kept-near` what is kept stands in the table and is valid.
+-- `filled-same`, `filled-put`, `filled-more` · `tail-order` keys that differ in their orders · `kept-part`, `kept-valid`, `kept-near`
+-- what is kept stands in the table and is valid.
 -- Assumes nothing.
 use mathlib.Core.Path.{_≡_, refl, sym, ap, _∙_, subst}
 use mathlib.Core.Logic.{_⊎_, inl, inr}

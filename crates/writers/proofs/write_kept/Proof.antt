@@ -8,7 +8,8 @@ use borrow.Author.Needs.{needs}
 use Rattle.table.specs.Slots.{slotsOf}
 use Rattle.writers.specs.Kept.{keptAt, standing, keyFor}
 use Rattle.writers.specs.KeptLaws.{Filled}
-use Rattle.writers.specs.LeftLaws.{fileOf, keysOf, ordered, Keyed, filled-all, counted-all, keys-all, keys-fit, ordered-file, put-short, put-done, ready, ready-past}
+use Rattle.writers.specs.LeftLaws.{fileOf, keysOf, ordered, Keyed, filled-all, counted-all, keys-all, keys-fit}
+use Rattle.writers.specs.LeftLaws.{ordered-file, put-short, put-done, ready, ready-past}
 use Rattle.writers.specs.CallLaws.{out-is}
 use Rattle.writers.proofs.write_kept.Statement.{statement}
 use Rattle.writers.proofs.write_kept.Tie as tie

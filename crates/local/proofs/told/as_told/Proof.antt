@@ -35,7 +35,8 @@ returns c =
     let n = a .r .n .0 in
     c .same-star .ensures
     ∙ (λ j. sameStar (a .r) (g .degree .ensures j) (e₁ .either .ensures j) (e₂ .either2 .ensures j))
-    ∙ (λ j. sameStar (a .r) (getD degrees i 0) (cond (eqb i 7) (n % 2) (b .birth .ensures j + u .turn-since .ensures .0 j)) (cond (eqb i 7) n (s .before .before .rank .ensures j - 1)))
+    ∙ (λ j. sameStar (a .r) (getD degrees i 0) (cond (eqb i 7) (n % 2) (b .birth .ensures j + u .turn-since .ensures .0 j))
+    (cond (eqb i 7) n (s .before .before .rank .ensures j - 1)))
     ∙ told-by (a .r) (a .s) i (sym (splits-is s))
 
 pub as-told-spec : {M : Type 1} → statement M

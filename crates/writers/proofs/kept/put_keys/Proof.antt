@@ -20,7 +20,8 @@ abbrev μ-loop : tie.MeasureT-loop
 loop-holds : tie.Need-loop-holds Inv-loop μ-loop
 loop-holds c =
     let a = c .before .before .args in
-    (omega arith, subst (λ ks. Filled (a .out .now) ks (a .out .now) 0) (sym (standing-none (keptAt (a .table .now) (a .marks .now)))) (filled-none (a .out .now)))
+    let none = standing-none (keptAt (a .table .now) (a .marks .now)) in
+    (omega arith, subst (λ ks. Filled (a .out .now) ks (a .out .now) 0) (sym none) (filled-none (a .out .now)))
 
 put-kept-requires : tie.Need-put-kept-requires Inv-loop μ-loop
 put-kept-requires c κs =
