@@ -1,11 +1,11 @@
 -- What the code writes of a table, slot by slot: the records that are not marked to be left out, and their keys.
--- `keptAt` what is written of a slot · `keyOf` the key of a record · `standing`, `keysBelow` the records and the keys of the first slots · `recordKeyed`
--- the record of a key.
+-- `keptAt` what is written of a slot · `keyOf` the key of a record by its slot · `standing`, `keysBelow` the records and the keys of the first slots ·
+-- `recordKeyed` the record of a key · `keyFor`, `recordFor` the same where the key tells the record itself.
 -- Assumes nothing.
 use mathlib.Core.Path.{_≡_}
 use mathlib.Core.Bool.{Bool, cond, _&&_}
 use mathlib.Core.List.{List, [], _∷_, _++_}
-use Prim.Native.Nat.{ℕ, zero, suc, _+_, _*_, _%_}
+use Prim.Native.Nat.{ℕ, zero, suc, _+_, _*_, _/_, _%_}
 use lib.Dec.{eqb}
 use Rattle.lattice.specs.Records.{nobody}
 use Rattle.lattice.specs.declared.records.Record.{Record}
@@ -14,7 +14,7 @@ use Rattle.table.specs.Entries.{listed}
 use Rattle.table.specs.declared.slots.Slot.{Slot}
 use Rattle.table.specs.declared.slots.Slot.the-variants.{Free, Holds}
 use Rattle.marks.specs.Marks.{markedAt}
-use Rattle.text.specs.LineOrder.{orderOf}
+use Rattle.text.specs.LineOrder.{orderOf, pointOf}
 use Rattle.sorting.specs.Keys.{Put}
 
 -- the slots of the greatest table: there are no more keys
@@ -60,6 +60,18 @@ recordIn (Holds r) = r
 
 abbrev pub recordKeyed : List ℕ → ℕ → Record
 recordKeyed t v = recordIn (slotAt t (v % places))
+
+-- ---- a file's own keys, which tell the record without its slot
+-- degree, orientation and level as one number
+abbrev pub starOf : ℕ → ℕ → ℕ → ℕ
+starOf d k n = d * 256 + k * 16 + n
+
+abbrev pub keyFor : Record → ℕ
+keyFor r = orderOf (r .at) * places + starOf (r .d) (r .k) (r .n .0)
+
+-- the record of such a key
+abbrev pub recordFor : ℕ → Record
+recordFor v = record { at = pointOf (v / places); d = v / 256 % 256; k = v / 16 % 16; n = record { 0 = v % 16 } }
 
 -- keys vs, at most one, stored from key k on
 abbrev pub Added : List ℕ → ℕ → List ℕ → List ℕ → ℕ → Type 0

@@ -1,7 +1,8 @@
 -- The records that are kept, their keys, and what sorting the keys does to the records.
 -- `standing-more`, `keys-none`, `keys-more` slot by slot · `keys-length`, `keys-grow` · `keys-sorted` the records of the sorted keys are the records in
 -- file order · `keys-inside` a key's slot is in the table · `lines-sorted` as many bytes in any order · `Filled` the keys in the output: `filled-none`,
--- `filled-more` · `kept-part`, `kept-valid`, `kept-close` what is kept stands in the table and is valid.
+-- `filled-same`, `filled-put`, `filled-more` · `tail-order` keys that differ in their orders · `kept-part`, `kept-valid`, `kept-near`
+-- what is kept stands in the table and is valid.
 -- Assumes nothing.
 use mathlib.Core.Path.{_≡_, refl, sym, ap, _∙_, subst}
 use mathlib.Core.Logic.{_⊎_, inl, inr}
@@ -23,7 +24,8 @@ use Rattle.table.specs.declared.slots.Slot.{Slot}
 use Rattle.table.specs.declared.slots.Slot.the-variants.{Free, Holds}
 use Rattle.text.specs.Line.{lineOf, lines}
 use Rattle.text.specs.LineLaws.{lines-join}
-use Rattle.text.specs.LineOrder.{orderOf, Close, close, order-earlier, order-one}
+use Rattle.text.specs.LineOrder.{orderOf, close, order-earlier, order-one}
+use Rattle.text.specs.Near.{Near, valid-near}
 use Rattle.marks.specs.Marks.{markedAt}
 use Rattle.sorting.specs.Sorting.{insertBy, sortBy, keyWidth, keyIn}
 use Rattle.sorting.specs.SortLaws.{sort-map}
@@ -88,6 +90,18 @@ keys-come f (suc n) v m = go (f n) refl (List·Memᴰ·append-cases (keysBelow f
     go (Holds r) e (inr k) ih =
         record { slot = n; rec = r; below = omega arith; holds = e; is = List·Memᴰ·eq-of-singleton (subst (λ (s : Slot). List·Memᴰ v (keyed n s)) e k) }
 
+-- keys of different orders are compared by them, whatever their tails
+pub tail-order : (x y i j : ℕ) → i < places → j < places → (x ≡ y → i ≡ j) → ltb (x * places + i) (y * places + j) ≡ ltb x y
+tail-order x y i j hi hj one = go (decLt x y) (decLt y x)
+  where
+    go : Dec (x < y) → Dec (y < x) → ltb (x * places + i) (y * places + j) ≡ ltb x y
+    go (yes l) m = lt-ltb (x * places + i) (y * places + j) (omega arith) ∙ sym (lt-ltb x y l)
+    go (no l) (yes m) = le-ltb (x * places + i) (y * places + j) (omega arith) ∙ sym (le-ltb x y (omega arith))
+    go (no l) (no m) =
+        let e : x ≡ y = omega arith in
+        let q = one e in
+        le-ltb (x * places + i) (y * places + j) (omega arith) ∙ sym (le-ltb x y (omega arith))
+
 key-slot : (r : Record) (i : ℕ) → i < places → keyOf r i % places ≡ i
 unfolding keyOf
 key-slot r i h = omega arith
@@ -121,22 +135,8 @@ module _ (t : List ℕ) (o : InOrder t) (f : ℕ → Slot) (part : (i : ℕ) (r 
       one Free e = refl
       one (Holds r) e = λ i. (ap (λ (x : ℕ). recordIn (slotAt t x)) (key-slot r k (few k (omega arith))) ∙ ap recordIn (part k r e)) i ∷ []
 
-  key-order : (r s : Record) (i j : ℕ) → i < places → j < places → (orderOf (r .at) ≡ orderOf (s .at) → i ≡ j)
-      → ltb (keyOf r i) (keyOf s j) ≡ ltb (orderOf (r .at)) (orderOf (s .at))
-  unfolding keyOf
-  key-order r s i j hi hj one = go (decLt (orderOf (r .at)) (orderOf (s .at))) (decLt (orderOf (s .at)) (orderOf (r .at)))
-    where
-      go : Dec (orderOf (r .at) < orderOf (s .at)) → Dec (orderOf (s .at) < orderOf (r .at))
-          → ltb (orderOf (r .at) * places + i) (orderOf (s .at) * places + j) ≡ ltb (orderOf (r .at)) (orderOf (s .at))
-      go (yes l) m = lt-ltb (orderOf (r .at) * places + i) (orderOf (s .at) * places + j) (omega arith) ∙ sym (lt-ltb (orderOf (r .at)) (orderOf (s .at)) l)
-      go (no l) (yes m) =
-          le-ltb (orderOf (r .at) * places + i) (orderOf (s .at) * places + j) (omega arith) ∙ sym (le-ltb (orderOf (r .at)) (orderOf (s .at)) (omega arith))
-      go (no l) (no m) =
-          let e : orderOf (r .at) ≡ orderOf (s .at) = omega arith in
-          let q = one e in
-          le-ltb (orderOf (r .at) * places + i) (orderOf (s .at) * places + j) (omega arith) ∙ sym (le-ltb (orderOf (r .at)) (orderOf (s .at)) (omega arith))
-
   keys-order : (v w : ℕ) → List·Memᴰ v (keysBelow f (slotsOf t)) → List·Memᴰ w (keysBelow f (slotsOf t)) → ltb v w ≡ before (recordKeyed t v) (recordKeyed t w)
+  unfolding keyOf
   keys-order v w m n =
       let c = keys-come f (slotsOf t) v m in
       let d = keys-come f (slotsOf t) w n in
@@ -145,7 +145,7 @@ module _ (t : List ℕ) (o : InOrder t) (f : ℕ → Slot) (part : (i : ℕ) (r 
       let cc′ = close (c .rec) (o .valid (c .slot) (c .rec) (c .below) hc) in
       let cd = close (d .rec) (o .valid (d .slot) (d .rec) (d .below) hd) in
       (λ i. ltb (c .is i) (d .is i))
-      ∙ key-order (c .rec) (d .rec) (c .slot) (d .slot) (few (c .slot) (c .below)) (few (d .slot) (d .below))
+      ∙ tail-order (orderOf (c .rec .at)) (orderOf (d .rec .at)) (c .slot) (d .slot) (few (c .slot) (c .below)) (few (d .slot) (d .below))
       (λ e. o .once (c .slot) (d .slot) (c .rec) (d .rec) (c .below) (d .below) hc hd (order-one (c .rec .at) (d .rec .at) cc′ cd e))
       ∙ sym (order-earlier (c .rec .at) (d .rec .at) cc′ cd)
       ∙ sym (λ i. before (come-record v c i) (come-record w d i))
@@ -195,7 +195,7 @@ nth-left [] ys j h = absurd (omega arith)
 nth-left (x ∷ xs) ys zero h = refl
 nth-left (x ∷ xs) ys (suc j) h = nth-left xs ys j (omega arith)
 
-filled-put : (o ks o₁ o₂ : List ℕ) (k v : ℕ) → Filled o ks o₁ k → Put o₁ k v o₂ → Filled o (ks ++ v ∷ []) o₂ (k + 1)
+pub filled-put : (o ks o₁ o₂ : List ℕ) (k v : ℕ) → Filled o ks o₁ k → Put o₁ k v o₂ → Filled o (ks ++ v ∷ []) o₂ (k + 1)
 filled-put o ks o₁ o₂ k v f p = record {
   count = omega (arith, f .count, length-append ks (v ∷ []));
   keys = λ j l. go j (omega (arith, length-append ks (v ∷ []))) (ℕ-discrete j (length ks));
@@ -207,15 +207,17 @@ filled-put o ks o₁ o₂ k v f p = record {
     go j l (yes e) = ap (keyIn o₂) (e ∙ sym (f .count)) ∙ p .here ∙ sym (getD-append-seam ks v [] 0) ∙ ap (nth (ks ++ v ∷ [])) (sym e)
     go j l (no e) = let c = f .count in p .others j (λ q. e (q ∙ c)) ∙ f .keys j (omega arith) ∙ sym (nth-left ks (v ∷ []) j (omega arith))
 
+pub filled-same : (o ks o₁ o₂ : List ℕ) (k k₂ : ℕ) → Filled o ks o₁ k → (o₂ ≡ o₁) × (k₂ ≡ k) → Filled o (ks ++ []) o₂ k₂
+filled-same o ks o₁ o₂ k k₂ w e =
+    subst (λ (x : List ℕ). Filled o x o₂ k₂) (sym (append-nil ks))
+    (subst (λ (x : List ℕ). Filled o ks x k₂) (sym (e .0)) (subst (Filled o ks o₁) (sym (e .1)) w))
+
 pub filled-more : (f : ℕ → Slot) (i : ℕ) (o o₁ o₂ : List ℕ) (k k₂ : ℕ) → Filled o (keysBelow f i) o₁ k → Added o₁ k (keyed i (f i)) o₂ k₂
     → Filled o (keysBelow f (i + 1)) o₂ k₂
 filled-more f i o o₁ o₂ k k₂ w a = subst (λ (ks : List ℕ). Filled o ks o₂ k₂) (sym (keys-more f i)) (go (f i) a)
   where
     go : (s : Slot) → Added o₁ k (keyed i s) o₂ k₂ → Filled o (keysBelow f i ++ keyed i s) o₂ k₂
-    go Free b = subst (λ (ks : List ℕ). Filled o ks o₂ k₂) (sym (append-nil (keysBelow f i))) (moved b)
-      where
-        moved : (o₂ ≡ o₁) × (k₂ ≡ k) → Filled o (keysBelow f i) o₂ k₂
-        moved e = subst (λ (x : List ℕ). Filled o (keysBelow f i) x k₂) (sym (e .0)) (subst (Filled o (keysBelow f i) o₁) (sym (e .1)) w)
+    go Free b = filled-same o (keysBelow f i) o₁ o₂ k k₂ w b
     go (Holds r) b = subst (Filled o (keysBelow f i ++ keyOf r i ∷ []) o₂) (sym (b .1)) (filled-put o (keysBelow f i) o₁ o₂ k (keyOf r i) w (b .0))
 
 -- ---- what the code's steps say
@@ -249,8 +251,8 @@ kept-part t m i r = go (slotAt t i) (markedAt m i)
 pub kept-valid : (t : List ℕ) → InOrder t → (m : List ℕ) (i : ℕ) (r : Record) → i < slotsOf t → keptAt t m i ≡ Holds r → validOf r ≡ true
 kept-valid t o m i r l e = o .valid i r l (kept-part t m i r e)
 
-pub kept-close : (t : List ℕ) → InOrder t → (m : List ℕ) (i : ℕ) (r : Record) → i < slotsOf t → keptAt t m i ≡ Holds r → Close (r .at)
-kept-close t o m i r l e = close r (kept-valid t o m i r l e)
+pub kept-near : (t : List ℕ) → InOrder t → (m : List ℕ) (i : ℕ) (r : Record) → i < slotsOf t → keptAt t m i ≡ Holds r → Near r
+kept-near t o m i r l e = valid-near r (kept-valid t o m i r l e)
 
 pub slot-room : (t : List ℕ) → InOrder t → (i : ℕ) → i < slotsOf t → (slotWidth * i + slotWidth ≤ length t) × (i < places)
 slot-room t o i l = (omega (arith, o .fits .long), omega (arith, o .fits .most))
