@@ -1,26 +1,30 @@
--- `foremost-adjacent` every star's first arm is the same · `arm-next` an arm of an even star, turned, is the next · `arm-light` an arm's sum can be taken.
+-- `foremost-adjacent` every star's first arm is the same · `arm-next` an arm of a regular star, turned, is the next · `arm-light` an arm's sum can be taken ·
+-- `ArmsPut` a star's row as it is filled arm by arm, `arms-start`, `arms-more`, `arms-end`.
 -- Assumes nothing.
 use mathlib.Core.Path.{_≡_, refl, sym, _∙_, ap, subst}
-use mathlib.Core.Bool.{Bool, true, false, cond, _||_}
-use Prim.Native.Nat.{ℕ, zero, suc, _+_, _≤_, _<_, _-_, _^_, max}
+use mathlib.Core.Bool.{true, false}
+use mathlib.Core.List.{List}
+use Prim.Native.Nat.{ℕ, zero, suc, _+_, _*_, _≤_, _<_, _-_, _^_, max}
 use native.Mathlib.Omega.{arith}
 use native.Mathlib.Decide.{ℕ-discrete}
 use borrow.Author.Tests.{ne-eqb}
-use lib.Dec.{eqb, eqb→eq}
-use lib.IntN.{ℤ, pos, negℤ, _+ℤ_, _*ℤ_}
+use lib.IntN.{ℤ, negℤ, _+ℤ_}
+use lib.Seq.{sets}
 use Rattle.laws.specs.Each.{never}
 use Rattle.laws.specs.Linear.{same, ‵, _⊕_, _⊝_, ⊟, _⊗_}
 use Rattle.laws.specs.Multiples.{add-times, neg-times}
 use Rattle.laws.specs.Rules.{_≤?_, _⇒_, rule}
-use Rattle.lattice.specs.Arms.{evenOf, armOf, nextArm}
+use Rattle.lattice.specs.AnswerRowLaws.{sixNumbers, mixed, mixed-more}
+use Rattle.lattice.specs.AnswerRows.{pointNumbers, answerNumbers}
+use Rattle.lattice.specs.Arms.{regularOf, armOf, nextArm}
 use Rattle.lattice.specs.Bounds.{near-small}
 use Rattle.lattice.specs.PatternLaws.{adjacent-near}
 use Rattle.lattice.specs.Patterns.{three, four, five, six, rowsOf, patternOf, orient, adjacentOf}
 use Rattle.lattice.specs.PointLaws.{alike, alike-eq}
-use Rattle.lattice.specs.Points.{pt, turn60Of, turn30Of}
+use Rattle.lattice.specs.Points.{pt, turn60Of}
 use Rattle.lattice.specs.RecordLaws.{Inner, inner-small}
-use Rattle.lattice.specs.Stars.{scaleOf}
-use Rattle.lattice.specs.Terms.{termsOf, Light, terms-light}
+use Rattle.lattice.specs.Stars.{scaleOf, adjacentAt, nowhere, given}
+use Rattle.lattice.specs.Terms.{termsOf, addedOf, Light, terms-light}
 use Rattle.lattice.specs.declared.points.Point.{Point}
 use Rattle.lattice.specs.declared.points.Terms.{Terms}
 use Rattle.lattice.specs.declared.records.Level.{Level}
@@ -33,7 +37,7 @@ first-row d l h = alike-eq _ _ (rule 7 (λ d. 3 ≤? d ⇒ alike (patternOf 6 0 
 pub foremost-adjacent : (d k : ℕ) → 3 ≤ d → d ≤ 6 → adjacentOf 6 k 0 ≡ adjacentOf d k 0
 foremost-adjacent d k l h = ap (orient k) (first-row d l h)
 
--- ---- an even star's places, each turned from the one before it
+-- ---- a regular star's places, each turned from the one before it
 six-turns : (j : ℕ) → j + 1 < 6 → patternOf 6 (j + 1) .adjacent ≡ turn60Of (patternOf 6 j .adjacent)
 unfolding patternOf rowsOf three four five six
 six-turns j h = alike-eq _ _ (rule 5 (λ j. alike (patternOf 6 (j + 1) .adjacent) (turn60Of (patternOf 6 j .adjacent))) tt j (omega arith))
@@ -98,7 +102,7 @@ module _ (v : Record) (j : ℕ) where
   abbrev Next : ℕ → Type 0
   Next d = nextArm d (armBy (v .at) (v .n) (adjacentOf d (v .k) j)) ≡ armBy (v .at) (v .n) (adjacentOf d (v .k) (j + 1))
 
-  pub arm-next : evenOf (v .d) ≡ true → j + 1 < v .d → nextArm (v .d) (armOf v j) ≡ armOf v (j + 1)
+  pub arm-next : regularOf (v .d) ≡ true → j + 1 < v .d → nextArm (v .d) (armOf v j) ≡ armOf v (j + 1)
   arm-next e h = go (ℕ-discrete (v .d) 6) (ℕ-discrete (v .d) 3)
     where
       go : Dec (v .d ≡ 6) → Dec (v .d ≡ 3) → Next (v .d)
@@ -109,3 +113,36 @@ module _ (v : Record) (j : ℕ) where
 module _ (v : Record) (i : Inner v) (j : ℕ) (h : j < v .d) where
   pub arm-light : Light (armOf v j)
   arm-light = terms-light (v .at) (scaleOf (v .n) (adjacentOf (v .d) (v .k) j)) (inner-small i) (near-small (v .n) (adjacent-near v i j h))
+
+-- ---- a star's row, filled arm by arm
+-- the adjacent points below place j, then zeros
+abbrev pub rowTo : Record → ℕ → List ℤ
+rowTo v j = sixNumbers (v .d) (mixed (adjacentAt v) (λ i. nowhere) j)
+
+-- and w is the arm to the point at place j
+pub record ArmsPut (v : Record) (j : ℕ) (out : List ℤ) (w : Terms) : Type 0 where
+  pub most : j ≤ v .d
+  pub row : out ≡ rowTo v j
+  pub arm : j < v .d → w ≡ armOf v j
+
+module _ (v : Record) where
+  pub arms-start : (out : List ℤ) (w : Terms) → out ≡ rowTo v 0 → w ≡ armOf v 0 → ArmsPut v 0 out w
+  arms-start out w e f = record { most = omega arith; row = e; arm = λ h. f }
+
+  pub arms-light : (i : Inner v) (j : ℕ) (out : List ℤ) (w : Terms) → ArmsPut v j out w → j < v .d → Light w
+  arms-light i j out w a h = subst Light (sym (a .arm h)) (arm-light v i j h)
+
+  -- the point of w put, and w turned
+  pub arms-more :
+      (i : Inner v) → regularOf (v .d) ≡ true → (j : ℕ) (out : List ℤ) (w : Terms) → ArmsPut v j out w → j < v .d
+      → ArmsPut v (j + 1) (sets out (3 * j + 1) (pointNumbers (addedOf w))) (nextArm (v .d) w)
+  arms-more i r j out w a h =
+      record {
+        most = omega (arith, h);
+        row = ap (λ (o : List ℤ). sets o (3 * j + 1) (pointNumbers (addedOf w))) (a .row)
+            ∙ mixed-more (v .d) (adjacentAt v) (λ i. nowhere) j (omega (arith, i .top, h)) _ (ap addedOf (a .arm h));
+        arm = λ l. ap (nextArm (v .d)) (a .arm h) ∙ arm-next v j r l;
+      }
+
+  pub arms-end : (j : ℕ) (out : List ℤ) (w : Terms) → ArmsPut v j out w → (j < v .d → ⊥) → out ≡ answerNumbers (given v)
+  arms-end j out w a h = let e : j ≡ v .d = omega (arith, a .most, h) in a .row ∙ ap (rowTo v) e

@@ -1,5 +1,5 @@
--- The arms of a star whose angles are all the same: document 01's rows of degree 6 are one row turned, and those of degree 3 are too.
--- `evenOf` the degrees 3 and 6 · `armOf` a vertex and a step of its star, over one denominator · `nextArm` an arm, turned to the next place.
+-- The arms of a regular star, whose angles are all the same: document 01's rows of degree 6 are one row turned, and those of degree 3 are too.
+-- `regularOf` the degrees 3 and 6 · `armOf` a vertex and a step of its star, over one denominator · `nextArm` an arm, turned to the next place.
 -- Assumes nothing.
 use mathlib.Core.Bool.{Bool, cond, _||_}
 use Prim.Native.Nat.{ℕ}
@@ -11,8 +11,8 @@ use Rattle.lattice.specs.Terms.{termsOf}
 use Rattle.lattice.specs.declared.points.Terms.{Terms}
 use Rattle.lattice.specs.declared.records.Record.{Record}
 
-abbrev pub evenOf : ℕ → Bool
-evenOf d = eqb d 3 || eqb d 6
+abbrev pub regularOf : ℕ → Bool
+regularOf d = eqb d 3 || eqb d 6
 
 -- what `adjacentAt` adds up
 abbrev pub armOf : Record → ℕ → Terms

@@ -17,7 +17,7 @@ pub mod RecordLaws
 pub mod PatternLaws
 pub mod RowLaws
 pub mod StarLaws
-pub mod ArmLaws
 pub mod AnswerRowLaws
+pub mod ArmLaws
 pub mod Places
 pub mod RankBounds

@@ -1,11 +1,11 @@
 -- Two points over one denominator, as the code adds them.
--- `termsAt` two points over 3 to a depth, `termsOf` over the deeper one's · `addedOf` their sum, normalised, which is `sumOf` · `Light` small enough to be added ·
--- `terms-light` what small points come to is.
+-- `termsAt` two points over 3 to a depth, `termsOf` over the deeper one's · `addedOf` their sum, normalised, which is `sumOf` · `Light` small enough to be
+-- added, `terms-light` as what small points come to is.
 -- Assumes nothing.
 use mathlib.Core.Path.{sym, subst}
-use Prim.Native.Nat.{ℕ, _*_, _≤_, _-_, _^_, max}
+use Prim.Native.Nat.{ℕ, _≤_, _-_, _^_, max}
 use native.Mathlib.Omega.{arith}
-use lib.IntN.{pos, _+ℤ_, _*ℤ_, natAbs}
+use lib.IntN.{_+ℤ_, natAbs}
 use Rattle.laws.specs.Sizes.{abs-mul}
 use Rattle.lattice.specs.Bounds.{Small, small-wide, small-high}
 use Rattle.lattice.specs.Points.{normalOf, lift}

@@ -1,6 +1,6 @@
-// The arms of an even star, one after the other: where the angles between them are all the same, each is the one before it, turned.
+// The arms of a regular star, one after the other: where the angles between them are all the same, each is the one before it, turned.
 ghost use mathlib.Core.Path.{_≡_};
-ghost use Rattle.lattice.specs.Arms.{evenOf, armOf, nextArm};
+ghost use Rattle.lattice.specs.Arms.{regularOf, armOf, nextArm};
 ghost use Rattle.lattice.specs.RecordLaws.{Inner};
 ghost use Rattle.lattice.specs.Terms.{Light};
 use crate::patterns::foremost;
@@ -9,9 +9,9 @@ use crate::points::brought;
 use crate::records::Record;
 use crate::stars::scaled;
 
-// A degree whose arms stand at even angles: by 120 degrees or by 60.
-pub fn even(d: u8) -> bool
-    ensures { λ r. ⌜ r ≡ evenOf d ⌝ }
+// A degree whose arms stand at equal angles: by 120 degrees or by 60.
+pub fn regular(d: u8) -> bool
+    ensures { λ r. ⌜ r ≡ regularOf d ⌝ }
 {
     (d == 3) | (d == 6)
 }
@@ -26,7 +26,7 @@ pub fn first_arm(v: Record) -> Terms
     brought(at.a, at.b, at.m.0, p.a, p.b, scaled(v.n, p.m).0)
 }
 
-// The arm after an arm of an even star of degree d.
+// The arm after an arm of a regular star of degree d.
 pub fn next_arm(w: Terms, d: u8) -> Terms
     requires { ⌜ Light w ⌝ }
     ensures { λ r. ⌜ r ≡ nextArm d w ⌝ }

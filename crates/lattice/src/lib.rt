@@ -14,9 +14,9 @@ mod rows;
 mod stars;
 mod updates;
 
-pub use arms::even;
 pub use arms::first_arm;
 pub use arms::next_arm;
+pub use arms::regular;
 pub use numbers::AT_THE_RIM;
 pub use numbers::BAD_FINDING;
 pub use numbers::BAD_LIST;

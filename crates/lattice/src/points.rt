@@ -2,7 +2,7 @@
 ghost use mathlib.Core.Path.{_≡_};
 ghost use mathlib.Core.Bool.{_&&_};
 ghost use Prim.Native.Nat.{_+_, _*_, _^_, _≤_, _<_, max};
-ghost use lib.IntN.{natAbs, _+ℤ_, _*ℤ_, pos};
+ghost use lib.IntN.{natAbs, _*ℤ_, pos};
 ghost use Rattle.lattice.specs.Points.{pt, by3, normalOf, turn60Of, sumOf};
 ghost use Rattle.lattice.specs.Terms.{termsOf, addedOf, Light};
 ghost use Rattle.lattice.specs.Bounds.{Small};

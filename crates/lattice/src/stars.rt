@@ -4,14 +4,14 @@ ghost use Prim.Native.Nat.{_+_, _/_, _<_};
 ghost use mathlib.Core.Bool.{true};
 ghost use Rattle.lattice.specs.AnswerRowLaws.{sixNumbers};
 ghost use Rattle.lattice.specs.AnswerRows.{answerNumbers};
-ghost use Rattle.lattice.specs.Arms.{evenOf};
+ghost use Rattle.lattice.specs.Arms.{regularOf};
 ghost use Rattle.lattice.specs.Points.{pt};
 ghost use Rattle.lattice.specs.Stars.{given, stepOf, adjacentAt, firstAt, secondAt, starOf, nowhere};
 ghost use Rattle.lattice.specs.Bounds.{Small, Near};
 ghost use Rattle.lattice.specs.RecordLaws.{Inner};
-use crate::arms::even;
 use crate::arms::first_arm;
 use crate::arms::next_arm;
+use crate::arms::regular;
 use crate::numbers::BOUNDARY;
 use crate::numbers::DONE;
 use crate::numbers::NOT_VALID;
@@ -97,16 +97,16 @@ pub fn second_of(r: Record, j: u8) -> Spot
     }
 }
 
-// Puts the adjacent points of an even star.
-fn put_even(out: &mut [i32; ANSWER_NUMBERS], v: Record)
+// Puts the adjacent points of a regular star.
+fn put_regular(out: &mut [i32; ANSWER_NUMBERS], v: Record)
     requires { ⌜ Inner v ⌝ }
-    requires { ⌜ evenOf (v .d) ≡ true ⌝ }
+    requires { ⌜ regularOf (v .d) ≡ true ⌝ }
     requires { ⌜ now out ≡ sixNumbers (v .d) (λ i. nowhere) ⌝ }
     ensures { λ _. ⌜ now (out .exit) ≡ answerNumbers (given v) ⌝ }
 {
     let d = v.d;
     let mut w = first_arm(v);
-    let mut j = 0;
+    let mut j: u8 = 0;
     while j < d {
         put_point(out, 3 * (j as usize) + 1, added(w));
         w = next_arm(w, v.d);
@@ -145,8 +145,8 @@ pub fn ring(out: &mut [i32; ANSWER_NUMBERS], v: Record)
     let d = v.d;
     *out = [0; ANSWER_NUMBERS];
     out[0] = d as i32;
-    if even(d) {
-        put_even(out, v);
+    if regular(d) {
+        put_regular(out, v);
     } else {
         put_each(out, v);
     }

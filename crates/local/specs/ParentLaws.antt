@@ -1,6 +1,6 @@
 -- What the parents say is what growth's tests ask, and how the code comes by it.
 -- `parents-there`, `parents-creator`, `parents-star`, `root-star` the tests of growth, by the parents · `creator-first`, `creator-second`,
--- `creator-third`, `creator-any` · `told-by` what the parents say, by the number of those subdivided, `turn-most`.
+-- `creator-third`, `creator-any` · `told-by` what the parents say, by the number of those subdivided.
 -- Assumes nothing.
 use mathlib.Core.Path.{_≡_, refl, sym, _∙_, ap}
 use mathlib.Core.Bool.{Bool, true, false, cond, _&&_, and-true, and-comm}
@@ -11,7 +11,7 @@ use native.Mathlib.Decide.{ℕ-discrete}
 use lib.Dec.{eqb, ltb}
 use lib.ListN.{getD}
 use borrow.Author.Tests.{eq-eqb, ne-eqb, lt-ltb, le-ltb, ltb-true}
-use Rattle.laws.specs.Rules.{upto, rule, _≤?_}
+use Rattle.laws.specs.Rules.{upto}
 use Rattle.laws.specs.Each.{both-left, both-right, same-test}
 use Rattle.lattice.specs.Ranks.{rankOf, birthOf, parentOf, creatorOf}
 use Rattle.lattice.specs.declared.points.Point.{Point}
@@ -121,9 +121,6 @@ module _ (p : Point) (s : Parents) where
       go false false f g h = sym h
 
 -- ---- what the parents say, by the number of those subdivided
-pub turn-most : (i : ℕ) → i ≤ 7 → getD turns i 0 ≤ 8
-turn-most i h = let l : i < 8 = omega arith in rule 8 (λ i. getD turns i 0 ≤? 8) tt i l
-
 abbrev number : Bool → Bool → Bool → ℕ
 number x y z = one x + 2 * one y + 4 * one z
 

@@ -23,7 +23,7 @@ use Rattle.lattice.specs.declared.stars.Answer.{Answer}
 use Rattle.table.specs.Slots.{Table, slotAt}
 use Rattle.table.specs.Search.{findOf}
 use Rattle.table.specs.Order.{inOrderOf}
-use Rattle.table.specs.Entries.{heldIn, lookUp, slotIn}
+use Rattle.table.specs.Entries.{heldIn, lookUp, slotFound}
 use Rattle.table.specs.MapLaws.{order-table, slot-in-most, test-order}
 use Rattle.table.specs.declared.entries.Looked.{Looked}
 use Rattle.table.specs.declared.entries.Looked.the-variants.{Absent, Held}
@@ -41,7 +41,7 @@ use Rattle.queries.specs.Many.{tripleOf, answerWidth, answerRow, answers
 abbrev pub tripleSlot : List ℕ → ℕ → List ℤ → ℕ → ℕ
 tripleSlot t n ps i =
     unless (isByte (getD ps (3 * i + 2) (pos 0))) n
-    (slotIn n (findOf t (normalOf (getD ps (3 * i) (pos 0)) (getD ps (3 * i + 1) (pos 0)) (natAbs (getD ps (3 * i + 2) (pos 0))))))
+    (slotFound n (findOf t (normalOf (getD ps (3 * i) (pos 0)) (getD ps (3 * i + 1) (pos 0)) (natAbs (getD ps (3 * i + 2) (pos 0))))))
 
 module _ (t : List ℕ) (n : ℕ) (k : Table t n) (h : inOrderOf t ≡ true) (ps : List ℤ) (i : ℕ) where
   abbrev asked : Point
@@ -50,7 +50,7 @@ module _ (t : List ℕ) (n : ℕ) (k : Table t n) (h : inOrderOf t ≡ true) (ps
   pub triple-slot-most : tripleSlot t n ps i ≤ n
   triple-slot-most = go (isByte (getD ps (3 * i + 2) (pos 0)))
     where
-      go : (b : Bool) → unless b n (slotIn n (findOf t asked)) ≤ n
+      go : (b : Bool) → unless b n (slotFound n (findOf t asked)) ≤ n
       go true = slot-in-most t (order-table t (test-order t h)) asked n _ k refl
       go false = omega arith
 
@@ -62,7 +62,7 @@ module _ (t : List ℕ) (n : ℕ) (k : Table t n) (h : inOrderOf t ≡ true) (ps
       f = answerAt q t
 
       go : (b : Bool)
-          → slotAnswer q t n (unless b n (slotIn n (findOf t asked)))
+          → slotAnswer q t n (unless b n (slotFound n (findOf t asked)))
           ≡ unless b (refused 3) (queryOf f t (getD ps (3 * i) (pos 0)) (getD ps (3 * i + 1) (pos 0)) (natAbs (getD ps (3 * i + 2) (pos 0))))
       go true =
           slot-answer q t n k h asked _ refl

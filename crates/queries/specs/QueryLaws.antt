@@ -23,7 +23,7 @@ use Rattle.lattice.specs.declared.stars.Answer.{Answer}
 use Rattle.lattice.specs.declared.patterns.Spot.the-variants.{At}
 use Rattle.table.specs.Slots.{Table, slotsOf, slotAt}
 use Rattle.table.specs.Search.{findOf}
-use Rattle.table.specs.Entries.{heldIn, lookUp, holds, slotIn}
+use Rattle.table.specs.Entries.{heldIn, lookUp, holds, slotFound}
 use Rattle.table.specs.Order.{inOrderOf}
 use Rattle.table.specs.LookLaws.{held-eq}
 use Rattle.table.specs.MapLaws.{order-table, slot-in-held, slot-in-absent, test-order}
@@ -79,7 +79,7 @@ vertex-asked t n k h i v l e d =
     held-slot (Holds r) z = ap Holds (held-eq r v z)
 
 -- the answer by the slot where a search has found its point
-module _ (q : Query) (t : List ℕ) (n : ℕ) (k : Table t n) (h : inOrderOf t ≡ true) (p : Point) (s : ℕ) (e : s ≡ slotIn n (findOf t p)) where
+module _ (q : Query) (t : List ℕ) (n : ℕ) (k : Table t n) (h : inOrderOf t ≡ true) (p : Point) (s : ℕ) (e : s ≡ slotFound n (findOf t p)) where
   pub slot-answer : slotAnswer q t n s ≡ queryLooked (answerAt q t) (lookUp t p)
   slot-answer = go (decLt s n)
     where

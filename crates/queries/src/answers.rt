@@ -1,7 +1,7 @@
 // The two calls. Their answer goes into a lent row; refused, it is count 0 and all zeros.
 ghost use mathlib.Core.Path.{_≡_};
 ghost use mathlib.Core.Bool.{true};
-ghost use Rattle.lattice.specs.Arms.{evenOf};
+ghost use Rattle.lattice.specs.Arms.{regularOf};
 ghost use Rattle.lattice.specs.Stars.{given};
 ghost use Rattle.table.specs.Slots.{Table};
 ghost use Rattle.table.specs.Order.{inOrderOf};
@@ -19,11 +19,11 @@ use lattice::Record;
 use lattice::Spot;
 use lattice::TORN;
 use lattice::added;
-use lattice::even;
 use lattice::first_arm;
 use lattice::next_arm;
 use lattice::put_point;
 use lattice::refuse_row;
+use lattice::regular;
 use lattice::ring;
 use table::Looked;
 use table::held_in;
@@ -38,17 +38,17 @@ pub enum Query {
     Faces,
 }
 
-// Puts the star of a vertex of even degree, each adjacent point as it is looked for, up to the first that is not in the table.
-fn even_there(t: &[u8], v: Record, n: usize, out: &mut [i32; ANSWER_NUMBERS]) -> bool
+// Puts the star of a vertex whose star is regular, each adjacent point as it is looked for, up to the first that is not in the table.
+fn regular_there(t: &[u8], v: Record, n: usize, out: &mut [i32; ANSWER_NUMBERS]) -> bool
     requires { ⌜ Asked (now t) n v ⌝ }
-    requires { ⌜ evenOf (v .d) ≡ true ⌝ }
+    requires { ⌜ regularOf (v .d) ≡ true ⌝ }
     ensures { λ r. ⌜ r ≡ adjacentsThere (now (t .entry)) v ⌝ }
     ensures { λ r. ⌜ whenTrue r (now (out .exit) ≡ answerNumbers (given v)) ⌝ }
 {
     *out = [0; ANSWER_NUMBERS];
     out[0] = v.d as i32;
     let mut w = first_arm(v);
-    let mut j = 0;
+    let mut j: u8 = 0;
     while j < v.d {
         let p = added(w);
         put_point(out, 3 * (j as usize) + 1, p);
@@ -67,8 +67,8 @@ fn star_there(t: &[u8], v: Record, n: usize, out: &mut [i32; ANSWER_NUMBERS]) ->
     ensures { λ r. ⌜ r ≡ adjacentsThere (now (t .entry)) v ⌝ }
     ensures { λ r. ⌜ whenTrue r (now (out .exit) ≡ answerNumbers (given v)) ⌝ }
 {
-    if even(v.d) {
-        return even_there(t, v, n, out);
+    if regular(v.d) {
+        return regular_there(t, v, n, out);
     }
     ring(out, v);
     adjacents_there(t, out, v, n)

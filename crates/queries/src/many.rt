@@ -10,7 +10,6 @@ ghost use Rattle.table.specs.Slots.{Table};
 ghost use Rattle.table.specs.Order.{inOrderOf};
 ghost use Rattle.queries.specs.Queries.{queryOf};
 ghost use Rattle.queries.specs.Asked.{answerAt};
-ghost use Rattle.lattice.specs.AnswerRows.{answerNumbers};
 ghost use Rattle.queries.specs.Many.{answerWidth, tripleOf, allOf, neighboursAllOf, facesAllOf};
 ghost use Rattle.queries.specs.ManyLaws.{answersIn, tripleSlot};
 use crate::answers::Query;

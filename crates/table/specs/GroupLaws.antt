@@ -12,7 +12,7 @@ use Rattle.lattice.specs.declared.points.Point.{Point}
 use Rattle.table.specs.Slots.{slotWidth, Table, freeAt, recordAt, slotsOf, slotAt}
 use Rattle.table.specs.Search.{meets, seek, findOf}
 use Rattle.table.specs.Order.{InOrder, inOrderOf}
-use Rattle.table.specs.Entries.{isHeld, holds, slotIn}
+use Rattle.table.specs.Entries.{isHeld, holds, slotFound}
 use Rattle.table.specs.Reading.{readsAs, oneIf, readsIn}
 use Rattle.table.specs.SlotLaws.{free-byte, table-slots}
 use Rattle.table.specs.SearchLaws.{same-true, Kind, kind, free, own, alien}
@@ -75,8 +75,8 @@ module _ (t : List ℕ) (p : Point) where
     found-there : (i : ℕ) → i < n → readsAs t p i ≡ true → findOf t p ≡ found.At i
     found-there i h e = hit-found (test-order t o) i (omega (arith, table-slots t n w)) (read-hit i l e)
 
-    pub read-found : (i : ℕ) → i < n → readsAs t p i ≡ true → i ≡ slotIn n (findOf t p)
-    read-found i h e = ap (slotIn n) (sym (found-there i h e))
+    pub read-found : (i : ℕ) → i < n → readsAs t p i ≡ true → i ≡ slotFound n (findOf t p)
+    read-found i h e = ap (slotFound n) (sym (found-there i h e))
 
     pub group-held : (h k : ℕ) → h + k ≤ n → 0 < readsIn t p h k → true ≡ holds t p
     group-held h k m c =

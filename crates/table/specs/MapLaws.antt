@@ -7,7 +7,7 @@
 -- A search      `Searched`, `searched` its three ends, each with what it says of the map and of the free slots ·
 --               `at-held`, `at-free`, `at-full` the same, by where it ended · `find-held`, `find-free`, `find-full` where it ends, by what the
 --               map holds: at a free slot exactly where the point is absent and a slot is free · `slot-in-held`, `slot-in-absent`,
---               `slot-in-most` what the map holds, by the slot of a point (`slotIn`) · `find-told` what it tells (Told) ·
+--               `slot-in-most` what the map holds, by the slot of a point (`slotFound`) · `find-told` what it tells (Told) ·
 --               `resumed` it goes on from the slot told · `enter-reaches` it comes as far as it came when a record has entered, since
 --               slots only fill (`enter-fills`)
 -- Entering      `enter-order`, `enter-finds`, `enter-keeps`, `enter-free`, `enter-records` · `enter-there`, `enter-full` nothing changes ·

@@ -5,7 +5,7 @@ ghost use Rattle.lattice.specs.Points.{pt, normalOf};
 ghost use Rattle.table.specs.Slots.{Table};
 ghost use Rattle.table.specs.Search.{findOf};
 ghost use Rattle.table.specs.Order.{inOrderOf};
-ghost use Rattle.table.specs.Entries.{holds, slotIn};
+ghost use Rattle.table.specs.Entries.{holds, slotFound};
 use crate::entries::is_there;
 use crate::groups::GROUP;
 use crate::groups::group_reads;
@@ -43,7 +43,7 @@ pub fn stands(t: &[u8], a: i32, b: i32, m: u8, n: usize) -> bool
 pub fn slot_by_guess(t: &[u8], a: i32, b: i32, m: u8, n: usize, guess: usize) -> usize
     requires { ⌜ Table (now t) n ⌝ }
     requires { ⌜ inOrderOf (now t) ≡ true ⌝ }
-    ensures { λ r. ⌜ r ≡ slotIn n (findOf (now (t .entry)) (normalOf a b m)) ⌝ }
+    ensures { λ r. ⌜ r ≡ slotFound n (findOf (now (t .entry)) (normalOf a b m)) ⌝ }
 {
     let p = normalise(a, b, m);
     if guess < n {

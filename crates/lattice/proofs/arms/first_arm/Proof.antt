@@ -37,7 +37,8 @@ brought-requires c κs =
     let k = c .before .before .before .before .before in
     let a = step-asked (v k .at) (v k .n) (k .foremost .result) (inner-small (k .before .before .pre)) (near k) in
     let p = k .foremost .result in
-    (a .0, subst (λ (m : ℕ). Small (pt (toZ w32 (ofZ w32 (p .a))) (toZ w32 (ofZ w32 (p .b))) m)) (sym (c .before .before .before .before .scaled .ensures)) (near-small (v k .n) (a .1)))
+    let e = sym (c .before .before .before .before .scaled .ensures) in
+    (a .0, subst (λ (m : ℕ). Small (pt (toZ w32 (ofZ w32 (p .a))) (toZ w32 (ofZ w32 (p .b))) m)) e (near-small (v k .n) (a .1)))
 
 returns : tie.Need-returns
 returns c =

@@ -11,7 +11,6 @@ use Rattle.lattice.specs.Bounds.{small-wide, small-high, pow-fits}
 use Rattle.lattice.specs.Points.{pt}
 use Rattle.lattice.specs.Terms.{termsAt}
 use Rattle.lattice.specs.declared.points.Point.{Point}
-use Rattle.lattice.specs.declared.points.Terms.{Terms}
 use Rattle.lattice.proofs.points.brought.Statement.{statement}
 use Rattle.lattice.proofs.points.brought.Tie as tie
 

@@ -6,10 +6,10 @@ use Rattle.lattice.specs.AnswerRowLaws.{row-start}
 use Rattle.lattice.proofs.stars.ring.Statement.{statement}
 use Rattle.lattice.proofs.stars.ring.Tie as tie
 
-put-even-requires : tie.Need-put-even-requires
-put-even-requires c κs =
+put-regular-requires : tie.Need-put-regular-requires
+put-regular-requires c κs =
     let s = c .before .before .before .before in
-    (s .pre, (sym (c .before .before .even .ensures) ∙ c .before .if1 .taken, row-start (s .args .v .d) (omega (arith, s .pre .top))))
+    (s .pre, (sym (c .before .before .regular .ensures) ∙ c .before .if1 .taken, row-start (s .args .v .d) (omega (arith, s .pre .top))))
 
 put-each-requires : tie.Need-put-each-requires
 put-each-requires c κs = let s = c .before .before .before .before in (s .pre, row-start (s .args .v .d) (omega (arith, s .pre .top)))
@@ -21,7 +21,7 @@ ring-spec =
     (λ c. search needs)
     (λ c. search needs)
     (λ c κs. search needs)
-    put-even-requires
+    put-regular-requires
     put-each-requires
     (λ c. search needs)
     (λ c. search needs))

@@ -5,7 +5,7 @@ use borrow.Author.Needs.{needs}
 use borrow.Author.Tests.{not-true, not-false}
 use mir.Facts.{toZ-ofZ}
 use Rattle.lattice.specs.Points.{normalOf}
-use Rattle.table.specs.Entries.{slotIn}
+use Rattle.table.specs.Entries.{slotFound}
 use Rattle.table.specs.Search.{findOf}
 use Rattle.table.specs.Slots.{Table}
 use Rattle.table.specs.Order.{inOrderOf}
@@ -47,7 +47,7 @@ returns-2 c =
     let n = k .slots-of .result in
     let o = ordered (k .before) in
     let e = g .slot-by-guess .ensures
-    ∙ (λ i. slotIn n (findOf t (normalOf (toZ-ofZ (s .fits .a) i) (toZ-ofZ (s .fits .b) i) (a .m)))) in
+    ∙ (λ i. slotFound n (findOf t (normalOf (toZ-ofZ (s .fits .a) i) (toZ-ofZ (s .fits .b) i) (a .m)))) in
     let p = answer-parts
     (slot-answer (a .q) t n (fitting k) o (normalOf (a .a) (a .b) (a .m)) _ e ∙ query-looked (answerAt (a .q) t) t (a .a) (a .b) (a .m) o _ refl) in
     (c .answer-in-slot .ensures .0 ∙ p .0, c .answer-in-slot .ensures .1 ∙ p .1)

@@ -41,8 +41,11 @@ module _ (c : tie.Else1) where
   put = subst (λ (b : Bool). whenTrue b (row ≡ answerNumbers (given (start .args .v)))) yes (c .before .star-there .ensures .1)
 
   -- of the question that was asked
-  asked : (q : Query) → start .args .q ≡ q → answerAt q (start .args .t .now) (start .args .v) ≡ answerAt (start .args .q) (start .args .t .now) (start .args .v)
-  asked q e = ap (λ (q : Query). answerAt q (start .args .t .now) (start .args .v)) (sym e)
+  abbrev answered : Query → Answer
+  answered q = answerAt q (start .args .t .now) (start .args .v)
+
+  asked : (q : Query) → start .args .q ≡ q → answered q ≡ answered (start .args .q)
+  asked q e = ap answered (sym e)
 
 put-opposites-requires : tie.Need-put-opposites-requires
 put-opposites-requires c κs = let e = c .before .before .before in (start e .pre, put e)
@@ -73,7 +76,8 @@ returns-4 c =
     let k = o .before .before in
     let e = k .before .before in
     let a = start e .args in
-    let p = answer-parts (faces-cornered (a .t .now) (a .v) (whole e) false (sym (l .if2 .left) ∙ o .put-opposites .ensures .0) ∙ asked e _ (k .enum-told2 .given .1)) in
+    let f = faces-cornered (a .t .now) (a .v) (whole e) false (sym (l .if2 .left) ∙ o .put-opposites .ensures .0) in
+    let p = answer-parts (f ∙ asked e _ (k .enum-told2 .given .1)) in
     (c .refuse-row2 .ensures .0 ∙ p .0, c .refuse-row2 .ensures .1 ∙ p .1)
 
 pub answer-at-spec : {M : Type 1} → statement M

@@ -5,8 +5,8 @@ use Rattle.queries.specs.QueryLaws.{asked-inner, when-true}
 use Rattle.queries.proofs.answers.star_there.Statement.{statement}
 use Rattle.queries.proofs.answers.star_there.Tie as tie
 
-even-there-requires : tie.Need-even-there-requires
-even-there-requires c κs = (c .before .before .before .before .pre, sym (c .before .before .even .ensures) ∙ c .before .if1 .taken)
+regular-there-requires : tie.Need-regular-there-requires
+regular-there-requires c κs = (c .before .before .before .before .pre, sym (c .before .before .regular .ensures) ∙ c .before .if1 .taken)
 
 adjacents-there-requires : tie.Need-adjacents-there-requires
 adjacents-there-requires c κs =
@@ -21,7 +21,7 @@ star-there-spec =
     tie.close
     (tie.spec
     (λ c κs. search needs)
-    even-there-requires
+    regular-there-requires
     (λ c. search needs)
     (λ c κs. asked-inner (c .before .before .before .before .pre))
     adjacents-there-requires

@@ -14,7 +14,7 @@ use mir.Facts.{toZ-ofZ}
 use Rattle.laws.specs.Choices.{unless}
 use Rattle.laws.specs.Triples.{isByte, below-byte, above-byte, Byte, within-byte}
 use Rattle.lattice.specs.Points.{normalOf}
-use Rattle.table.specs.Entries.{slotIn}
+use Rattle.table.specs.Entries.{slotFound}
 use Rattle.table.specs.Search.{findOf}
 use Rattle.queries.specs.ManyLaws.{tripleSlot}
 use Rattle.queries.proofs.many.triple_slot.Statement.{statement}
@@ -45,7 +45,7 @@ module _ (c : tie.After-m) where
 
   -- where the point is found, if its m is a byte
   abbrev found : ℤ → ℤ → ℤ → ℕ
-  found a b m = slotIn n (findOf t (normalOf a b (natAbs m)))
+  found a b m = slotFound n (findOf t (normalOf a b (natAbs m)))
 
   by-byte : (b : Bool) → isByte M ≡ b → unless b n (found (getD ps (3 * i) (pos 0)) (getD ps (3 * i + 1) (pos 0)) M) ≡ tripleSlot t n ps i
   by-byte b e = ap (λ (x : Bool). unless x n (found (getD ps (3 * i) (pos 0)) (getD ps (3 * i + 1) (pos 0)) M)) (sym e)

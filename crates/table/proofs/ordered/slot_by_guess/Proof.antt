@@ -11,7 +11,7 @@ use Rattle.laws.specs.Machine.{asked₂}
 use Rattle.lattice.specs.Points.{pt, normalOf}
 use Rattle.lattice.specs.declared.points.Point.{Point}
 use Rattle.table.specs.Search.{findOf}
-use Rattle.table.specs.Entries.{slotIn}
+use Rattle.table.specs.Entries.{slotFound}
 use Rattle.table.specs.Reading.{readsAs}
 use Rattle.table.specs.GroupLaws.{read-found}
 use Rattle.table.specs.declared.probe.Found.{Found}
@@ -38,16 +38,16 @@ returns c =
     let read = asked₂ (λ x y. readsAs (a .t .now) (pt x y (q .m .0)) (a .guess)) fa fb (r .reads-as .ensures) in
     read-found (a .t .now) q (a .n) (st .pre .0) (st .pre .1) (ltb-true (q .m .0) 255 (both-right (r .reads-as .result) (ltb (q .m .0) 255) (c .if2 .taken)))
     (a .guess) (s .before .before .if1 .taken) (read ∙ both-left (r .reads-as .result) (ltb (q .m .0) 255) (c .if2 .taken))
-    ∙ ap (λ (x : Point). slotIn (a .n) (findOf (a .t .now) x)) (asked k)
+    ∙ ap (λ (x : Point). slotFound (a .n) (findOf (a .t .now) x)) (asked k)
 
 -- by where the search ended
 past : (c : tie.After-find) (o : Found) → c .find .result ≡ o
     → let st = c .before .before .before .before in
-    slotIn (st .args .n) o ≡ slotIn (st .args .n) (findOf (st .args .t .now) (normalOf (st .args .a) (st .args .b) (st .args .m)))
+    slotFound (st .args .n) o ≡ slotFound (st .args .n) (findOf (st .args .t .now) (normalOf (st .args .a) (st .args .b) (st .args .m)))
 past c o e =
     let k = c .before .before in
     let st = k .before .before in
-    ap (slotIn (st .args .n)) (sym e ∙ c .find .ensures .0 ∙ ap (findOf (st .args .t .now)) (asked k))
+    ap (slotFound (st .args .n)) (sym e ∙ c .find .ensures .0 ∙ ap (findOf (st .args .t .now)) (asked k))
 
 returns-2 : tie.Need-returns-2
 returns-2 c = let k = c .before in past (k .before .before) (found.At _) (k .i .given .1)
