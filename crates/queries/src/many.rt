@@ -60,7 +60,7 @@ fn put_answer(answers: &mut [i32], i: usize, number: u8, row: &[i32; ANSWER_NUMB
     }
 }
 
-// Puts the answers to the first `count` triples of a list. Each is looked for first in the slot after that of the one before, where it stands in a
+// Puts the answers to the first `count` triples of a list. Each is looked for first in the slot after that of the one before, where it mostly stands in a
 // list made of the table's own records.
 fn answer_each(q: Query, t: &[u8], points: &[i32], count: usize, n: usize, answers: &mut [i32])
     requires { ⌜ 3 * count ≤ length (now points) ⌝ }
