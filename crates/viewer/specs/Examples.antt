@@ -1,7 +1,7 @@
--- One hexagon's faces, and the files of an empty table: each by computing, from the table's bytes.
+-- The files of one hexagon and of an empty table, and each refusal of both calls: by computing, from the table's bytes.
 -- Assumes nothing.
 use mathlib.Core.Path.{_≡_, refl}
-use mathlib.Core.List.{List, [], _∷_}
+use mathlib.Core.List.{List, [], _∷_, _++_}
 use Prim.Native.Nat.{ℕ}
 use lib.IntN.{ℤ, pos, negsuc}
 use lib.ListN.{replicate}
@@ -14,14 +14,15 @@ use Rattle.table.specs.Slots.{slotsIn, freeAt, recordAt, slotAt, recordBytes, p
 use Rattle.table.specs.Search.{homeOf, samePoint, searchFrom, findOf}
 use Rattle.table.specs.Order.{placedAt, allPlaced, inOrderOf}
 use Rattle.table.specs.Entries.{lookUp, enterOf, recordsBelow}
-use Rattle.queries.specs.Queries.{chosenAt}
-use Rattle.counts.specs.Counts.{differentAfter, gather, each, fits, sameFace, ofDegree, countsOf}
+use Rattle.queries.specs.Queries.{adjacentsThere, chosenAt, cornersThere}
+use Rattle.counts.specs.Counts.{differentAfter, gather, each, fits, sameFace, sameSide, ofDegree, countsOf}
 use Rattle.text.specs.Decimal.{digitsBy, digits}
 use Rattle.text.specs.LineOrder.{earlier}
 use Rattle.writers.specs.Files.{outputAfter, putOf}
 use Rattle.mesh_faces.specs.MeshFaces.{onceAfter, tornOf}
-use Rattle.viewer.specs.Viewer.{howMany, leastFirst, rises, headText, texts, viewerFile, viewOf}
-use Rattle.viewer.specs.Viewer.{corners, faceCorners, writeOffOf, writeObjOf}
+use Rattle.coordinates.specs.Coordinates.{rootFrom, rootOf, nearX, nearY, decimals, coordinate, positionText}
+use Rattle.viewer.specs.Viewer.{howMany, leastFirst, rises, headText, vertexText, faceText, texts, viewerFile, viewOf}
+use Rattle.viewer.specs.Viewer.{writeOffOf, writeObjOf}
 
 -- [a, b, 0], of degree d, at level 0
 vertex : ℤ → ℤ → ℕ → Record
@@ -46,11 +47,48 @@ one =
     ∷ vertex (pos 1) (negsuc 0) 0
     ∷ [])
 
--- "4 0 2 3 1", "4 1 3 6 4", "4 2 5 6 3": counter-clockwise, smallest first
-hexagon-faces : faceCorners one ≡ corners 0 2 3 1 ∷ corners 1 3 6 4 ∷ corners 2 5 6 3 ∷ []
-unfolding vertex entered empty one howMany onceAfter leastFirst rises insertBy sortBy earlier recordsBelow chosenAt each gather fits sameFace turns normalOf
-    patternOf rowsOf three four five six orient lookUp enterOf findOf searchFrom slotAt freeAt recordAt putSlot recordBytes slotsIn homeOf samePoint wordAt
-hexagon-faces = refl
+-- "OFF", "7 3 9" vertices, faces and edges, then each vertex, from "-1.0000 0.0000 0.0000" on, and each face: "4 0 2 3 1", "4 1 3 6 4", "4 2 5 6 3",
+-- counter-clockwise, smallest first
+off : List ℕ
+off =
+    79 ∷ 70 ∷ 70 ∷ 10
+    ∷ 55 ∷ 32 ∷ 51 ∷ 32 ∷ 57 ∷ 10
+    ∷ 45 ∷ 49 ∷ 46 ∷ 48 ∷ 48 ∷ 48 ∷ 48 ∷ 32 ∷ 48 ∷ 46 ∷ 48 ∷ 48 ∷ 48 ∷ 48 ∷ 32 ∷ 48 ∷ 46 ∷ 48 ∷ 48 ∷ 48 ∷ 48 ∷ 10
+    ∷ 45 ∷ 48 ∷ 46 ∷ 53 ∷ 48 ∷ 48 ∷ 48 ∷ 32 ∷ 48 ∷ 46 ∷ 56 ∷ 54 ∷ 54 ∷ 48 ∷ 32 ∷ 48 ∷ 46 ∷ 48 ∷ 48 ∷ 48 ∷ 48 ∷ 10
+    ∷ 45 ∷ 48 ∷ 46 ∷ 53 ∷ 48 ∷ 48 ∷ 48 ∷ 32 ∷ 45 ∷ 48 ∷ 46 ∷ 56 ∷ 54 ∷ 54 ∷ 48 ∷ 32 ∷ 48 ∷ 46 ∷ 48 ∷ 48 ∷ 48 ∷ 48 ∷ 10
+    ∷ 48 ∷ 46 ∷ 48 ∷ 48 ∷ 48 ∷ 48 ∷ 32 ∷ 48 ∷ 46 ∷ 48 ∷ 48 ∷ 48 ∷ 48 ∷ 32 ∷ 48 ∷ 46 ∷ 48 ∷ 48 ∷ 48 ∷ 48 ∷ 10
+    ∷ 48 ∷ 46 ∷ 53 ∷ 48 ∷ 48 ∷ 48 ∷ 32 ∷ 48 ∷ 46 ∷ 56 ∷ 54 ∷ 54 ∷ 48 ∷ 32 ∷ 48 ∷ 46 ∷ 48 ∷ 48 ∷ 48 ∷ 48 ∷ 10
+    ∷ 48 ∷ 46 ∷ 53 ∷ 48 ∷ 48 ∷ 48 ∷ 32 ∷ 45 ∷ 48 ∷ 46 ∷ 56 ∷ 54 ∷ 54 ∷ 48 ∷ 32 ∷ 48 ∷ 46 ∷ 48 ∷ 48 ∷ 48 ∷ 48 ∷ 10
+    ∷ 49 ∷ 46 ∷ 48 ∷ 48 ∷ 48 ∷ 48 ∷ 32 ∷ 48 ∷ 46 ∷ 48 ∷ 48 ∷ 48 ∷ 48 ∷ 32 ∷ 48 ∷ 46 ∷ 48 ∷ 48 ∷ 48 ∷ 48 ∷ 10
+    ∷ 52 ∷ 32 ∷ 48 ∷ 32 ∷ 50 ∷ 32 ∷ 51 ∷ 32 ∷ 49 ∷ 10
+    ∷ 52 ∷ 32 ∷ 49 ∷ 32 ∷ 51 ∷ 32 ∷ 54 ∷ 32 ∷ 52 ∷ 10
+    ∷ 52 ∷ 32 ∷ 50 ∷ 32 ∷ 53 ∷ 32 ∷ 54 ∷ 32 ∷ 51 ∷ 10
+    ∷ []
+
+-- no head, "v -1.0000 0.0000 0.0000" and the other vertices, "f 1 3 4 2", "f 2 4 7 5", "f 3 6 7 4"
+obj : List ℕ
+obj =
+    118 ∷ 32 ∷ 45 ∷ 49 ∷ 46 ∷ 48 ∷ 48 ∷ 48 ∷ 48 ∷ 32 ∷ 48 ∷ 46 ∷ 48 ∷ 48 ∷ 48 ∷ 48 ∷ 32 ∷ 48 ∷ 46 ∷ 48 ∷ 48 ∷ 48 ∷ 48 ∷ 10
+    ∷ 118 ∷ 32 ∷ 45 ∷ 48 ∷ 46 ∷ 53 ∷ 48 ∷ 48 ∷ 48 ∷ 32 ∷ 48 ∷ 46 ∷ 56 ∷ 54 ∷ 54 ∷ 48 ∷ 32 ∷ 48 ∷ 46 ∷ 48 ∷ 48 ∷ 48 ∷ 48 ∷ 10
+    ∷ 118 ∷ 32 ∷ 45 ∷ 48 ∷ 46 ∷ 53 ∷ 48 ∷ 48 ∷ 48 ∷ 32 ∷ 45 ∷ 48 ∷ 46 ∷ 56 ∷ 54 ∷ 54 ∷ 48 ∷ 32 ∷ 48 ∷ 46 ∷ 48 ∷ 48 ∷ 48 ∷ 48 ∷ 10
+    ∷ 118 ∷ 32 ∷ 48 ∷ 46 ∷ 48 ∷ 48 ∷ 48 ∷ 48 ∷ 32 ∷ 48 ∷ 46 ∷ 48 ∷ 48 ∷ 48 ∷ 48 ∷ 32 ∷ 48 ∷ 46 ∷ 48 ∷ 48 ∷ 48 ∷ 48 ∷ 10
+    ∷ 118 ∷ 32 ∷ 48 ∷ 46 ∷ 53 ∷ 48 ∷ 48 ∷ 48 ∷ 32 ∷ 48 ∷ 46 ∷ 56 ∷ 54 ∷ 54 ∷ 48 ∷ 32 ∷ 48 ∷ 46 ∷ 48 ∷ 48 ∷ 48 ∷ 48 ∷ 10
+    ∷ 118 ∷ 32 ∷ 48 ∷ 46 ∷ 53 ∷ 48 ∷ 48 ∷ 48 ∷ 32 ∷ 45 ∷ 48 ∷ 46 ∷ 56 ∷ 54 ∷ 54 ∷ 48 ∷ 32 ∷ 48 ∷ 46 ∷ 48 ∷ 48 ∷ 48 ∷ 48 ∷ 10
+    ∷ 118 ∷ 32 ∷ 49 ∷ 46 ∷ 48 ∷ 48 ∷ 48 ∷ 48 ∷ 32 ∷ 48 ∷ 46 ∷ 48 ∷ 48 ∷ 48 ∷ 48 ∷ 32 ∷ 48 ∷ 46 ∷ 48 ∷ 48 ∷ 48 ∷ 48 ∷ 10
+    ∷ 102 ∷ 32 ∷ 49 ∷ 32 ∷ 51 ∷ 32 ∷ 52 ∷ 32 ∷ 50 ∷ 10
+    ∷ 102 ∷ 32 ∷ 50 ∷ 32 ∷ 52 ∷ 32 ∷ 55 ∷ 32 ∷ 53 ∷ 10
+    ∷ 102 ∷ 32 ∷ 51 ∷ 32 ∷ 54 ∷ 32 ∷ 55 ∷ 32 ∷ 52 ∷ 10
+    ∷ []
+
+-- the hexagon's files; bytes past them stay
+hexagon-files : (writeOffOf one (replicate 194 7) ≡ outputAfter 0 192 (off ++ (7 ∷ 7 ∷ []))) ×
+    (writeObjOf one (replicate 198 7) ≡ outputAfter 0 196 (obj ++ (7 ∷ 7 ∷ [])))
+unfolding vertex entered empty one off obj viewOf tornOf viewerFile headText vertexText faceText texts putOf countsOf differentAfter ofDegree howMany onceAfter
+    leastFirst rises insertBy sortBy earlier recordsBelow adjacentsThere chosenAt cornersThere each gather fits sameFace sameSide turns normalOf patternOf
+    rowsOf three four five six orient lookUp enterOf findOf searchFrom inOrderOf allPlaced placedAt slotAt freeAt recordAt putSlot recordBytes slotsIn homeOf
+    samePoint wordAt digitsBy digits rootFrom rootOf nearX nearY Rattle.coordinates.specs.Coordinates.four decimals coordinate
+    positionText
+hexagon-files = (refl, refl)
 
 -- the empty table: "OFF" and three zeros, and no byte at all
 empty-files : (writeOffOf empty (replicate 11 7) ≡ outputAfter 0 10 (79 ∷ 70 ∷ 70 ∷ 10 ∷ 48 ∷ 32 ∷ 48 ∷ 32 ∷ 48 ∷ 10 ∷ 7 ∷ [])) ×
@@ -58,3 +96,29 @@ empty-files : (writeOffOf empty (replicate 11 7) ≡ outputAfter 0 10 (79 ∷ 70
 unfolding empty viewOf tornOf viewerFile headText texts putOf countsOf differentAfter ofDegree howMany onceAfter sortBy recordsBelow each digitsBy digits
     inOrderOf allPlaced placedAt slotAt freeAt slotsIn
 empty-files = (refl, refl)
+
+-- ---- refused: no byte is changed
+
+-- a record of degree 1 is not valid: 1, though an output is short too
+disordered : List ℕ
+disordered = enterOf empty (vertex (pos 0) (pos 0) 1)
+
+-- a vertex of degree 3 without its adjacent ones: 7, though an output is short too
+torn : List ℕ
+torn = enterOf empty (vertex (pos 0) (pos 0) 3)
+
+refused-early : (writeOffOf disordered (7 ∷ []) ≡ outputAfter 1 0 (7 ∷ [])) ×
+    (writeObjOf disordered (7 ∷ []) ≡ outputAfter 1 0 (7 ∷ [])) ×
+    (writeOffOf torn (7 ∷ []) ≡ outputAfter 7 0 (7 ∷ [])) ×
+    (writeObjOf torn (7 ∷ []) ≡ outputAfter 7 0 (7 ∷ []))
+unfolding vertex empty disordered torn viewOf tornOf recordsBelow adjacentsThere chosenAt cornersThere turns normalOf patternOf rowsOf three four five six
+    orient lookUp enterOf findOf searchFrom inOrderOf allPlaced placedAt slotAt freeAt recordAt putSlot recordBytes slotsIn homeOf samePoint wordAt
+refused-early = (refl, refl, refl, refl)
+
+-- an output one byte short: 13
+short : (writeOffOf one (replicate 191 7) ≡ outputAfter 13 0 (replicate 191 7)) × (writeObjOf one (replicate 195 7) ≡ outputAfter 13 0 (replicate 195 7))
+unfolding vertex entered empty one viewOf tornOf viewerFile headText vertexText faceText texts putOf countsOf differentAfter ofDegree howMany onceAfter
+    leastFirst rises insertBy sortBy earlier recordsBelow adjacentsThere chosenAt cornersThere each gather fits sameFace sameSide turns normalOf patternOf
+    rowsOf three four five six orient lookUp enterOf findOf searchFrom inOrderOf allPlaced placedAt slotAt freeAt recordAt putSlot recordBytes slotsIn homeOf
+    samePoint wordAt digitsBy digits rootFrom rootOf nearX nearY Rattle.coordinates.specs.Coordinates.four decimals coordinate positionText
+short = (refl, refl)
