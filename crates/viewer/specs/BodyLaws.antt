@@ -23,11 +23,11 @@ use Rattle.sorting.specs.Tally.{nth}
 use Rattle.sorting.specs.Keys.{Put}
 use Rattle.sorting.specs.KeyLaws.{firsts-length, firsts-at}
 use Rattle.writers.specs.Files.{sorted}
-use Rattle.writers.specs.Kept.{recordKeyed}
 use Rattle.writers.specs.KeptLaws.{Filled}
 use Rattle.mesh_faces.specs.MeshFaces.{meshFaces, tornOf}
 use Rattle.viewer.specs.Viewer.{vertexText, texts}
 use Rattle.viewer.specs.Packed.{unpacked}
+use Rattle.viewer.specs.Keyed.{recordKeyed}
 use Rattle.viewer.specs.Ranks.{keysOf, ordered, Stand}
 use Rattle.viewer.specs.Stored.{Stored, stored-none, stored-one, stored-then, Guessed}
 use Rattle.viewer.specs.Backward.{texts-least, texts-sort}

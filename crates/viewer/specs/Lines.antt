@@ -28,14 +28,15 @@ use Rattle.sorting.specs.Sorting.{sortBy, keyIn}
 use Rattle.sorting.specs.Tally.{nth}
 use Rattle.sorting.specs.SortLaws.{mem-sort, at-mem, sort-map}
 use Rattle.writers.specs.Files.{sorted}
-use Rattle.writers.specs.Kept.{places, recordIn, recordKeyed, keysBelow, standing}
-use Rattle.writers.specs.KeptLaws.{standing-more, keys-inside, keys-sorted}
+use Rattle.writers.specs.Kept.{places, standing}
+use Rattle.writers.specs.KeptLaws.{standing-more}
 use Rattle.coordinates.specs.Coordinates.{blank, positionText}
 use Rattle.coordinates.specs.TextLaws.{position-least}
 use Rattle.mesh_faces.specs.MeshFaces.{meshFaces}
 use Rattle.viewer.specs.Viewer.{cornersOf, nextFirst, isLeast, leastFirst, leastOf, rises, faceCorners, numberOf}
 use Rattle.viewer.specs.Viewer.{headText, vertexMark, vertexText, faceText, texts}
 use Rattle.viewer.specs.Packed.{many, packed, unpacked, Small, pack-rises, unpack-all}
+use Rattle.viewer.specs.Keyed.{recordIn, recordKeyed, keys-inside, keys-sorted}
 use Rattle.viewer.specs.Ranks.{keysOf, ordered, held-number}
 use Rattle.counts.specs.Counts.{gather}
 use Rattle.mesh_faces.specs.Once.{Four, freshAt, freshStar, freshIn, freshSlot, freshBelow, fresh-more, gather-more}
@@ -223,7 +224,7 @@ module _ (t : List ℕ) (o : InOrder t) where
   -- the slot of a key is in the table
   pub ordered-inside : (k : ℕ) → k < length (ordered t) → slotWidth * (nth (ordered t) k % places) + slotWidth ≤ length t
   ordered-inside k l =
-      keys-inside t o (slotAt t) (λ i r e. e) (nth (ordered t) k) (mem-sort ltb (keysOf t) (nth (ordered t) k) (at-mem 0 (ordered t) k l))
+      keys-inside t o (nth (ordered t) k) (mem-sort ltb (keysOf t) (nth (ordered t) k) (at-mem 0 (ordered t) k l))
 
   pub keyed-close : (v : ℕ) → slotWidth * (v % places) + slotWidth ≤ length t → Close (recordKeyed t v .at)
   keyed-close v h = go (slotAt t (v % places)) refl
@@ -237,7 +238,7 @@ module _ (t : List ℕ) (o : InOrder t) where
 pub vertices-sorted : (s : Style) (t : List ℕ) → InOrder t
     → texts (vertexLine s t) (ordered t) ≡ texts (vertexText s) (sorted (standing (slotAt t) (slotsOf t)))
 vertices-sorted s t o =
-    sym (texts-map (vertexText s) (recordKeyed t) (ordered t)) ∙ ap (texts (vertexText s)) (keys-sorted t o (slotAt t) (λ i r e. e))
+    sym (texts-map (vertexText s) (recordKeyed t) (ordered t)) ∙ ap (texts (vertexText s)) (keys-sorted t o)
 
 -- the numbers of a face whose vertices all stand in the table fit
 four-small : (t : List ℕ) → InOrder t → (f : Face) → Four t f → Small (cornersOf t f)

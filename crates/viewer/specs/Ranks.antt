@@ -30,8 +30,9 @@ use Rattle.text.specs.LineOrder.{orders, orderOf, Close, close, earlier, order-
 use Rattle.sorting.specs.Sorting.{sortBy, keyWidth, keyIn}
 use Rattle.sorting.specs.SortLaws.{sort-length, Rising, Decides, sort-rising, rising-at}
 use Rattle.sorting.specs.Tally.{nth}
-use Rattle.writers.specs.Kept.{places, keyOf, keyed, keysBelow}
+use Rattle.writers.specs.Kept.{places}
 use Rattle.viewer.specs.Viewer.{howMany, numberOf}
+use Rattle.viewer.specs.Keyed.{keyOf, keyed, keysBelow}
 use Rattle.viewer.specs.Counting.{many-append, many-same, many-more, many-most, many-fewer, many-sort, many-rank}
 use Rattle.viewer.specs.declared.numbers.Widths.{Widths}
 

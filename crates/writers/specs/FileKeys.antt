@@ -22,7 +22,7 @@ use Rattle.sorting.specs.Sorting.{sortBy}
 use Rattle.sorting.specs.SortLaws.{sort-map, mem-sort}
 use Rattle.writers.specs.Files.{before, sorted}
 use Rattle.writers.specs.Kept.{places, standing, starOf, keyFor, recordFor, Added}
-use Rattle.writers.specs.KeptLaws.{standing-more, keys-length, keys-grow, tail-order, Filled, filled-same, filled-put}
+use Rattle.writers.specs.KeptLaws.{standing-more, standing-grow, tail-order, Filled, filled-same, filled-put}
 
 star-below : (r : Record) → Near r → starOf (r .d) (r .k) (r .n .0) < places
 star-below r h = omega (arith, h .d, h .k, h .n)
@@ -114,10 +114,10 @@ filled-next f i o o₁ o₂ k k₂ w a =
 
 pub standing-room : (f : ℕ → Slot) (i n : ℕ) → i < n → length (standing f i) + length (listed (f i)) ≤ length (standing f n)
 standing-room f i n h =
-    let a = keys-grow f (i + 1) n (omega arith) in
+    let a = standing-grow f (i + 1) n (omega arith) in
     let b = ap length (standing-more f i) in
     let c = length-append (standing f i) (listed (f i)) in
-    omega (arith, keys-length f (i + 1), keys-length f n)
+    omega arith
 
 pub standing-none : (f : ℕ → Slot) → map keyFor (standing f 0) ≡ []
 unfolding standing

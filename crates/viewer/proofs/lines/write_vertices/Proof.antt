@@ -11,7 +11,8 @@ use Rattle.lattice.specs.declared.records.Record.{Record}
 use Rattle.table.specs.Slots.{slotWidth}
 use Rattle.text.specs.LineOrder.{Close}
 use Rattle.sorting.specs.Tally.{nth}
-use Rattle.writers.specs.Kept.{places, recordKeyed}
+use Rattle.writers.specs.Kept.{places}
+use Rattle.viewer.specs.Keyed.{recordKeyed}
 use Rattle.viewer.specs.Viewer.{vertexText, texts}
 use Rattle.viewer.specs.Ranks.{ordered}
 use Rattle.viewer.specs.Backward.{Left, left-start, left-room, left-top, left-place, left-step, left-end}
