@@ -21,18 +21,18 @@ use Rattle.text.specs.Near.{Near, valid-near}
 use Rattle.sorting.specs.Sorting.{sortBy}
 use Rattle.sorting.specs.SortLaws.{sort-map, mem-sort}
 use Rattle.writers.specs.Files.{before, sorted}
-use Rattle.writers.specs.Kept.{places, standing, starOf, keyFor, recordFor, Added}
-use Rattle.writers.specs.KeptLaws.{standing-more, keys-length, keys-grow, tail-order, Filled, filled-same, filled-put}
+use Rattle.writers.specs.Kept.{places, standing, shapeOf, keyFor, recordFor, Added}
+use Rattle.writers.specs.KeptLaws.{standing-more, standing-grow, tail-order, Filled, filled-same, filled-put}
 
-star-below : (r : Record) → Near r → starOf (r .d) (r .k) (r .n .0) < places
-star-below r h = omega (arith, h .d, h .k, h .n)
+shape-below : (r : Record) → Near r → shapeOf (r .d) (r .k) (r .n .0) < places
+shape-below r h = omega (arith, h .d, h .k, h .n)
 
 -- the key tells the record
 pub key-back : (r : Record) → Near r → recordFor (keyFor r) ≡ r
 key-back r h =
-    let c = star-below r h in
+    let c = shape-below r h in
     let x = orderOf (r .at) in
-    let v = x * places + starOf (r .d) (r .k) (r .n .0) in
+    let v = x * places + shapeOf (r .d) (r .k) (r .n .0) in
     let at : v / places ≡ x = omega arith in
     let d : v / 256 % 256 ≡ r .d = omega (arith, h .d, h .k, h .n) in
     let k : v / 16 % 16 ≡ r .k = omega (arith, h .k, h .n) in
@@ -89,9 +89,9 @@ module _ (t : List ℕ) (o : InOrder t) (f : ℕ → Slot) (part : (i : ℕ) (r 
       let c = standing-close r m in
       let d = standing-close q n in
       order-earlier (r .at) (q .at) c d
-      ∙ sym (tail-order (orderOf (r .at)) (orderOf (q .at)) (starOf (r .d) (r .k) (r .n .0)) (starOf (q .d) (q .k) (q .n .0))
-      (star-below r (standing-near r m)) (star-below q (standing-near q n))
-      (λ e. ap (λ (x : Record). starOf (x .d) (x .k) (x .n .0)) (standing-one r q m n (order-one (r .at) (q .at) c d e))))
+      ∙ sym (tail-order (orderOf (r .at)) (orderOf (q .at)) (shapeOf (r .d) (r .k) (r .n .0)) (shapeOf (q .d) (q .k) (q .n .0))
+      (shape-below r (standing-near r m)) (shape-below q (standing-near q n))
+      (λ e. ap (λ (x : Record). shapeOf (x .d) (x .k) (x .n .0)) (standing-one r q m n (order-one (r .at) (q .at) c d e))))
 
   -- the sorted keys are those of the records in file order
   file-keys : sortBy ltb (map keyFor all) ≡ map keyFor (sorted all)
@@ -114,10 +114,10 @@ filled-next f i o o₁ o₂ k k₂ w a =
 
 pub standing-room : (f : ℕ → Slot) (i n : ℕ) → i < n → length (standing f i) + length (listed (f i)) ≤ length (standing f n)
 standing-room f i n h =
-    let a = keys-grow f (i + 1) n (omega arith) in
+    let a = standing-grow f (i + 1) n (omega arith) in
     let b = ap length (standing-more f i) in
     let c = length-append (standing f i) (listed (f i)) in
-    omega (arith, keys-length f (i + 1), keys-length f n)
+    omega arith
 
 pub standing-none : (f : ℕ → Slot) → map keyFor (standing f 0) ≡ []
 unfolding standing
