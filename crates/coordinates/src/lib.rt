@@ -4,5 +4,6 @@
 mod near;
 mod texts;
 
+pub use texts::BLANK;
 pub use texts::position_back;
 pub use texts::position_length;

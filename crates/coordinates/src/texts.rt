@@ -17,7 +17,8 @@ use text::number_back;
 use text::width;
 use text::write_bytes;
 
-const BLANK: u8 = b' ';
+// Between the numbers of a line.
+pub const BLANK: u8 = b' ';
 
 const DOT: u8 = b'.';
 

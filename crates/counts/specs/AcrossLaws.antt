@@ -3,7 +3,6 @@
 --
 -- The adjacent point p = v + A and the opposite q = v + O of a corner, before or after it, have v = p + f(q - p) for one of the eight factors f: that
 -- is f(O - A) = -A, one test over the pattern table, computed at each degree and orientation. A level only scales it, and v drops out of q - p.
--- `past-six`, `factor-size` the factors' numbers.
 -- Assumes nothing.
 use mathlib.Core.Path.{_≡_, sym, ap, _∙_, subst}
 use mathlib.Core.Bool.{Bool, true, not, _&&_, _||_}
@@ -12,8 +11,8 @@ use Prim.Native.Nat.{ℕ, suc, _+_, _/_, _-_, _^_, _≤_, _<_}
 use native.Mathlib.Omega.{arith}
 use native.Mathlib.Nat.{mul-comm}
 use lib.Dec.{T, leb, le→leb, lit≤}
-use lib.IntN.{ℤ, pos, negsuc, negℤ, natAbs, _+ℤ_, _-ℤ_, _*ℤ_, *ℤ-comm, *ℤ-negsuc}
-use Rattle.laws.specs.Rules.{Test, run, Means, _≡?_, _≡ᶻ?_, _≤?_, _&_, _⇒_, sound, rule, upto, upto-at, among, eqZ, eqZ→eq}
+use lib.IntN.{ℤ, pos, negsuc, negℤ, _+ℤ_, _-ℤ_, _*ℤ_, *ℤ-comm, *ℤ-negsuc}
+use Rattle.laws.specs.Rules.{Test, run, Means, _≡?_, _≡ᶻ?_, _≤?_, _&_, _⇒_, sound, upto, upto-at, among, eqZ, eqZ→eq}
 use Rattle.laws.specs.Bools.{and-left, and-right, then-of}
 use Rattle.laws.specs.Choices.{is-true, of-true}
 use Rattle.laws.specs.Each.{among-at}
@@ -33,8 +32,8 @@ use Rattle.lattice.specs.declared.patterns.Spot.the-variants.{At, Nothing}
 use Rattle.geometry.specs.GeometryLaws.{Same, step-told, sum-same, scale-lift, low-normal}
 use Rattle.queries.specs.Queries.{there, chosenAt}
 use Rattle.counts.specs.Counts.{nextPlace}
-use Rattle.counts.specs.Across.{Factor, factorOf, acrossOf}
-use Rattle.counts.specs.OppositeLaws.{oppositeOf, Opposite, chosen-opposite, adjacent-depth, opposite-depth, adjacent-bound, opposite-bound}
+use Rattle.across.specs.Across.{Factor, factorOf, acrossOf}
+use Rattle.across.specs.OppositeLaws.{oppositeOf, Opposite, chosen-opposite, adjacent-depth, opposite-depth, adjacent-bound, opposite-bound}
 
 -- ---- what the pattern table says, at each orientation
 
@@ -277,22 +276,6 @@ leads f u n a o low ha ho hp hq t =
               ∙ eqZ→eq y (negℤ (high 3 a)) (and-right (eqZ x (negℤ (wide 3 a))) (eqZ y (negℤ (high 3 a))) t)
               ∙ sym (back (a .b));
         }
-
--- the last of the eight: past each number that it is not
-pub past-six : (c : ℕ) → c < 8 → (c ≡ 0 → ⊥) → (c ≡ 1 → ⊥) → (c ≡ 2 → ⊥) → (c ≡ 3 → ⊥) → (c ≡ 4 → ⊥) → (c ≡ 5 → ⊥) → (c ≡ 6 → ⊥) → c ≡ 7
-past-six c h n₀ n₁ n₂ n₃ n₄ n₅ n₆ = only c h (past c 6 (past c 5 (past c 4 (past c 3 (past c 2 (past c 1 (past c 0 (least c) n₀) n₁) n₂) n₃) n₄) n₅) n₆)
-  where
-    least : (x : ℕ) → 0 ≤ x
-    least x = omega arith
-
-    past : (x k : ℕ) → k ≤ x → (x ≡ k → ⊥) → k + 1 ≤ x
-    past x k h n = omega arith
-
-    only : (x : ℕ) → x < 8 → 7 ≤ x → x ≡ 7
-    only x h l = omega arith
-
-pub factor-size : (c : ℕ) → c < 8 → (natAbs (factorOf c .x) ≤ 6) × (natAbs (factorOf c .y) ≤ 6)
-factor-size c h = rule 8 (λ c. natAbs (factorOf c .x) ≤? 6 & natAbs (factorOf c .y) ≤? 6) tt c h
 
 -- ---- a star
 

@@ -27,7 +27,7 @@ use Rattle.table.specs.declared.entries.Looked.{Looked}
 use Rattle.table.specs.declared.entries.Looked.the-variants.{Absent, Held}
 use Rattle.queries.specs.Queries.{chosenAt, isPoint}
 use Rattle.counts.specs.Counts.{bit, nextPlace, turned}
-use Rattle.counts.specs.Across.{apexOf}
+use Rattle.across.specs.Across.{apexOf}
 use Rattle.counts.specs.Earlier.{sumBelow, slotSum, slotIn, prevPlace, faced, nearIn, nearBefore, nearCount, farIs, farBefore, apexSeen, endHas}
 use Rattle.counts.specs.Earlier.{narrowElse, acrossElse, farOne, farAt, farCount}
 use Rattle.counts.specs.Earlier.{starSides, slotSides, spotIs, cornerIs, faceSeen, faceBefore, faceOn, faceCount, cornerCount, starFaces}

@@ -17,16 +17,14 @@ use Rattle.lattice.specs.declared.patterns.Spot.{Spot}
 use Rattle.lattice.specs.declared.patterns.Spot.the-variants.{At, Nothing}
 use Rattle.table.specs.Slots.{slotsOf, slotAt}
 use Rattle.table.specs.Search.{samePoint, findOf}
-use Rattle.table.specs.Entries.{heldIn, holds}
+use Rattle.table.specs.Entries.{heldIn, holds, slotFound}
 use Rattle.table.specs.declared.slots.Slot.{Slot}
 use Rattle.table.specs.declared.slots.Slot.the-variants.{Free, Holds}
-use Rattle.table.specs.declared.probe.Found.{Found}
-use Rattle.table.specs.declared.probe.Found.the-variants as found
 use Rattle.table.specs.declared.entries.Looked.{Looked}
 use Rattle.table.specs.declared.entries.Looked.the-variants.{Absent, Held}
 use Rattle.queries.specs.Queries.{chosenAt, isPoint}
 use Rattle.counts.specs.Counts.{bit, nextPlace, face, turned}
-use Rattle.counts.specs.Across.{factorOf, acrossOf, apexOf}
+use Rattle.across.specs.Across.{factorOf, acrossOf, apexOf}
 use Rattle.counts.specs.declared.earlier.Placed.{Placed}
 use Rattle.counts.specs.declared.faces.Face.{Face}
 use Rattle.counts.specs.declared.corners.Counted.{Counted}
@@ -43,11 +41,6 @@ slotSum f Free = 0
 slotSum f (Holds v) = f v
 
 -- ---- the slot of a point, past the last where it has none; the record in a slot, if that comes before slot k
-abbrev pub slotFound : ℕ → Found → ℕ
-slotFound n (found.At i) = i
-slotFound n (found.Free i) = n
-slotFound n found.Full = n
-
 unfoldable pub slotIn : List ℕ → Point → ℕ
 slotIn t p = slotFound (slotsOf t) (findOf t p)
 

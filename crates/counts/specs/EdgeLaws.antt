@@ -37,7 +37,7 @@ use Rattle.table.specs.declared.slots.Slot.the-variants.{Free, Holds}
 use Rattle.queries.specs.Queries.{chosenAt}
 use Rattle.counts.specs.Counts.{bit, differentAfter, gather, each, nextPlace, facesAt, sameFace, Side, side}
 use Rattle.counts.specs.Counts.{sidesOf, sameSide, edgesIn}
-use Rattle.counts.specs.Across.{factorOf, acrossOf, apexOf}
+use Rattle.across.specs.Across.{factorOf, acrossOf, apexOf}
 use Rattle.counts.specs.Earlier.{sumBelow, slotSum, faced, hasNear, nearIn, nearBefore, nearCount, hasFar, farSeen, farBefore, hasEither, apexSeen}
 use Rattle.counts.specs.Earlier.{endHas, isWide, narrowElse, acrossElse, farOne, Spared, farAt, farCount, starSides, slotSides, faceOn, faceBefore}
 use Rattle.counts.specs.DifferentLaws.{slotTest, sum-plus, sum-each, some-one, some-none, some-gather, some-each}

@@ -2,16 +2,15 @@
 pub mod Counts
 pub mod Count
 -- what the promises of the functions below cite besides
-pub mod Across
 pub mod Earlier
 pub mod Strides
 pub mod Choices
+pub mod Beside
 -- their laws
 pub mod DifferentLaws
 pub mod SetLaws
 pub mod EarlierLaws
 pub mod StarLaws
-pub mod OppositeLaws
 pub mod AcrossLaws
 pub mod FaceLaws
 pub mod SameLaws
@@ -22,6 +21,7 @@ pub mod ToldLaws
 pub mod DegreeLaws
 pub mod AloneLaws
 pub mod CaseLaws
+pub mod BesideLaws
 pub mod CountLaws
 -- examples that compute
 pub mod Examples

@@ -30,7 +30,7 @@ use Rattle.geometry.specs.GeometryLaws.{scale-lift, move-back, sum-sum}
 use Rattle.geometry.specs.SideLaws.{vector}
 use Rattle.geometry.specs.StarSteps.{turnOf, downOf, star-step}
 use Rattle.counts.specs.Counts.{bit, nextPlace}
-use Rattle.counts.specs.OppositeLaws.{oppositeOf, adjacent-depth, opposite-depth}
+use Rattle.across.specs.OppositeLaws.{oppositeOf, adjacent-depth, opposite-depth}
 use Rattle.counts.specs.Strides.{adjacentRow, sideRow, otherRow, partOf, strideWith, strideOf, walkOf, backOf, oppositeBy}
 use Rattle.counts.specs.FaceLaws.{next-below}
 
@@ -38,46 +38,79 @@ use Rattle.counts.specs.FaceLaws.{next-below}
 
 record Split (p k n c : ℕ) : Type 0 where
   some : p ≡ 63 → ⊥
-  turn : c % 12 ≡ (k + p % 12) % 12
-  level : c / 12 ≡ n + p / 12
+  turn : c % 16 ≡ (k + p % 16) % 12
+  level : c / 16 ≡ n + p / 16
 
-split : (p k n : ℕ) → 12 ≤ strideWith p k n → Split p k n (strideWith p k n)
+split : (p k n : ℕ) → 16 ≤ strideWith p k n → Split p k n (strideWith p k n)
 split p k n h = go (ℕ-discrete p 63)
   where
     none : (e : p ≡ 63) → strideWith p k n ≡ 0
-    none e = ap (λ (b : Bool). cond b 0 (12 * (n + p / 12) + (k + p % 12) % 12)) (eq-eqb p 63 e)
+    none e = ap (λ (b : Bool). cond b 0 (16 * (n + p / 16) + (k + p % 16) % 12)) (eq-eqb p 63 e)
 
-    is : (p ≡ 63 → ⊥) → strideWith p k n ≡ 12 * (n + p / 12) + (k + p % 12) % 12
-    is e = ap (λ (b : Bool). cond b 0 (12 * (n + p / 12) + (k + p % 12) % 12)) (ne-eqb p 63 e)
+    is : (p ≡ 63 → ⊥) → strideWith p k n ≡ 16 * (n + p / 16) + (k + p % 16) % 12
+    is e = ap (λ (b : Bool). cond b 0 (16 * (n + p / 16) + (k + p % 16) % 12)) (ne-eqb p 63 e)
 
-    parts : (x y c : ℕ) → c ≡ 12 * x + y % 12 → (c % 12 ≡ y % 12) × (c / 12 ≡ x)
+    parts : (x y c : ℕ) → c ≡ 16 * x + y % 12 → (c % 16 ≡ y % 12) × (c / 16 ≡ x)
     parts x y c e = (omega arith, omega arith)
 
     go : Dec (p ≡ 63) → Split p k n (strideWith p k n)
     go (yes e) = let z = none e in absurd (omega (arith, z, h))
-    go (no e) = let z = parts (n + p / 12) (k + p % 12) (strideWith p k n) (is e) in record { some = e; turn = z .0; level = z .1 }
+    go (no e) = let z = parts (n + p / 16) (k + p % 16) (strideWith p k n) (is e) in record { some = e; turn = z .0; level = z .1 }
+
+-- no direction is past the last
+pub stride-turn : (row j k n : ℕ) → strideOf row j k n % 16 < 12
+unfolding strideOf
+stride-turn row j k n = go (eqb (partOf row j) 63)
+  where
+    go : (b : Bool) → cond b 0 (16 * (n + partOf row j / 16) + (k + partOf row j % 16) % 12) % 16 < 12
+    go true = omega arith
+    go false = under (n + partOf row j / 16) (k + partOf row j % 16)
+      where
+        under : (x y : ℕ) → (16 * x + y % 12) % 16 < 12
+        under x y = omega arith
 
 -- ---- to an adjacent point
 
 adjacent-part : (d j : ℕ) → 3 ≤ d → d ≤ 6 → j < d
-    → Means ((partOf (adjacentRow d) j % 12) ≡? turnOf d j & (partOf (adjacentRow d) j / 12) ≡? (1 + downOf d j) & partOf (adjacentRow d) j ≤? 62)
+    → Means ((partOf (adjacentRow d) j % 16) ≡? turnOf d j & (partOf (adjacentRow d) j / 16) ≡? (1 + downOf d j) & partOf (adjacentRow d) j ≤? 62)
 unfolding turnOf downOf
 adjacent-part d j l h k =
     rule2 7 6
     (λ d j. 3 ≤? d ⇒ suc j ≤? d
-    ⇒ (partOf (adjacentRow d) j % 12) ≡? turnOf d j & (partOf (adjacentRow d) j / 12) ≡? (1 + downOf d j) & partOf (adjacentRow d) j ≤? 62)
+    ⇒ (partOf (adjacentRow d) j % 16) ≡? turnOf d j & (partOf (adjacentRow d) j / 16) ≡? (1 + downOf d j) & partOf (adjacentRow d) j ≤? 62)
     tt d (omega arith) j (omega arith) l k
+
+-- the strides to a first opposite are some
+first-part : (d j : ℕ) → 3 ≤ d → d ≤ 6 → j < d
+    → Means (1 ≤? (partOf (sideRow d false) j / 16) & partOf (sideRow d false) j ≤? 62 & 1 ≤? (partOf (otherRow d false) j / 16)
+    & partOf (otherRow d false) j ≤? 62)
+first-part d j l h k =
+    rule2 7 6
+    (λ d j. 3 ≤? d ⇒ suc j ≤? d
+    ⇒ 1 ≤? (partOf (sideRow d false) j / 16) & partOf (sideRow d false) j ≤? 62 & 1 ≤? (partOf (otherRow d false) j / 16) & partOf (otherRow d false) j ≤? 62)
+    tt d (omega arith) j (omega arith) l k
+
+some-stride : (p k n : ℕ) → 1 ≤ p / 16 → p ≤ 62 → 16 ≤ strideWith p k n
+some-stride p k n l h =
+    let e = ap (λ (b : Bool). cond b 0 (16 * (n + p / 16) + (k + p % 16) % 12)) (ne-eqb p 63 (λ z. omega (arith, h))) in
+    omega (arith, e, l)
+
+pub first-some : (d j k n : ℕ) → 3 ≤ d → d ≤ 6 → j < d → (16 ≤ strideOf (sideRow d false) j k n) × (16 ≤ strideOf (otherRow d false) j k n)
+unfolding strideOf
+first-some d j k n l h g =
+    let m = first-part d j l h g in
+    (some-stride (partOf (sideRow d false) j) k n (m .0) (m .1 .0), some-stride (partOf (otherRow d false) j) k n (m .1 .1 .0) (m .1 .1 .1))
 
 module _ (v : Record) (i : Inner v) (turn : v .k < 12) where
   abbrev pub toAdjacent : ℕ → ℕ
   toAdjacent j = strideOf (adjacentRow (v .d)) j (v .k) (v .n .0)
 
-  pub adjacent-some : (j : ℕ) → j < v .d → 12 ≤ toAdjacent j
+  pub adjacent-some : (j : ℕ) → j < v .d → 16 ≤ toAdjacent j
   unfolding strideOf
   adjacent-some j h =
       let m = adjacent-part (v .d) j (i .low) (i .top) h in
       let p = partOf (adjacentRow (v .d)) j in
-      let e = ap (λ (b : Bool). cond b 0 (12 * (v .n .0 + p / 12) + (v .k + p % 12) % 12)) (ne-eqb p 63 (λ z. omega (arith, m .1 .1))) in
+      let e = ap (λ (b : Bool). cond b 0 (16 * (v .n .0 + p / 16) + (v .k + p % 16) % 12)) (ne-eqb p 63 (λ z. omega (arith, m .1 .1))) in
       let a = m .1 .0 in
       omega (arith, e, a)
 
@@ -87,7 +120,7 @@ module _ (v : Record) (i : Inner v) (turn : v .k < 12) where
       let m = adjacent-part (v .d) j (i .low) (i .top) h in
       let s = split (partOf (adjacentRow (v .d)) j) (v .k) (v .n .0) (adjacent-some j h) in
       let a = m .1 .0 in
-      let e : toAdjacent j / 12 - 1 ≡ v .n .0 + downOf (v .d) j = omega (arith, s .level, a) in
+      let e : toAdjacent j / 16 - 1 ≡ v .n .0 + downOf (v .d) j = omega (arith, s .level, a) in
       sym (star-step v j (i .low) (i .top) h turn (i .parity)
       ∙ (λ z. moveOf (v .at) ((sym (s .turn ∙ ap (λ (x : ℕ). (v .k + x) % 12) (m .0))) z) (sym e z)))
 
@@ -100,9 +133,9 @@ depthOf b s = getD ((3 - b) ∷ 2 ∷ (2 - b) ∷ 1 ∷ []) s 0
 -- a and the stride make o
 abbrev makes : ℕ → ℕ → Point → ℕ → Spot → Test
 makes b k a p (At o) =
-    (p / 12) ≤? 3
-    & (wide 2 a +ℤ wide (depthOf b (p / 12)) (orient ((k + p % 12) % 12) (pt (pos 1) (pos 0) 0))) ≡ᶻ? wide 2 (orient k o)
-    & (high 2 a +ℤ high (depthOf b (p / 12)) (orient ((k + p % 12) % 12) (pt (pos 1) (pos 0) 0))) ≡ᶻ? high 2 (orient k o)
+    (p / 16) ≤? 3
+    & (wide 2 a +ℤ wide (depthOf b (p / 16)) (orient ((k + p % 16) % 12) (pt (pos 1) (pos 0) 0))) ≡ᶻ? wide 2 (orient k o)
+    & (high 2 a +ℤ high (depthOf b (p / 16)) (orient ((k + p % 16) % 12) (pt (pos 1) (pos 0) 0))) ≡ᶻ? high 2 (orient k o)
 makes b k a p Nothing = p ≡? 63
 
 abbrev bothMake : ℕ → ℕ → ℕ → ℕ → ℕ → Test
@@ -129,11 +162,11 @@ deep n (suc (suc (suc zero))) h k = (omega arith, omega arith)
 deep n (suc (suc (suc (suc s)))) h k = absurd (omega arith)
 
 -- a stride from the end of one pattern point to the end of another
-walk-on : (v : Record) (a o : Point) (p : ℕ) → a .m .0 ≤ 2 → orient (v .k) o .m .0 ≤ 2 → 12 ≤ strideWith p (v .k) (v .n .0)
+walk-on : (v : Record) (a o : Point) (p : ℕ) → a .m .0 ≤ 2 → orient (v .k) o .m .0 ≤ 2 → 16 ≤ strideWith p (v .k) (v .n .0)
     → Means (makes (v .n .0 % 2) (v .k) a p (At o)) → walkOf (stepOf (v .at) (v .n) a) (strideWith p (v .k) (v .n .0)) ≡ stepOf (v .at) (v .n) (orient (v .k) o)
 walk-on v a o p ha ho h m =
     (λ z. moveOf (stepOf (v .at) (v .n) a) (s .turn z) (l z))
-    ∙ sum-sum (v .at) (scaleOf (v .n) a) (vector e (n + p / 12 - 1)) (scaleOf (v .n) (orient (v .k) o)) (2 + n / 2) (omega arith)
+    ∙ sum-sum (v .at) (scaleOf (v .n) a) (vector e (n + p / 16 - 1)) (scaleOf (v .n) (orient (v .k) o)) (2 + n / 2) (omega arith)
     (omega (arith, orient-depth e (pt (pos 1) (pos 0) 0), d .0, d .1)) (omega arith)
     ((λ z. scale-lift (a .a) (a .m .0) (n / 2) 2 z +ℤ reach (u .a) z) ∙ m .1 .0 ∙ sym (scale-lift (orient (v .k) o .a) (orient (v .k) o .m .0) (n / 2) 2))
     ((λ z. scale-lift (a .b) (a .m .0) (n / 2) 2 z +ℤ reach (u .b) z) ∙ m .1 .1 ∙ sym (scale-lift (orient (v .k) o .b) (orient (v .k) o .m .0) (n / 2) 2))
@@ -142,7 +175,7 @@ walk-on v a o p ha ho h m =
     n = v .n .0
 
     e : ℕ
-    e = (v .k + p % 12) % 12
+    e = (v .k + p % 16) % 12
 
     u : Point
     u = orient e (pt (pos 1) (pos 0) 0)
@@ -150,14 +183,14 @@ walk-on v a o p ha ho h m =
     s : Split p (v .k) n (strideWith p (v .k) n)
     s = split p (v .k) n h
 
-    l : strideWith p (v .k) n / 12 - 1 ≡ n + p / 12 - 1
+    l : strideWith p (v .k) n / 16 - 1 ≡ n + p / 16 - 1
     l = omega (arith, s .level)
 
-    d : (2 + n / 2 ≡ depthOf (n % 2) (p / 12) + (n + p / 12 - 1) / 2) × (1 ≤ depthOf (n % 2) (p / 12))
-    d = deep n (p / 12) (m .0) (omega (arith, s .level, h))
+    d : (2 + n / 2 ≡ depthOf (n % 2) (p / 16) + (n + p / 16 - 1) / 2) × (1 ≤ depthOf (n % 2) (p / 16))
+    d = deep n (p / 16) (m .0) (omega (arith, s .level, h))
 
-    reach : (x : ℤ) → lift x (u .m .0 + (n + p / 12 - 1) / 2) (2 + n / 2) ≡ lift x (u .m .0) (depthOf (n % 2) (p / 12))
-    reach x = ap (λ (z : ℕ). lift x (u .m .0 + (n + p / 12 - 1) / 2) z) (d .0) ∙ scale-lift x (u .m .0) ((n + p / 12 - 1) / 2) (depthOf (n % 2) (p / 12))
+    reach : (x : ℤ) → lift x (u .m .0 + (n + p / 16 - 1) / 2) (2 + n / 2) ≡ lift x (u .m .0) (depthOf (n % 2) (p / 16))
+    reach x = ap (λ (z : ℕ). lift x (u .m .0 + (n + p / 16 - 1) / 2) z) (d .0) ∙ scale-lift x (u .m .0) ((n + p / 16 - 1) / 2) (depthOf (n % 2) (p / 16))
 
 -- ---- the way back
 
@@ -169,28 +202,28 @@ low-point p l = go (p .m .0) (by3 (p .a) && by3 (p .b)) (l .low)
     go (suc m) true h = absurd (never (sym (h (omega arith))))
     go (suc m) false h = of-true (or-true (eqb (suc m) 0))
 
-back-parts : (c : ℕ) → (backOf c % 12 ≡ (c % 12 + 6) % 12) × (backOf c / 12 ≡ c / 12)
-back-parts c = go (decLt (c % 12) 6)
+back-parts : (c : ℕ) → c % 16 < 12 → (backOf c % 16 ≡ (c % 16 + 6) % 12) × (backOf c / 16 ≡ c / 16)
+back-parts c low = go (decLt (c % 16) 6)
   where
-    under : (x : ℕ) → x ≡ c + 6 → c % 12 < 6 → (x % 12 ≡ (c % 12 + 6) % 12) × (x / 12 ≡ c / 12)
+    under : (x : ℕ) → x ≡ c + 6 → c % 16 < 6 → (x % 16 ≡ (c % 16 + 6) % 12) × (x / 16 ≡ c / 16)
     under x e l = (omega arith, omega arith)
 
-    over : (x : ℕ) → x ≡ c - 6 → 6 ≤ c % 12 → (x % 12 ≡ (c % 12 + 6) % 12) × (x / 12 ≡ c / 12)
-    over x e l = (omega arith, omega arith)
+    over : (x : ℕ) → x ≡ c - 6 → 6 ≤ c % 16 → (x % 16 ≡ (c % 16 + 6) % 12) × (x / 16 ≡ c / 16)
+    over x e l = (omega (arith, low), omega (arith, low))
 
-    go : Dec (c % 12 < 6) → (backOf c % 12 ≡ (c % 12 + 6) % 12) × (backOf c / 12 ≡ c / 12)
-    go (yes l) = under (backOf c) (ap (λ (b : Bool). cond b (c + 6) (c - 6)) (lt-ltb (c % 12) 6 l)) l
-    go (no l) = over (backOf c) (ap (λ (b : Bool). cond b (c + 6) (c - 6)) (le-ltb (c % 12) 6 (omega arith))) (omega arith)
+    go : Dec (c % 16 < 6) → (backOf c % 16 ≡ (c % 16 + 6) % 12) × (backOf c / 16 ≡ c / 16)
+    go (yes l) = under (backOf c) (ap (λ (b : Bool). cond b (c + 6) (c - 6)) (lt-ltb (c % 16) 6 l)) l
+    go (no l) = over (backOf c) (ap (λ (b : Bool). cond b (c + 6) (c - 6)) (le-ltb (c % 16) 6 (omega arith))) (omega arith)
 
-pub back-some : (c : ℕ) → 12 ≤ c → 12 ≤ backOf c
-back-some c h = let e = back-parts c .1 in omega (arith, e)
+pub back-some : (c : ℕ) → c % 16 < 12 → 16 ≤ c → 16 ≤ backOf c
+back-some c low h = let e = back-parts c low .1 in omega (arith, e)
 
-pub back-walk : (p q : Point) (c : ℕ) → Low p → walkOf p c ≡ q → walkOf q (backOf c) ≡ p
-back-walk p q c l e =
-    let x = back-parts c in
+pub back-walk : (p q : Point) (c : ℕ) → c % 16 < 12 → Low p → walkOf p c ≡ q → walkOf q (backOf c) ≡ p
+back-walk p q c low l e =
+    let x = back-parts c low in
     ap (λ (z : Point). walkOf z (backOf c)) (sym e)
     ∙ (λ z. moveOf (walkOf p c) (x .0 z) (ap (λ (y : ℕ). y - 1) (x .1) z))
-    ∙ move-back p (c % 12) (c / 12 - 1) (low-point p l) (omega arith)
+    ∙ move-back p (c % 16) (c / 16 - 1) (low-point p l) (omega arith)
 
 -- ---- the corners of a star
 
@@ -234,7 +267,7 @@ module _ (v : Record) (i : Inner v) (turn : v .k < 12) (j : ℕ) (h : j < v .d) 
     near : (p : Point) → oppositeOf (v .d) j (bit second) ≡ At p → stepOf (v .at) (v .n) (orient (v .k) p) ≡ o → orient (v .k) p .m .0 ≤ 2
     near p r is = opposite-depth v i j o h (record { pattern = p; which = bit second; two = two second; row = r; is = is })
 
-    pub side-walk : 12 ≤ toOpposite → walkOf (adjacentAt v j) toOpposite ≡ o
+    pub side-walk : 16 ≤ toOpposite → walkOf (adjacentAt v j) toOpposite ≡ o
     unfolding strideOf
     side-walk l =
         let (p, r, is) = pattern-of o e in
@@ -242,7 +275,7 @@ module _ (v : Record) (i : Inner v) (turn : v .k < 12) (j : ℕ) (h : j < v .d) 
         let x = partOf (sideRow (v .d) second) j in
         walk-on v a p x (adjacent-depth v i j h) (near p r is) l (subst (λ (s : Spot). Means (makes (v .n .0 % 2) (v .k) a x s)) r (row second .0)) ∙ is
 
-    pub other-walk : 12 ≤ fromNext → walkOf (adjacentAt v (nextPlace (v .d) j)) fromNext ≡ o
+    pub other-walk : 16 ≤ fromNext → walkOf (adjacentAt v (nextPlace (v .d) j)) fromNext ≡ o
     unfolding strideOf
     other-walk l =
         let (p, r, is) = pattern-of o e in
@@ -253,11 +286,11 @@ module _ (v : Record) (i : Inner v) (turn : v .k < 12) (j : ℕ) (h : j < v .d) 
         (subst (λ (s : Spot). Means (makes (v .n .0 % 2) (v .k) a x s)) r (row second .1)) ∙ is
 
   -- a stride that is one leads to an opposite
-  pub some-opposite : 12 ≤ toOpposite → (o : Point) × (oppositeBy v j second ≡ At o)
+  pub some-opposite : 16 ≤ toOpposite → (o : Point) × (oppositeBy v j second ≡ At o)
   unfolding strideOf
   some-opposite l = go second l
     where
-      spot : (s : Bool) (z : Spot) → oppositeOf (v .d) j (bit s) ≡ z → 12 ≤ strideWith (partOf (sideRow (v .d) s) j) (v .k) (v .n .0) → (p : Point)
+      spot : (s : Bool) (z : Spot) → oppositeOf (v .d) j (bit s) ≡ z → 16 ≤ strideWith (partOf (sideRow (v .d) s) j) (v .k) (v .n .0) → (p : Point)
           × (oppositeOf (v .d) j (bit s) ≡ At p)
       spot s (At p) e k = (p, e)
       spot s Nothing e k =
@@ -265,7 +298,7 @@ module _ (v : Record) (i : Inner v) (turn : v .k < 12) (j : ℕ) (h : j < v .d) 
           absurd (split x (v .k) (v .n .0) k .some
           (subst (λ (z : Spot). Means (makes (v .n .0 % 2) (v .k) (adjacentOf (v .d) (v .k) j) x z)) e (row s .0)))
 
-      go : (s : Bool) → 12 ≤ strideWith (partOf (sideRow (v .d) s) j) (v .k) (v .n .0) → (o : Point) × (oppositeBy v j s ≡ At o)
+      go : (s : Bool) → 16 ≤ strideWith (partOf (sideRow (v .d) s) j) (v .k) (v .n .0) → (o : Point) × (oppositeBy v j s ≡ At o)
       go false k = (firstAt v j, refl)
       go true k = let x = spot true (oppositeOf (v .d) j 1) refl k in
           (stepOf (v .at) (v .n) (orient (v .k) (x .0)), ap (λ (z : Spot). onSpot (stepOf (v .at) (v .n)) (onSpot (orient (v .k)) z)) (x .1))

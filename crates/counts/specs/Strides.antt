@@ -1,4 +1,4 @@
--- Strides: the ways from a vertex to an adjacent point, and from there to an opposite, each as one number: twelve times the level, from 1 on, and the
+-- Strides: the ways from a vertex to an adjacent point, and from there to an opposite, each as one number: sixteen times the level, from 1 on, and the
 -- direction. A star's strides at orientation 0 and level 0 stand in rows of six bits a place, 63 where there is none.
 -- `adjacentRow`, `sideRow`, `otherRow` the rows: to an adjacent point, from it to the opposite, from the next one to it · `strideOf` a stride ·
 -- `walkOf` a point on · `backOf` the way back · `oppositeBy` the first or the second opposite · `Fit`, `FitIn`, `FitsBy` a corner of a star has these
@@ -27,13 +27,13 @@ abbrev pub rowOf : ℕ → ℕ → ℕ → ℕ → ℕ → ℕ
 rowOf d three four five six = cond (eqb d 3) three (cond (eqb d 4) four (cond (eqb d 5) five six))
 
 abbrev pub adjacentRow : ℕ → ℕ
-adjacentRow d = rowOf d 82956 8778764 561895116 23962649484
+adjacentRow d = rowOf d 99600 10908944 698243280 28325790864
 
 abbrev pub sideRow : ℕ → Bool → ℕ
-sideRow d second = cond second (rowOf d 45507 16654275 1065744255 13259318286) (rowOf d 50448 9364752 599444112 27439527771)
+sideRow d second = cond second (rowOf d 45507 16687043 1067874687 17622459666) (rowOf d 67092 11511316 736857492 36165810531)
 
 abbrev pub otherRow : ℕ → Bool → ℕ
-otherRow d second = cond second (rowOf d 37185 16646081 1065211647 23962649484) (rowOf d 82956 5416780 346720665 35961288291)
+otherRow d second = cond second (rowOf d 37185 16678849 1067342079 28325790864) (rowOf d 99600 6515024 417025185 44687571051)
 
 -- place j of a row
 abbrev pub partOf : ℕ → ℕ → ℕ
@@ -41,17 +41,17 @@ partOf row j = row / 2 ^ (6 * j) % 64
 
 -- the same at orientation k and level n; 0 where there is none
 abbrev pub strideWith : ℕ → ℕ → ℕ → ℕ
-strideWith p k n = cond (eqb p 63) 0 (12 * (n + p / 12) + (k + p % 12) % 12)
+strideWith p k n = cond (eqb p 63) 0 (16 * (n + p / 16) + (k + p % 16) % 12)
 
 unfoldable pub strideOf : ℕ → ℕ → ℕ → ℕ → ℕ
 strideOf row j k n = strideWith (partOf row j) k n
 
--- from p by a stride that is one: 12 at least
+-- from p by a stride that is one: 16 at least
 abbrev pub walkOf : Point → ℕ → Point
-walkOf p c = moveOf p (c % 12) (c / 12 - 1)
+walkOf p c = moveOf p (c % 16) (c / 16 - 1)
 
 abbrev pub backOf : ℕ → ℕ
-backOf c = cond (ltb (c % 12) 6) (c + 6) (c - 6)
+backOf c = cond (ltb (c % 16) 6) (c + 6) (c - 6)
 
 -- the first or the second opposite of a corner
 abbrev pub oppositeBy : Record → ℕ → Bool → Spot

@@ -2,17 +2,19 @@
 -- points; one of its opposites being in the table it has a face, so its two sides are in one; and where that is the first opposite it is the one chosen,
 -- and names this face. `near-earlier`, `face-earlier` what holds of all slots holds of those before slot k · `told-nothing` · `told-before` the face was
 -- counted before · `before-ended`, `after-ended` an end has a side across.
+-- `both-told` what the two beside a corner tell · `fit-renamed` the same strides by other names.
 -- Assumes nothing.
 use mathlib.Core.Path.{_≡_, refl, sym, ap, _∙_, subst}
 use mathlib.Core.Logic.{_⊎_, inl, inr}
-use mathlib.Core.Bool.{Bool, true, false, cond, _&&_, _||_}
+use mathlib.Core.Bool.{Bool, true, false, cond, not, _&&_, _||_}
 use mathlib.Core.List.{List}
 use Prim.Native.Nat.{ℕ, _≤_, _<_}
 use native.Mathlib.Omega.{arith}
 use borrow.Author.Tests.{lt-ltb, ltb-true, eqb-true}
 use lib.Dec.{eqb, ltb}
-use Rattle.laws.specs.Choices.{of-true}
+use Rattle.laws.specs.Choices.{of-true, is-true}
 use Rattle.laws.specs.Each.{both-left, both-right}
+use Rattle.laws.specs.Rules.{upto-at}
 use Rattle.lattice.specs.Places.{normal-low}
 use Rattle.lattice.specs.Stars.{adjacentAt, firstAt, secondAt}
 use Rattle.lattice.specs.Records.{validOf}
@@ -28,19 +30,33 @@ use Rattle.table.specs.Entries.{heldIn, holds}
 use Rattle.table.specs.declared.slots.Slot.the-variants.{Holds}
 use Rattle.table.specs.declared.entries.Looked.the-variants.{Absent, Held}
 use Rattle.queries.specs.Queries.{isPoint, there, chosenAt}
-use Rattle.queries.specs.QueryLaws.{chosen-first}
+use Rattle.queries.specs.QueryLaws.{chosen-first, chosen-second}
 use Rattle.counts.specs.Counts.{nextPlace, face, turned}
 use Rattle.counts.specs.Earlier.{slotIn, earlierIn, heldAnd, prevPlace, faced, hasNear, nearIn, nearBefore, endHas, namesFace, faceIn, faceSeen}
 use Rattle.counts.specs.Earlier.{Round, faceBefore, faceOn}
 use Rattle.counts.specs.EarlierLaws.{holds-slot, earlier-held, valid-inner}
 use Rattle.counts.specs.FaceLaws.{makes-names, next-below}
 use Rattle.counts.specs.NearFarLaws.{one-of, left-of, right-of, prev-next, near-has}
-use Rattle.counts.specs.Strides.{walkOf, backOf, oppositeBy, FitIn, FitsBy, Told, ToldOf, toldEarlier}
+use Rattle.counts.specs.Strides.{walkOf, backOf, oppositeBy, FitIn, FitThere, FitsBy, Told, ToldOf, toldEarlier}
+use Rattle.counts.specs.Beside.{broadAt, broadIn, broadSlot, BothTold}
 use Rattle.counts.specs.StrideLaws.{toAdjacent, adjacent-some, adjacent-walk, back-some, back-walk, toOpposite, fromNext, side-walk, other-walk}
-use Rattle.counts.specs.StrideLaws.{some-opposite}
+use Rattle.counts.specs.StrideLaws.{stride-turn, some-opposite}
 use Rattle.counts.specs.declared.earlier.Placed.{Placed}
 use Rattle.counts.specs.declared.faces.Face.{Face}
 use Rattle.counts.specs.declared.fits.Fits.{Fits}
+
+-- ---- with other names of the same numbers
+pub fit-renamed : (t : List ℕ) (s d r : ℕ) {n m x x′ y y′ z z′ : ℕ} → n ≡ m → x ≡ x′ → y ≡ y′ → z ≡ z′ → FitThere t s (ltb d n) x y z r
+    → FitThere t s (ltb d m) x′ y′ z′ r
+fit-renamed t s d r {n} {m} {x} {x′} {y} {y′} {z} {z′} en ex ey ez f =
+    subst (λ (w : ℕ). FitThere t s (ltb d m) x′ y′ w r) ez
+    (subst (λ (w : ℕ). FitThere t s (ltb d m) x′ w z r) ey
+    (subst (λ (w : ℕ). FitThere t s (ltb d m) w y z r) ex (subst (λ (w : ℕ). FitThere t s (ltb d w) x y z r) en f)))
+
+pub fit-renamed-true : (t : List ℕ) (s r : ℕ) {x x′ y y′ z z′ : ℕ} → x ≡ x′ → y ≡ y′ → z ≡ z′ → FitThere t s true x y z r → FitThere t s true x′ y′ z′ r
+fit-renamed-true t s r {x} {x′} {y} {y′} {z} {z′} ex ey ez f =
+    subst (λ (w : ℕ). FitThere t s true x′ y′ w r) ez
+    (subst (λ (w : ℕ). FitThere t s true x′ w z r) ey (subst (λ (w : ℕ). FitThere t s true w y z r) ex f))
 
 -- ---- what stands in a slot
 
@@ -75,11 +91,18 @@ module _ (t : List ℕ) where
       go true = refl
       go false = refl
 
+  second-chosen : (u : Record) (i : ℕ) (q : Point) → holds t (firstAt u i) ≡ false → secondAt u i ≡ At q → holds t q ≡ true → chosenAt t u i ≡ At q
+  second-chosen u i q n e h = sym (chosen-second t u i n) ∙ ap (there t) e ∙ ap (λ (b : Bool). cond b (At q) Nothing) h
+
+absent : (b : Bool) → not b ≡ true → b ≡ false
+absent false h = refl
+absent true h = sym h
+
 -- ---- a corner with the strides of a face
 
 module _ (t : List ℕ) (o : InOrder t) where
   module _ (s : ℕ) (f : Face) (x y z r : ℕ) (es : s ≡ slotIn t (f .at)) (there : holds t (f .opposite) ≡ true) (wx : walkOf (f .at) x ≡ f .adjacent)
-      (wy : walkOf (f .at) y ≡ f .next) (wz : walkOf (f .adjacent) z ≡ f .opposite) (l : 12 ≤ z) (w : FitIn t s x y z r) where
+      (wy : walkOf (f .at) y ≡ f .next) (wz : walkOf (f .adjacent) z ≡ f .opposite) (l : 16 ≤ z) (w : FitIn t s x y z r) where
     abbrev u : Record
     u = w .rec
 
@@ -110,8 +133,8 @@ module _ (t : List ℕ) (o : InOrder t) where
     last : adjacentAt u n ≡ f .next
     last = sym (adjacent-walk u inn turn n (next-below (u .d) i (w .fit .below))) ∙ (λ a. walkOf (at-it a) (w .fit .next a)) ∙ wy
 
-    long : 12 ≤ toOpposite u inn turn i (w .fit .below) (w .fit .second)
-    long = subst (λ (c : ℕ). 12 ≤ c) (sym (w .fit .side)) l
+    long : 16 ≤ toOpposite u inn turn i (w .fit .below) (w .fit .second)
+    long = subst (λ (c : ℕ). 16 ≤ c) (sym (w .fit .side)) l
 
     opposite : oppositeBy u i (w .fit .second) ≡ At (f .opposite)
     opposite =
@@ -162,8 +185,40 @@ module _ (t : List ℕ) (o : InOrder t) where
           is = λ a. face (at-it a) (first a) (f .opposite) (last a);
         })
 
+    -- where the vertex is broad, its adjacent points are in the table, and it names the face
+    broad : broadSlot t s ≡ true → (p : ℕ) → p < u .d → broadAt t u p ≡ true
+    unfolding broadSlot
+    broad g p h = is-true (broadAt t u p) (upto-at (u .d) (broadAt t u) (of-true (sym (ap (broadIn t) (w .holds)) ∙ g)) p h)
+
+    broad-first : broadSlot t s ≡ true → holds t (f .adjacent) ≡ true
+    broad-first g = ap (holds t) (sym first) ∙ both-left (holds t (adjacentAt u i)) (not (holds t (firstAt u i))) (broad g i (w .fit .below))
+
+    broad-last : broadSlot t s ≡ true → holds t (f .next) ≡ true
+    broad-last g =
+        ap (holds t) (sym last) ∙ both-left (holds t (adjacentAt u n)) (not (holds t (firstAt u n))) (broad g n (next-below (u .d) i (w .fit .below)))
+
+    broad-named : broadSlot t s ≡ true → faceIn t (slotsOf t) f s ≡ true
+    unfolding faceIn
+    broad-named g = go (w .fit .second) refl
+      where
+        none : holds t (firstAt u i) ≡ false
+        none = absent (holds t (firstAt u i)) (both-right (holds t (adjacentAt u i)) (not (holds t (firstAt u i))) (broad g i (w .fit .below)))
+
+        go : (b : Bool) → w .fit .second ≡ b → heldAnd (namesFace t f) (earlierIn t (slotsOf t) s) ≡ true
+        go false e = named e
+        go true e =
+            ap (heldAnd (namesFace t f)) is-held
+            ∙ makes-names t u f
+            (record {
+              corner = i;
+              below = w .fit .below;
+              opposite = f .opposite;
+              chosen = second-chosen t u i (f .opposite) none (sym (ap (oppositeBy u i) e) ∙ opposite) there;
+              is = λ a. face (at-it a) (first a) (f .opposite) (last a);
+            })
+
   told : (s : ℕ) (f : Face) (x y z r : ℕ) → s ≡ slotIn t (f .at) → walkOf (f .at) x ≡ f .adjacent → walkOf (f .at) y ≡ f .next
-      → walkOf (f .adjacent) z ≡ f .opposite → 12 ≤ z → (0 < r → (holds t (f .opposite) ≡ true) × FitIn t s x y z r) → Told t s f r
+      → walkOf (f .adjacent) z ≡ f .opposite → 16 ≤ z → (0 < r → (holds t (f .opposite) ≡ true) × FitIn t s x y z r) → Told t s f r
   told s f x y z r es wx wy wz l g =
       record {
         adjacent = λ h. near s f x y z r es (g h .0) wx wy wz l (g h .1);
@@ -173,7 +228,7 @@ module _ (t : List ℕ) (o : InOrder t) where
 
   -- ---- the other three vertices of the face of corner j of v
   module _ (v : Record) (i : Inner v) (turn : v .k < 12) (j : ℕ) (h : j < v .d) (second : Bool) (q : Point) (e : oppositeBy v j second ≡ At q)
-      (l₁ : 12 ≤ toOpposite v i turn j h second) (l₂ : 12 ≤ fromNext v i turn j h second) where
+      (l₁ : 16 ≤ toOpposite v i turn j h second) (l₂ : 16 ≤ fromNext v i turn j h second) where
     hn : nextPlace (v .d) j < v .d
     hn = next-below (v .d) j h
 
@@ -208,26 +263,26 @@ module _ (t : List ℕ) (o : InOrder t) where
     b-q = other-walk v i turn j h second q e l₂
 
     a-v : walkOf a (backOf toA) ≡ v .at
-    a-v = back-walk (v .at) a toA (low-normal (v .at) (i .normal)) v-a
+    a-v = back-walk (v .at) a toA (stride-turn _ _ _ _) (low-normal (v .at) (i .normal)) v-a
 
     b-v : walkOf b (backOf toB) ≡ v .at
-    b-v = back-walk (v .at) b toB (low-normal (v .at) (i .normal)) v-b
+    b-v = back-walk (v .at) b toB (stride-turn _ _ _ _) (low-normal (v .at) (i .normal)) v-b
 
     q-a : walkOf q (backOf fromA) ≡ a
-    q-a = back-walk a q fromA (normal-low _ _ _) a-q
+    q-a = back-walk a q fromA (stride-turn _ _ _ _) (normal-low _ _ _) a-q
 
     q-b : walkOf q (backOf fromB) ≡ b
-    q-b = back-walk b q fromB (normal-low _ _ _) b-q
+    q-b = back-walk b q fromB (stride-turn _ _ _ _) (normal-low _ _ _) b-q
 
     -- all three, by their strides
     pub round-told : (x y z : Placed) → Round t v j x y z → y .at ≡ q → holds t (v .at) ≡ true → (r : Fits)
         → FitsBy t (x .slot) (y .slot) (z .slot) toA toB fromA fromB r → ToldOf t (faceOn v j q) (x .slot) (y .slot) (z .slot) r
     round-told x y z w eq here r g =
         record {
-          adjacent = told (x .slot) (turned f) fromA (backOf toA) (backOf fromB) (r .adjacent) ea a-q a-v q-b (back-some fromB l₂)
+          adjacent = told (x .slot) (turned f) fromA (backOf toA) (backOf fromB) (r .adjacent) ea a-q a-v q-b (back-some fromB (stride-turn _ _ _ _) l₂)
               (λ k. let u = g .adjacent k in (held-slot b (z .slot) eb (u .0), u .1));
           opposite = told (y .slot) (turned (turned f)) (backOf fromB) (backOf fromA) (backOf toB) (r .opposite) (w .opposite ∙ ap (slotIn t) eq) q-b q-a b-v
-              (back-some toB (adjacent-some v i turn (nextPlace (v .d) j) hn))
+              (back-some toB (stride-turn _ _ _ _) (adjacent-some v i turn (nextPlace (v .d) j) hn))
               (λ k. (here, g .opposite k .1));
           next = told (z .slot) (turned (turned (turned f))) (backOf toB) fromB toA (r .next) eb b-v b-q v-a (adjacent-some v i turn j h)
               (λ k. let u = g .next k in (held-slot a (x .slot) ea (u .0), u .1));
@@ -244,6 +299,42 @@ module _ (t : List ℕ) (o : InOrder t) where
 
         held-slot : (p : Point) (s : ℕ) → s ≡ slotIn t p → ltb s (slotsOf t) ≡ true → holds t p ≡ true
         held-slot p s es g = holds-slot t (o .fits) p ∙ ap (λ (u : ℕ). ltb u (slotsOf t)) (sym es) ∙ g
+
+    -- the two beside the corner
+    pub both-told : (x y : ℕ) → x ≡ slotIn t a → y ≡ slotIn t b → (r r′ : ℕ) → (ltb y (slotsOf t) ≡ true) × FitIn t x fromA (backOf toA) (backOf fromB) r
+        → (ltb x (slotsOf t) ≡ true) × FitIn t y (backOf toB) fromB toA r′ → BothTold t v j q x y
+    both-told x y ea eb r r′ g g′ =
+        record {
+          near = after x f₁ fromA (backOf toA) (backOf fromB) r ea there-b a-q a-v q-b long (g .1);
+          before = near x f₁ fromA (backOf toA) (backOf fromB) r ea there-b a-q a-v q-b long (g .1);
+          after = after y f₃ (backOf toB) fromB toA r′ eb there-a b-v b-q v-a some (g′ .1);
+          adjacent = λ h. (
+            broad-first x f₁ fromA (backOf toA) (backOf fromB) r ea there-b a-q a-v q-b long (g .1) h,
+            broad-named x f₁ fromA (backOf toA) (backOf fromB) r ea there-b a-q a-v q-b long (g .1) h,
+          );
+          next = λ h. (
+            broad-last y f₃ (backOf toB) fromB toA r′ eb there-a b-v b-q v-a some (g′ .1) h,
+            broad-named y f₃ (backOf toB) fromB toA r′ eb there-a b-v b-q v-a some (g′ .1) h,
+          );
+        }
+      where
+        f₁ : Face
+        f₁ = turned (faceOn v j q)
+
+        f₃ : Face
+        f₃ = turned (turned (turned (faceOn v j q)))
+
+        there-a : holds t a ≡ true
+        there-a = holds-slot t (o .fits) a ∙ ap (λ (u : ℕ). ltb u (slotsOf t)) (sym ea) ∙ g′ .0
+
+        there-b : holds t b ≡ true
+        there-b = holds-slot t (o .fits) b ∙ ap (λ (u : ℕ). ltb u (slotsOf t)) (sym eb) ∙ g .0
+
+        long : 16 ≤ backOf fromB
+        long = back-some fromB (stride-turn _ _ _ _) l₂
+
+        some : 16 ≤ toA
+        some = adjacent-some v i turn j h
 
 -- ---- what is told of a face
 

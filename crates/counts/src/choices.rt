@@ -13,8 +13,7 @@ use lattice::second_of;
 
 // The opposite that a corner has: the first one if that is in the table, else the second if that is.
 pub enum Choice {
-    First(Placed),
-    Second(Placed),
+    Is(bool, Placed),
     Neither,
 }
 
@@ -27,7 +26,7 @@ fn kept(t: &[u8], s: Spot, n: usize) -> Choice
         Spot::At(p) => {
             let o = with_slot(t, p, n);
             if o.slot < n {
-                Choice::Second(o)
+                Choice::Is(true, o)
             } else {
                 Choice::Neither
             }
@@ -44,7 +43,7 @@ pub fn choose(t: &[u8], v: Record, j: u8, n: usize) -> Choice
 {
     let o = with_slot(t, first_of(v, j), n);
     if o.slot < n {
-        return Choice::First(o);
+        return Choice::Is(false, o);
     }
     kept(t, second_of(v, j), n)
 }

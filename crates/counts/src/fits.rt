@@ -1,7 +1,7 @@
 // What the other three vertices of a corner's face are known to have of it, by their strides alone.
 ghost use mathlib.Core.Path.{_≡_};
 ghost use mathlib.Core.Bool.{true};
-ghost use Prim.Native.Nat.{_≤_, _<_};
+ghost use Prim.Native.Nat.{_%_, _<_};
 ghost use Rattle.lattice.specs.declared.patterns.Spot.the-variants.{At};
 ghost use Rattle.lattice.specs.RecordLaws.{Inner};
 ghost use Rattle.table.specs.Slots.{slotsOf, slotAt};
@@ -30,10 +30,10 @@ pub struct Fits {
 }
 
 // The least stride.
-const LEAST: u8 = 12;
+const LEAST: u8 = 16;
 
 // What the record in slot s has by these strides, where the point across is in the table.
-fn fit_in(t: &[u8], s: usize, there: bool, x: u8, y: u8, z: u8, n: usize) -> u8
+pub fn fit_in(t: &[u8], s: usize, there: bool, x: u8, y: u8, z: u8, n: usize) -> u8
     requires { ⌜ InOrder (now t) × (n ≡ slotsOf (now t)) ⌝ }
     ensures { λ r. ⌜ FitThere (now (t .entry)) s there x y z r ⌝ }
 {
@@ -77,7 +77,7 @@ fn fits_by(
     n: usize,
 ) -> Fits
     requires { ⌜ InOrder (now t) × (n ≡ slotsOf (now t)) ⌝ }
-    requires { ⌜ ((va ≤ 240) × (vb ≤ 240)) × ((ao ≤ 240) × (bo ≤ 240)) ⌝ }
+    requires { ⌜ ((va % 16 < 12) × (vb % 16 < 12)) × ((ao % 16 < 12) × (bo % 16 < 12)) ⌝ }
     ensures { λ r. ⌜ FitsBy (now (t .entry)) a o b va vb ao bo r ⌝ }
 {
     let opposite = fit_in(t, o, true, back(bo), back(ao), back(vb), n);

@@ -1,8 +1,8 @@
-// Strides, the ways from a vertex to an adjacent point and from there to an opposite, each as one number: twelve times the level, from 1 on, and the
+// Strides, the ways from a vertex to an adjacent point and from there to an opposite, each as one number: sixteen times the level, from 1 on, and the
 // direction. Whether another vertex has a corner with the points of a face is then a comparison of small numbers: no point is worked out, none
 // searched for.
 ghost use mathlib.Core.Path.{_≡_};
-ghost use Prim.Native.Nat.{_≤_, _<_};
+ghost use Prim.Native.Nat.{_%_, _≤_, _<_};
 ghost use Rattle.lattice.specs.RecordLaws.{Inner};
 ghost use Rattle.counts.specs.Strides.{rowOf, adjacentRow, sideRow, otherRow, strideOf, backOf, Fit};
 use crate::faces::next_place;
@@ -24,7 +24,7 @@ fn row(d: u8, three: u64, four: u64, five: u64, six: u64) -> u64
 pub fn adjacents(d: u8) -> u64
     ensures { λ r. ⌜ r ≡ adjacentRow d ⌝ }
 {
-    row(d, 0x1440c, 0x85f40c, 0x217dd6cc, 0x59449038c)
+    row(d, 0x18510, 0xa67510, 0x299e58d0, 0x698594490)
 }
 
 // From the adjacent point of a corner to its first or second opposite.
@@ -32,9 +32,9 @@ pub fn sides(d: u8, second: bool) -> u64
     ensures { λ r. ⌜ r ≡ sideRow d second ⌝ }
 {
     if second {
-        row(d, 0xb1c3, 0xfe1fc3, 0x3f85f77f, 0x31651240e)
+        row(d, 0xb1c3, 0xfe9fc3, 0x3fa6797f, 0x41a616512)
     } else {
-        row(d, 0xc510, 0x8ee510, 0x23baca90, 0x66385f75b)
+        row(d, 0x10614, 0xafa614, 0x2beb8d94, 0x86ba67963)
     }
 }
 
@@ -43,43 +43,43 @@ pub fn others(d: u8, second: bool) -> u64
     ensures { λ r. ⌜ r ≡ otherRow d second ⌝ }
 {
     if second {
-        row(d, 0x9141, 0xfdffc1, 0x3f7dd6ff, 0x59449038c)
+        row(d, 0x9141, 0xfe7fc1, 0x3f9e58ff, 0x698594490)
     } else {
-        row(d, 0x1440c, 0x52a74c, 0x14aa8999, 0x85f75b663)
+        row(d, 0x18510, 0x636950, 0x18db4ca1, 0xa6796386b)
     }
 }
 
 // The stride at place j of a row, at orientation k and level n; 0 where there is none.
 pub fn stride(row: u64, j: u8, k: u8, n: u8) -> u8
     requires { ⌜ (j < 6) × ((k < 12) × (n ≤ 12)) ⌝ }
-    ensures { λ r. ⌜ (r ≡ strideOf row j k n) × (r ≤ 240) ⌝ }
+    ensures { λ r. ⌜ (r ≡ strideOf row j k n) × (r % 16 < 12) ⌝ }
 {
     let r = ((row >> (6 * j)) % 64) as u8;
     if r == 63 {
         return 0;
     }
-    12 * (n + r / 12) + (k + r % 12) % 12
+    16 * (n + r / 16) + (k + r % 16) % 12
 }
 
 // The same stride the other way.
 pub fn back(c: u8) -> u8
-    requires { ⌜ c ≤ 240 ⌝ }
+    requires { ⌜ c % 16 < 12 ⌝ }
     ensures { λ r. ⌜ r ≡ backOf c ⌝ }
 {
-    if c % 12 < 6 { c + 6 } else { c - 6 }
+    if c % 16 < 6 { c + 6 } else { c - 6 }
 }
 
 // A direction that has gone round once at most.
 fn round(e: u8) -> u8
-    requires { ⌜ e < 24 ⌝ }
-    ensures { λ r. ⌜ r < 12 ⌝ }
+    requires { ⌜ e < 28 ⌝ }
+    ensures { λ r. ⌜ r < 16 ⌝ }
 {
     if e < 12 { e } else { e - 12 }
 }
 
 // The place of a star of degree d that has a direction at orientation 0, if one has: it only guides the search for a stride.
 fn place_near(d: u8, e: u8) -> u8
-    requires { ⌜ e < 12 ⌝ }
+    requires { ⌜ e < 16 ⌝ }
 {
     let places = row(
         d,
@@ -96,7 +96,7 @@ fn place_of(row: u64, d: u8, k: u8, n: u8, c: u8) -> u8
     requires { ⌜ (d ≤ 6) × ((k < 12) × (n ≤ 12)) ⌝ }
     ensures { λ r. ⌜ (r ≤ d) × (r < d → strideOf row r k n ≡ c) ⌝ }
 {
-    let i = place_near(d, round(c % 12 + 12 - k));
+    let i = place_near(d, round(c % 16 + 12 - k));
     if d <= i {
         return d;
     }

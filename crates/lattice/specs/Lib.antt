@@ -5,6 +5,8 @@ pub mod Patterns
 pub mod Stars
 pub mod AnswerRows
 pub mod Rows
+pub mod Terms
+pub mod Arms
 pub mod Subdivision
 pub mod Ranks
 pub mod Examples
@@ -16,5 +18,6 @@ pub mod PatternLaws
 pub mod RowLaws
 pub mod StarLaws
 pub mod AnswerRowLaws
+pub mod ArmLaws
 pub mod Places
 pub mod RankBounds

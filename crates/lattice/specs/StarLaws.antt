@@ -1,6 +1,8 @@
--- The star call's three cases: `star-invalid`, `star-boundary`, `star-inner` · `step-asked`, `step-given` a step, asked of the numbers of two points.
+-- The star call's three cases: `star-invalid`, `star-boundary`, `star-inner` · `step-asked`, `step-given` a step, asked of the numbers of two points,
+-- `arm-given` the same before it is added up.
 -- Assumes nothing.
 use mathlib.Core.Path.{_≡_, sym, _∙_, ap, subst}
+use Prim.Native.Nat.{ℕ, _+_, _/_}
 use native.Mathlib.Omega.{arith}
 use mathlib.Core.Bool.{Bool, true, false, cond}
 use lib.Dec.{eqb}
@@ -11,7 +13,8 @@ use mir.Facts.{toZ-ofZ}
 use Rattle.laws.specs.Sizes.{fits}
 use Rattle.lattice.specs.Bounds.{Small, Near, small-a, small-b}
 use Rattle.lattice.specs.Points.{pt}
-use Rattle.lattice.specs.Stars.{stepOf, refused, given, starOf}
+use Rattle.lattice.specs.Stars.{scaleOf, stepOf, refused, given, starOf}
+use Rattle.lattice.specs.Terms.{termsOf}
 use Rattle.lattice.specs.Records.{validOf}
 use Rattle.lattice.specs.declared.points.Point.{Point}
 use Rattle.lattice.specs.declared.records.Level.{Level}
@@ -40,6 +43,12 @@ module _ (v : Point) (n : Level) (p : Point) (s : Small v) (k : Near n p) where
       stepOf (pt (toZ w32 (ofZ w32 (v .a))) (toZ w32 (ofZ w32 (v .b))) (v .m .0)) n (pt (toZ w32 (ofZ w32 (p .a))) (toZ w32 (ofZ w32 (p .b))) (p .m .0))
       ≡ stepOf v n p
   step-given = λ i. stepOf (pt (va i) (vb i) (v .m .0)) n (pt (pa i) (pb i) (p .m .0))
+
+  pub arm-given :
+      (m : ℕ) → m ≡ p .m .0 + n .0 / 2
+      → termsOf (pt (toZ w32 (ofZ w32 (v .a))) (toZ w32 (ofZ w32 (v .b))) (v .m .0)) (pt (toZ w32 (ofZ w32 (p .a))) (toZ w32 (ofZ w32 (p .b))) m)
+      ≡ termsOf v (scaleOf n p)
+  arm-given m e = λ i. termsOf (pt (va i) (vb i) (v .m .0)) (pt (pa i) (pb i) (e i))
 
 pub star-invalid : (r : Record) → validOf r ≡ false → refused 9 ≡ starOf r
 unfolding starOf

@@ -4,6 +4,7 @@
 // Two public calls answer every input: `normalise` and `star`. The other functions serve the proved floors above and ask for bounds.
 // The promises cite specs/: Points, Records, Patterns, Stars, Subdivision, and Ranks for the model of grown meshes; what is asked of bounds is in Bounds
 // and RecordLaws.
+mod arms;
 mod numbers;
 mod patterns;
 mod points;
@@ -13,6 +14,9 @@ mod rows;
 mod stars;
 mod updates;
 
+pub use arms::first_arm;
+pub use arms::next_arm;
+pub use arms::regular;
 pub use numbers::AT_THE_RIM;
 pub use numbers::BAD_FINDING;
 pub use numbers::BAD_LIST;
@@ -32,6 +36,8 @@ pub use numbers::TORN;
 pub use patterns::Spot;
 pub use points::Depth;
 pub use points::Point;
+pub use points::Terms;
+pub use points::added;
 pub use points::normalise;
 pub use points::turn60;
 pub use ranks::birth;

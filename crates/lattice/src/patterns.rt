@@ -1,7 +1,7 @@
 // The star patterns, a constant table for each degree, and their turns: document 01, "The twelve directions". Orientations 0 and 1 are kept, in bytes;
 // the others are these, turned by 60 degrees when asked.
 ghost use mathlib.Core.Path.{_≡_};
-ghost use Prim.Native.Nat.{_%_, _/_, _≤_, _<_};
+ghost use Prim.Native.Nat.{_+_, _%_, _/_, _≤_, _<_};
 ghost use Rattle.lattice.specs.Points.{turn60Of, turns};
 ghost use Rattle.lattice.specs.Patterns.{patternOf, adjacentOf, firstOppositeOf, secondOppositeOf};
 ghost use Rattle.lattice.specs.Bounds.{Hex};
@@ -198,6 +198,25 @@ pub fn adjacent(d: u8, k: u8, j: u8) -> Point
     ensures { λ r. ⌜ r ≡ adjacentOf d k j ⌝ }
 {
     let r = pattern(d, k, j);
+    point(turned(P(r.0, r.1, r.2), k))
+}
+
+// The first row of the last table, at orientation 1 where k is odd, else at orientation 0.
+fn first_place(k: u8) -> Place
+    ensures { λ r. ⌜ r ≡ tableRow (firstRow 6 + k % 2) ⌝ }
+{
+    let rows = SIX;
+    if k % 2 == 0 {
+        return rows[0];
+    }
+    rows[1]
+}
+
+// The adjacent point at place 0 of orientation k, which is the same at each degree.
+pub fn foremost(k: u8) -> Point
+    ensures { λ r. ⌜ r ≡ adjacentOf 6 k 0 ⌝ }
+{
+    let r = first_place(k);
     point(turned(P(r.0, r.1, r.2), k))
 }
 

@@ -2,8 +2,9 @@
 ghost use mathlib.Core.Path.{_≡_};
 ghost use mathlib.Core.Bool.{_&&_};
 ghost use Prim.Native.Nat.{_+_, _*_, _^_, _≤_, _<_, max};
-ghost use lib.IntN.{natAbs, _+ℤ_, _*ℤ_, pos};
+ghost use lib.IntN.{natAbs, _*ℤ_, pos};
 ghost use Rattle.lattice.specs.Points.{pt, by3, normalOf, turn60Of, sumOf};
+ghost use Rattle.lattice.specs.Terms.{termsOf, addedOf, Light};
 ghost use Rattle.lattice.specs.Bounds.{Small};
 
 // How often the denominator holds the factor 3. It belongs to a point and never changes.
@@ -87,12 +88,45 @@ fn deeper(m: u8, n: u8) -> u8
     if m < n { n } else { m }
 }
 
-// x times s, and y times t, together.
-fn mix(x: i32, s: i32, y: i32, t: i32) -> i32
-    requires { ⌜ natAbs x * natAbs s + natAbs y * natAbs t < 2147483648 ⌝ }
-    ensures { λ r. ⌜ r ≡ x *ℤ s +ℤ y *ℤ t ⌝ }
+// Two points over one denominator, to be added: [a, b, m] and [x, y, m].
+pub struct Terms {
+    pub a: i32,
+    pub b: i32,
+    pub x: i32,
+    pub y: i32,
+    pub m: Depth,
+}
+
+fn times(x: i32, s: i32) -> i32
+    requires { ⌜ natAbs x * natAbs s < 2147483648 ⌝ }
+    ensures { λ r. ⌜ r ≡ x *ℤ s ⌝ }
 {
-    x * s + y * t
+    x * s
+}
+
+// Two points by their numbers, over the deeper one's denominator.
+pub fn brought(a: i32, b: i32, m: u8, x: i32, y: i32, n: u8) -> Terms
+    requires { ⌜ Small (pt a b m) × Small (pt x y n) ⌝ }
+    ensures { λ r. ⌜ r ≡ termsOf (pt a b m) (pt x y n) ⌝ }
+{
+    let d = deeper(m, n);
+    let s = power(d - m);
+    let t = power(d - n);
+    Terms {
+        a: times(a, s),
+        b: times(b, s),
+        x: times(x, t),
+        y: times(y, t),
+        m: Depth(d),
+    }
+}
+
+// Their sum, normalised.
+pub fn added(w: Terms) -> Point
+    requires { ⌜ Light w ⌝ }
+    ensures { λ r. ⌜ r ≡ addedOf w ⌝ }
+{
+    normalise(w.a + w.x, w.b + w.y, w.m.0)
 }
 
 // The sum of two points by their numbers, normalised.
@@ -100,10 +134,5 @@ pub fn sum(a: i32, b: i32, m: u8, x: i32, y: i32, n: u8) -> Point
     requires { ⌜ Small (pt a b m) × Small (pt x y n) ⌝ }
     ensures { λ r. ⌜ r ≡ sumOf (pt a b m) (pt x y n) ⌝ }
 {
-    let d = deeper(m, n);
-    let s = power(d - m);
-    let t = power(d - n);
-    let across = mix(a, s, x, t);
-    let up = mix(b, s, y, t);
-    normalise(across, up, d)
+    added(brought(a, b, m, x, y, n))
 }

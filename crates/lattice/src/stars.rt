@@ -1,11 +1,17 @@
 // The star of a record: its adjacent points and the opposites of its corners, without any mesh.
 ghost use mathlib.Core.Path.{_≡_};
 ghost use Prim.Native.Nat.{_+_, _/_, _<_};
+ghost use mathlib.Core.Bool.{true};
+ghost use Rattle.lattice.specs.AnswerRowLaws.{sixNumbers};
 ghost use Rattle.lattice.specs.AnswerRows.{answerNumbers};
+ghost use Rattle.lattice.specs.Arms.{regularOf};
 ghost use Rattle.lattice.specs.Points.{pt};
-ghost use Rattle.lattice.specs.Stars.{given, stepOf, adjacentAt, firstAt, secondAt, starOf};
+ghost use Rattle.lattice.specs.Stars.{given, stepOf, adjacentAt, firstAt, secondAt, starOf, nowhere};
 ghost use Rattle.lattice.specs.Bounds.{Small, Near};
 ghost use Rattle.lattice.specs.RecordLaws.{Inner};
+use crate::arms::first_arm;
+use crate::arms::next_arm;
+use crate::arms::regular;
 use crate::numbers::BOUNDARY;
 use crate::numbers::DONE;
 use crate::numbers::NOT_VALID;
@@ -15,6 +21,7 @@ use crate::patterns::first_opposite;
 use crate::patterns::second_opposite;
 use crate::points::Depth;
 use crate::points::Point;
+use crate::points::added;
 use crate::points::sum;
 use crate::records::Level;
 use crate::records::Record;
@@ -31,7 +38,7 @@ pub struct Answer {
 }
 
 // A pattern point's depth at a star's level: up by half the level, rounded down. No depth can stand in the level's place.
-fn scaled(n: Level, q: Depth) -> Depth
+pub fn scaled(n: Level, q: Depth) -> Depth
     requires { ⌜ q .0 + n .0 < 256 ⌝ }
     ensures { λ r. ⌜ r .0 ≡ q .0 + n .0 / 2 ⌝ }
 {
@@ -90,14 +97,30 @@ pub fn second_of(r: Record, j: u8) -> Spot
     }
 }
 
-// The whole star of a record, in a lent row: its count and its adjacent points in star order, zeros past the last.
-pub fn ring(out: &mut [i32; ANSWER_NUMBERS], v: Record)
+// Puts the adjacent points of a regular star.
+fn put_regular(out: &mut [i32; ANSWER_NUMBERS], v: Record)
     requires { ⌜ Inner v ⌝ }
+    requires { ⌜ regularOf (v .d) ≡ true ⌝ }
+    requires { ⌜ now out ≡ sixNumbers (v .d) (λ i. nowhere) ⌝ }
     ensures { λ _. ⌜ now (out .exit) ≡ answerNumbers (given v) ⌝ }
 {
     let d = v.d;
-    *out = [0; ANSWER_NUMBERS];
-    out[0] = d as i32;
+    let mut w = first_arm(v);
+    let mut j: u8 = 0;
+    while j < d {
+        put_point(out, 3 * (j as usize) + 1, added(w));
+        w = next_arm(w, v.d);
+        j += 1;
+    }
+}
+
+// Puts the adjacent points of any star.
+fn put_each(out: &mut [i32; ANSWER_NUMBERS], v: Record)
+    requires { ⌜ Inner v ⌝ }
+    requires { ⌜ now out ≡ sixNumbers (v .d) (λ i. nowhere) ⌝ }
+    ensures { λ _. ⌜ now (out .exit) ≡ answerNumbers (given v) ⌝ }
+{
+    let d = v.d;
     let mut j = 0;
     while j < d {
         let at = v.at;
@@ -111,6 +134,21 @@ pub fn ring(out: &mut [i32; ANSWER_NUMBERS], v: Record)
             step(at.a, at.b, m, n, p.a, p.b, q),
         );
         j += 1;
+    }
+}
+
+// The whole star of a record, in a lent row: its count and its adjacent points in star order, zeros past the last.
+pub fn ring(out: &mut [i32; ANSWER_NUMBERS], v: Record)
+    requires { ⌜ Inner v ⌝ }
+    ensures { λ _. ⌜ now (out .exit) ≡ answerNumbers (given v) ⌝ }
+{
+    let d = v.d;
+    *out = [0; ANSWER_NUMBERS];
+    out[0] = d as i32;
+    if regular(d) {
+        put_regular(out, v);
+    } else {
+        put_each(out, v);
     }
 }
 

@@ -1,16 +1,17 @@
 -- Which points have parents, and what valid records have.
--- `valid-depth`, `valid-small`, `valid-born` · `rank-deep`, `rank-centre` ranks by depth · `parent-corner` the parents of a centre are corners of it
--- · `turn-even` the directions to hexagons.
+-- `valid-depth`, `valid-small`, `valid-born` · `small-size` · `rank-least`, `rank-deep`, `rank-centre` ranks by depth · `parent-corner` the parents of a
+-- centre are corners of it · `turn-even` the directions to hexagons.
 -- Assumes nothing.
-use mathlib.Core.Path.{_≡_, refl, _∙_, ap}
+use mathlib.Core.Path.{_≡_, refl, _∙_, ap, subst}
 use mathlib.Core.Bool.{Bool, true, false, cond, _&&_}
 use Prim.Native.Nat.{ℕ, _+_, _*_, _-_, _%_, _^_, _≤_, _<_}
 use native.Mathlib.Omega.{arith}
-use lib.Dec.{eqb, leb, lit<}
+use lib.Dec.{eqb, leb, lit≤, lit<}
+use native.Mathlib.Nat.{mul-one}
 use lib.IntN.{natAbs}
 use borrow.Author.Tests.{eq-eqb, ne-eqb, leb-true}
 use Rattle.laws.specs.Each.{both-left, both-right}
-use Rattle.lattice.specs.Bounds.{Small, small-range}
+use Rattle.lattice.specs.Bounds.{Small, small-range, small-wide, small-high}
 use Rattle.lattice.specs.Points.{isNormal, classOf}
 use Rattle.lattice.specs.Ranks.{rankOf, birthOf, moveOf, parentOf}
 use Rattle.lattice.specs.Records.{within, suitsOf, validOf}
@@ -46,14 +47,26 @@ module _ (r : Record) (h : validOf r ≡ true) where
   pub valid-born : 0 < rankOf (r .at) → Born (r .at)
   valid-born l = record { small = valid-small; depth = valid-depth; rank = l }
 
--- ---- ranks by depth
-pub rank-deep : (p : Point) → 0 < p .m .0 → 1 < rankOf p
-unfolding rankOf
-rank-deep p h = let n : p .m .0 ≡ 0 → ⊥ = λ e. omega arith in simp (ne-eqb (p .m .0) 0 n) (go (eqb (classOf p) 0))
+-- the numerators of a point that can be stepped from
+pub small-size : (p : Point) → Small p → (natAbs (p .a) ≤ 1000000000) × (natAbs (p .b) ≤ 1000000000)
+small-size p s = (plain (natAbs (p .a)) (small-wide p 0 (lit≤ tt) s), plain (natAbs (p .b)) (small-high p 0 (lit≤ tt) s))
   where
-    go : (b : Bool) → 1 < cond b (2 * p .m .0) (2 * p .m .0 + 1)
+    plain : (n : ℕ) → n * 3 ^ (0 - p .m .0) ≤ 1000000000 → n ≤ 1000000000
+    plain n h =
+        let z : 0 - p .m .0 ≡ 0 = omega arith in
+        subst (λ (k : ℕ). k ≤ 1000000000) (ap (λ (k : ℕ). n * 3 ^ k) z ∙ mul-one n) h
+
+-- ---- ranks by depth
+pub rank-least : (p : Point) → 0 < p .m .0 → 2 * p .m .0 ≤ rankOf p
+unfolding rankOf
+rank-least p h = let n : p .m .0 ≡ 0 → ⊥ = λ e. omega arith in simp (ne-eqb (p .m .0) 0 n) (go (eqb (classOf p) 0))
+  where
+    go : (b : Bool) → 2 * p .m .0 ≤ cond b (2 * p .m .0) (2 * p .m .0 + 1)
     go true = omega arith
     go false = omega arith
+
+pub rank-deep : (p : Point) → 0 < p .m .0 → 1 < rankOf p
+rank-deep p h = omega (arith, rank-least p h)
 
 module _ (p : Point) (m : p .m .0 ≡ 0) (c : classOf p ≡ 0) where
   pub rank-centre : rankOf p ≡ 1

@@ -4,5 +4,6 @@ pub mod Parents
 pub mod ParentLaws
 pub mod Places
 pub mod BornLaws
+pub mod Steps
 pub mod PlaceLaws
 pub mod Slots

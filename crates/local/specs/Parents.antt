@@ -1,10 +1,10 @@
 -- The parents of a point as the code has them: each looked up once, for all the tests that ask them.
--- `Born` a point that has parents, `Shallow` the ranks of parents can be taken · `seenAt`, `parentsOf` what the table holds there · `allThere`,
--- `creatorOver`, `toldIn` what the tests ask of them, which are growth's own (specs/ParentLaws) · `splitsIn` which of them were subdivided, as a
--- number · `sameStar`.
+-- `Born` a point that has parents · `standOf` what the table holds at one, as a number, `parentsOf` at all three · `allThere`, `creatorOver`, `toldIn`
+-- what the tests ask of them, which are growth's own (specs/ParentLaws) · `splitsIn` which of them were subdivided, as a number, `degrees`, `turns`
+-- what follows from it · `sameStar`.
 -- Assumes nothing.
 use mathlib.Core.Bool.{Bool, cond, _&&_}
-use mathlib.Core.List.{List}
+use mathlib.Core.List.{List, [], _∷_}
 use Prim.Native.Nat.{ℕ, _+_, _*_, _-_, _≤_, _<_}
 use lib.Dec.{eqb, ltb}
 use Rattle.lattice.specs.Bounds.{Small}
@@ -12,11 +12,10 @@ use Rattle.lattice.specs.Ranks.{rankOf, birthOf, parentOf}
 use Rattle.lattice.specs.declared.points.Point.{Point}
 use Rattle.lattice.specs.declared.records.Record.{Record}
 use Rattle.growth.specs.Model.{bySplits}
-use Rattle.growth.specs.Local.{isThere, isOver}
 use Rattle.table.specs.Entries.{lookUp}
-use Rattle.local.specs.Sheet.{asOption}
+use Rattle.table.specs.declared.entries.Looked.{Looked}
+use Rattle.table.specs.declared.entries.Looked.the-variants.{Absent, Held}
 use Rattle.local.specs.Rings.{one}
-use Rattle.local.specs.declared.parents.Seen.{Seen}
 use Rattle.local.specs.declared.parents.Parents.{Parents}
 
 -- a point that has parents
@@ -25,34 +24,39 @@ pub record Born (p : Point) : Type 0 where
   pub depth : p .m .0 ≤ 6
   pub rank : 0 < rankOf p
 
-pub record Shallow (s : Parents) : Type 0 where
-  pub first : s .first .at .m .0 ≤ 7
-  pub second : s .second .at .m .0 ≤ 7
+-- what was looked up, as a number: 0 nothing, n + 2 a record of degree 6 and level n, else 1
+abbrev pub standOf : Looked → ℕ
+standOf Absent = 0
+standOf (Held u) = cond (eqb (u .d) 6) (u .n .0 + 2) 1
 
-abbrev pub seenAt : List ℕ → Point → Seen
-seenAt t p = record { at = p; held = lookUp t p }
+abbrev pub standAt : List ℕ → Point → ℕ
+standAt t p = standOf (lookUp t p)
 
-abbrev pub parentAt : List ℕ → Point → ℕ → Seen
-parentAt t p j = seenAt t (parentOf p j)
+abbrev pub parentAt : List ℕ → Point → ℕ → ℕ
+parentAt t p j = standAt t (parentOf p j)
 
 abbrev pub parentsOf : List ℕ → Point → Parents
 parentsOf t p = record { first = parentAt t p 0; second = parentAt t p 1; third = parentAt t p 2 }
 
-abbrev pub seen : Seen → Bool
-seen s = isThere (asOption (s .held))
+-- it is there
+abbrev pub seen : ℕ → Bool
+seen s = ltb 0 s
 
-abbrev pub split : ℕ → Seen → Bool
-split b s = isOver b (asOption (s .held))
+-- it was subdivided at level b
+abbrev pub split : ℕ → ℕ → Bool
+split b s = ltb (b + 2) s
 
--- all three are there
 abbrev pub allThere : Parents → Bool
 allThere s = (seen (s .first) && seen (s .second)) && seen (s .third)
 
+abbrev pub allSplit : Parents → ℕ → Bool
+allSplit s b = (split b (s .first) && split b (s .second)) && split b (s .third)
+
 -- the creator: the first parent that could be subdivided a level earlier still
-unfoldable pub creatorIn : Point → Parents → Seen
+unfoldable pub creatorIn : Point → Parents → ℕ
 creatorIn p s =
-    cond (ltb (rankOf (s .first .at)) (rankOf p - 1)) (s .first)
-    (cond (ltb (rankOf (s .second .at)) (rankOf p - 1)) (s .second)
+    cond (ltb (rankOf (parentOf p 0)) (rankOf p - 1)) (s .first)
+    (cond (ltb (rankOf (parentOf p 1)) (rankOf p - 1)) (s .second)
     (s .third))
 
 abbrev pub creatorOver : Point → Parents → Bool
@@ -61,6 +65,13 @@ creatorOver p s = split (rankOf p - 2) (creatorIn p s)
 -- which of them were subdivided at level b: the first counts 1, the second 2, the third 4
 abbrev pub splitsIn : Parents → ℕ → ℕ
 splitsIn s b = one (split b (s .first)) + 2 * one (split b (s .second)) + 4 * one (split b (s .third))
+
+-- by that number, where not all were: the degree, and the turn since birth
+abbrev pub degrees : List ℕ
+degrees = 3 ∷ 4 ∷ 4 ∷ 5 ∷ 4 ∷ 5 ∷ 5 ∷ 6 ∷ []
+
+abbrev pub turns : List ℕ
+turns = 0 ∷ 4 ∷ 8 ∷ 8 ∷ 0 ∷ 4 ∷ 0 ∷ 0 ∷ []
 
 -- the record has this degree, orientation and level
 abbrev pub sameStar : Record → ℕ → ℕ → ℕ → Bool

@@ -12,7 +12,7 @@ use lib.Dec.{eqb}
 use borrow.Author.Tests.{eq-eqb, ne-eqb, le-leb, lt-leb}
 use Rattle.laws.specs.Rules.{upto}
 use Rattle.lattice.specs.Points.{classOf}
-use Rattle.lattice.specs.Ranks.{rankOf, moveOf}
+use Rattle.lattice.specs.Ranks.{rankOf, moveOf, parentOf}
 use Rattle.lattice.specs.Stars.{adjacentAt}
 use Rattle.lattice.specs.declared.points.Point.{Point}
 use Rattle.lattice.specs.declared.records.Record.{Record}
@@ -22,7 +22,7 @@ use Rattle.local.specs.Sheet.{sheetOf}
 use Rattle.local.specs.Rings.{ringOf, ring-all, ringed, ring-corner}
 use Rattle.local.specs.Parents.{parentsOf, allThere, creatorOver, toldIn}
 use Rattle.local.specs.BornLaws.{rank-deep, rank-centre, parent-corner}
-use Rattle.local.specs.ParentLaws.{parents-there, parents-creator, parents-star}
+use Rattle.local.specs.ParentLaws.{seen-there, parents-there, parents-creator, parents-star}
 use Rattle.local.specs.declared.parents.Parents.{Parents}
 use Rattle.local.specs.Places.{starred, placeTest, turnOf}
 
@@ -63,10 +63,11 @@ module _ (t : List ℕ) (r : Record) where
   deep-boundary d = simp (eq-eqb (r .d) 0 d)
 
   corners : r .at .m .0 ≡ 0 → classOf (r .at) ≡ 0 → allThere s && eqb (ringOf R p 2) 3 ≡ upto 6 (λ j. there R (moveOf p (2 * j) 0))
-  unfolding there
   corners m c =
-      (λ i. ((there R (parent-corner p m c 0 i) && there R (parent-corner p m c 1 i)) && there R (parent-corner p m c 2 i))
+      (λ i. ((seen-there t (parentOf p 0) i && seen-there t (parentOf p 1) i) && seen-there t (parentOf p 2) i)
       && ring-all (there R (moveOf p 2 0)) (there R (moveOf p 6 0)) (there R (moveOf p 10 0)) i)
+      ∙ (λ i. ((there R (parent-corner p m c 0 i) && there R (parent-corner p m c 1 i)) && there R (parent-corner p m c 2 i))
+      && (there R (moveOf p 2 0) && (there R (moveOf p 6 0) && there R (moveOf p 10 0))))
       ∙ sym (six-apart (there R (moveOf p 0 0)) (there R (moveOf p 2 0)) (there R (moveOf p 4 0))
       (there R (moveOf p 6 0)) (there R (moveOf p 8 0)) (there R (moveOf p 10 0)))
 

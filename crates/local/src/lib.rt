@@ -6,5 +6,7 @@ mod checks;
 mod lookups;
 mod parents;
 mod places;
+mod steps;
+mod told;
 
 pub use checks::all_pass;

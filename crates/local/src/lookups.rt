@@ -1,41 +1,22 @@
-// What looking points up tells: whether they are there, and whether they were subdivided.
+// Whether points are there.
 ghost use mathlib.Core.Path.{_≡_};
 ghost use Prim.Native.Nat.{_%_, _≤_, _<_};
 ghost use Rattle.laws.specs.Rules.{upto};
 ghost use Rattle.lattice.specs.Bounds.{Small};
 ghost use Rattle.lattice.specs.RecordLaws.{Inner};
 ghost use Rattle.lattice.specs.Stars.{adjacentAt};
-ghost use Rattle.growth.specs.Local.{isThere, isOver, there};
+ghost use Rattle.growth.specs.Local.{there};
 ghost use Rattle.table.specs.Slots.{Table};
-ghost use Rattle.local.specs.Sheet.{asOption, sheetOf};
+ghost use Rattle.local.specs.Sheet.{sheetOf};
 ghost use Rattle.local.specs.Rings.{one, ringOf};
+use lattice::ANSWER_NUMBERS;
 use lattice::Level;
 use lattice::Point;
 use lattice::Record;
-use lattice::adjacent_of;
 use lattice::moved;
-use table::Looked;
+use lattice::point_at;
+use lattice::ring;
 use table::is_there;
-
-// A record was found.
-pub fn is_held(l: Looked) -> bool
-    ensures { λ r. ⌜ r ≡ isThere (asOption l) ⌝ }
-{
-    match l {
-        Looked::Absent => false,
-        Looked::Held(_) => true,
-    }
-}
-
-// A record of degree 6 and a level above b was found: it was subdivided at level b.
-pub fn is_over(l: Looked, b: u8) -> bool
-    ensures { λ r. ⌜ r ≡ isOver b (asOption l) ⌝ }
-{
-    match l {
-        Looked::Absent => false,
-        Looked::Held(u) => (u.d == 6) & (b < u.n.0),
-    }
-}
 
 // 1 for true, 0 for false.
 pub fn bit(b: bool) -> u8
@@ -62,9 +43,11 @@ pub fn adjacents_there(t: &[u8], r: Record, n: usize) -> bool
     requires { ⌜ Inner r × (r .d ≡ 6) ⌝ }
     ensures { λ v. ⌜ v ≡ upto 6 (λ j. there (sheetOf (now (t .entry))) (adjacentAt r j)) ⌝ }
 {
+    let mut row = [0; ANSWER_NUMBERS];
+    ring(&mut row, r);
     let mut j: u8 = 0;
     while j < 6 {
-        if is_there(t, adjacent_of(r, j), n) {
+        if is_there(t, point_at(&row, r, j), n) {
             j += 1;
         } else {
             return false;

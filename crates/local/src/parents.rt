@@ -1,42 +1,44 @@
-// The three parents of a point, each looked up once, and what they say of it.
+// The three parents of a point, each looked up once and kept as a number.
 ghost use mathlib.Core.Path.{_≡_};
 ghost use Prim.Native.Nat.{_≤_, _<_};
+ghost use lib.IntN.{natAbs};
 ghost use Rattle.lattice.specs.Ranks.{rankOf};
 ghost use Rattle.table.specs.Slots.{Table};
-ghost use Rattle.local.specs.Parents.{Born, Shallow, parentAt, parentsOf, seen, split, allThere, creatorIn, creatorOver, splitsIn, sameStar, toldIn};
+ghost use Rattle.local.specs.Steps.{stepEnd};
+ghost use Rattle.local.specs.Parents.{Born, standOf, standAt, parentAt, parentsOf, seen, split, allThere, allSplit, creatorIn, creatorOver, splitsIn};
 use crate::lookups::bit;
-use crate::lookups::is_held;
-use crate::lookups::is_over;
+use crate::steps::stepped;
 use lattice::Point;
-use lattice::Record;
 use lattice::birth;
 use lattice::parent;
 use lattice::rank;
 use table::Looked;
 use table::look_up;
 
-// A point that was looked up, and what the table holds there.
-pub struct Seen {
-    pub at: Point,
-    pub held: Looked,
+// The parents of a point, in their order: 0 where none is there, n + 2 where it has degree 6 and level n, else 1.
+pub struct Parents {
+    pub first: u32,
+    pub second: u32,
+    pub third: u32,
 }
 
-// The parents of a point, in their order.
-pub struct Parents {
-    pub first: Seen,
-    pub second: Seen,
-    pub third: Seen,
+// What was looked up, as such a number.
+fn stand(l: Looked) -> u32
+    ensures { λ r. ⌜ r ≡ standOf l ⌝ }
+{
+    match l {
+        Looked::Absent => 0,
+        Looked::Held(u) => { if u.d == 6 { (u.n.0 as u32) + 2 } else { 1 } }
+    }
 }
 
 // Parent j of p.
-fn parent_of(t: &[u8], p: Point, j: u8, n: usize) -> Seen
+fn parent_of(t: &[u8], p: Point, j: u8, n: usize) -> u32
     requires { ⌜ Table (now t) n ⌝ }
     requires { ⌜ Born p × (j < 3) ⌝ }
     ensures { λ r. ⌜ r ≡ parentAt (now (t .entry)) p j ⌝ }
 {
-    let at = parent(p, j);
-    let held = look_up(t, at, n);
-    Seen { at, held }
+    stand(look_up(t, parent(p, j), n))
 }
 
 // All three, three lookups.
@@ -55,20 +57,46 @@ pub fn parents_of(t: &[u8], p: Point, n: usize) -> Parents
     }
 }
 
+// What the step from [a, b, m] in direction e ends at.
+fn deep_parent(t: &[u8], a: i32, b: i32, m: u8, e: u8, n: usize) -> u32
+    requires { ⌜ Table (now t) n ⌝ }
+    requires { ⌜ (natAbs a ≤ 1000000000) × (natAbs b ≤ 1000000000) ⌝ }
+    requires { ⌜ (0 < m) × (e < 12) ⌝ }
+    ensures { λ r. ⌜ r ≡ standAt (now (t .entry)) (stepEnd a b m e) ⌝ }
+{
+    stand(look_up(t, stepped(a, b, m, e), n))
+}
+
+// The parents of a point of depth above 0: it has its steps to them at its own depth.
+pub fn deep_parents(t: &[u8], p: Point, n: usize) -> Parents
+    requires { ⌜ Table (now t) n ⌝ }
+    requires { ⌜ Born p × (0 < p .m .0) ⌝ }
+    ensures { λ r. ⌜ r ≡ parentsOf (now (t .entry)) p ⌝ }
+{
+    let e = birth(p);
+    let m = p.m.0;
+    let first = deep_parent(t, p.a, p.b, m, e, n);
+    let second = deep_parent(t, p.a, p.b, m, e + 4, n);
+    let third = deep_parent(t, p.a, p.b, m, e + 8, n);
+    Parents {
+        first,
+        second,
+        third,
+    }
+}
+
 // It is there.
-fn is_seen(s: Seen) -> bool
+fn is_seen(s: u32) -> bool
     ensures { λ r. ⌜ r ≡ seen s ⌝ }
 {
-    let l = s.held;
-    is_held(l)
+    0 < s
 }
 
 // It was subdivided at level b.
-fn is_split(s: Seen, b: u8) -> bool
+fn is_split(s: u32, b: u8) -> bool
     ensures { λ r. ⌜ r ≡ split b s ⌝ }
 {
-    let l = s.held;
-    is_over(l, b)
+    (b as u32) + 2 < s
 }
 
 // All three are there.
@@ -78,64 +106,43 @@ pub fn all_there(s: Parents) -> bool
     is_seen(s.first) & is_seen(s.second) & is_seen(s.third)
 }
 
+// All three were subdivided at level b.
+fn all_split(s: Parents, b: u8) -> bool
+    ensures { λ r. ⌜ r ≡ allSplit s b ⌝ }
+{
+    is_split(s.first, b) & is_split(s.second, b) & is_split(s.third, b)
+}
+
 // The creator of p: the first parent that could be subdivided a level earlier still.
-fn creator_in(p: Point, s: Parents) -> Seen
-    requires { ⌜ (p .m .0 ≤ 6) × ((0 < rankOf p) × Shallow s) ⌝ }
+fn creator_in(p: Point, s: Parents) -> u32
+    requires { ⌜ Born p ⌝ }
     ensures { λ r. ⌜ r ≡ creatorIn p s ⌝ }
 {
     let b = rank(p).0 - 1;
-    let first = s.first;
-    if rank(first.at).0 < b {
-        return first;
+    if rank(parent(p, 0)).0 < b {
+        return s.first;
     }
-    let second = s.second;
-    if rank(second.at).0 < b {
-        return second;
+    if rank(parent(p, 1)).0 < b {
+        return s.second;
     }
     s.third
 }
 
-// The creator of p was subdivided at the level that enters p.
+// The creator of p was subdivided at the level that enters p. Mostly all three were, and which it is need not be known.
 pub fn creator_over(p: Point, s: Parents) -> bool
-    requires { ⌜ (p .m .0 ≤ 6) × ((1 < rankOf p) × Shallow s) ⌝ }
+    requires { ⌜ Born p × (1 < rankOf p) ⌝ }
     ensures { λ r. ⌜ r ≡ creatorOver p s ⌝ }
 {
-    is_split(creator_in(p, s), rank(p).0 - 2)
+    let b = rank(p).0 - 2;
+    if all_split(s, b) {
+        return true;
+    }
+    is_split(creator_in(p, s), b)
 }
 
 // Which parents were subdivided at level b: the first counts 1, the second 2, the third 4.
-fn splits(s: Parents, b: u8) -> u8
+pub fn splits(s: Parents, b: u8) -> u8
     ensures { λ r. ⌜ (r ≡ splitsIn s b) × (r ≤ 7) ⌝ }
 {
     bit(is_split(s.first, b)) + 2 * bit(is_split(s.second, b)) + 4 * bit(is_split(s.third, b))
-}
-
-// By those numbers: the degree, and the turn since birth.
-const DEGREES: [u8; 8] = [3, 4, 4, 5, 4, 5, 5, 6];
-
-const TURNS: [u8; 8] = [0, 4, 8, 8, 0, 4, 0, 0];
-
-const ALL: u8 = 7;
-
-// A record has this degree, orientation and level.
-pub fn same_star(r: Record, d: u8, k: u8, n: u8) -> bool
-    ensures { λ v. ⌜ v ≡ sameStar r d k n ⌝ }
-{
-    (r.d == d) & ((r.k == k) & (r.n.0 == n))
-}
-
-// Degree, orientation and level are what the parents say.
-pub fn as_told(r: Record, s: Parents) -> bool
-    requires { ⌜ (r .at .m .0 ≤ 6) × (0 < rankOf (r .at)) ⌝ }
-    ensures { λ v. ⌜ v ≡ toldIn r s ⌝ }
-{
-    let p = r.at;
-    let n = r.n.0;
-    let b = rank(p).0 - 1;
-    let i = splits(s, b);
-    if i == ALL {
-        return same_star(r, 6, n % 2, n);
-    }
-    let k = birth(p) + TURNS[i as usize];
-    same_star(r, DEGREES[i as usize], k, b)
 }

@@ -10,10 +10,11 @@ ghost use Rattle.local.specs.Sheet.{sheetOf};
 ghost use Rattle.local.specs.Places.{starred, placeTest, turnOf};
 use crate::lookups::ring_count;
 use crate::parents::all_there;
-use crate::parents::as_told;
 use crate::parents::creator_over;
+use crate::parents::deep_parents;
 use crate::parents::parents_of;
-use crate::parents::same_star;
+use crate::told::as_told;
+use crate::told::same_star;
 use lattice::Record;
 use lattice::class;
 use lattice::rank;
@@ -89,7 +90,7 @@ fn deep_passes(t: &[u8], r: Record, n: usize) -> bool
     if r.d == 0 {
         return false;
     }
-    let s = parents_of(t, p, n);
+    let s = deep_parents(t, p, n);
     if !all_there(s) {
         return false;
     }

@@ -1,11 +1,11 @@
 -- Marks: one bit for each of many places, eight places a byte.
 -- `markedAt` a place is marked · `Marks m P u` u marks what m does, and the places at which P passes: `marks-false`, `marks-same`, `marks-more` one
--- after the other, `marks-there`, `marks-set` one place ·
+-- after the other, `withBit`, `marks-with` one place ·
 -- `marked-none` bytes of 0 mark nothing.
 -- Assumes nothing.
-use mathlib.Core.Path.{_≡_, refl, sym, ap, _∙_}
+use mathlib.Core.Path.{_≡_, refl, sym, ap, _∙_, subst}
 use mathlib.Core.Bool.{Bool, true, false, cond, _||_}
-use mathlib.Core.List.{List}
+use mathlib.Core.List.{List, [], _∷_}
 use Prim.Native.Nat.{ℕ, zero, suc, _+_, _/_, _%_, _^_, _<_}
 use native.Mathlib.Omega.{arith}
 use native.Mathlib.Decide.{ℕ-discrete}
@@ -19,6 +19,10 @@ use Rattle.laws.specs.Rules.{among}
 
 unfoldable pub markedAt : List ℕ → ℕ → Bool
 markedAt m i = eqb (bitOf (getD m (i / 8) 0) (i % 8)) 1
+
+-- a byte with bit k set, which it has or not
+abbrev pub withBit : ℕ → ℕ → ℕ
+withBit x k = cond (eqb (bitOf x k) 1) x (x + 2 ^ k)
 
 -- u marks what m does, and the places at which P passes
 pub record Marks (m : List ℕ) (P : ℕ → Bool) (u : List ℕ) : Type 0 where
@@ -51,7 +55,7 @@ marks-more m u w P k a b = record {
 
 -- ---- a bit set
 
-pub marks-there : (m : List ℕ) (i : ℕ) → markedAt m i ≡ true → Marks m (eqb i) m
+marks-there : (m : List ℕ) (i : ℕ) → markedAt m i ≡ true → Marks m (eqb i) m
 marks-there m i h = record { long = refl; reads = λ j. go j (ℕ-discrete i j) }
   where
     go : (j : ℕ) → Dec (i ≡ j) → markedAt m j ≡ eqb i j || markedAt m j
@@ -59,7 +63,7 @@ marks-there m i h = record { long = refl; reads = λ j. go j (ℕ-discrete i j) 
     go j (no e) = sym (ap (λ (b : Bool). b || markedAt m j) (ne-eqb i j e))
 
 module _ (m : List ℕ) (i : ℕ) (clear : markedAt m i ≡ false) where
-  pub mark-clear : bitOf (getD m (i / 8) 0) (i % 8) ≡ 0
+  mark-clear : bitOf (getD m (i / 8) 0) (i % 8) ≡ 0
   unfolding markedAt
   mark-clear =
       let ne = eqb-false (bitOf (getD m (i / 8) 0) (i % 8)) 1 clear in
@@ -96,8 +100,26 @@ module _ (m : List ℕ) (i : ℕ) (clear : markedAt m i ≡ false) where
           ap (λ (y : ℕ). eqb (bitOf y (j % 8)) 1) (getD-set-other m (i / 8) (j / 8) (x + 2 ^ (i % 8)) 0 e)
           ∙ sym (ap (λ (b : Bool). b || markedAt m j) (ne-eqb i j other))
 
-  pub marks-set : i / 8 < length m → getD m (i / 8) 0 < 256 → Marks m (eqb i) (set m (i / 8) (getD m (i / 8) 0 + 2 ^ (i % 8)))
+  marks-set : i / 8 < length m → getD m (i / 8) 0 < 256 → Marks m (eqb i) (set m (i / 8) (getD m (i / 8) 0 + 2 ^ (i % 8)))
   marks-set inside byte = record { long = length-set m (i / 8) (getD m (i / 8) 0 + 2 ^ (i % 8)); reads = λ j. read-back inside byte j }
+
+set-self : (m : List ℕ) (i : ℕ) → set m i (getD m i 0) ≡ m
+set-self [] i = refl
+set-self (x ∷ m) zero = refl
+set-self (x ∷ m) (suc i) = ap (λ (l : List ℕ). x ∷ l) (set-self m i)
+
+-- the place was marked already, or its bit is added
+pub marks-with : (m : List ℕ) (i : ℕ) → i / 8 < length m → getD m (i / 8) 0 < 256 → Marks m (eqb i) (set m (i / 8) (withBit (getD m (i / 8) 0) (i % 8)))
+unfolding markedAt
+marks-with m i inside byte = go (markedAt m i) refl
+  where
+    go : (b : Bool) → markedAt m i ≡ b → Marks m (eqb i) (set m (i / 8) (withBit (getD m (i / 8) 0) (i % 8)))
+    go true e =
+        subst (Marks m (eqb i)) (sym (ap (λ (b : Bool). set m (i / 8) (cond b (getD m (i / 8) 0) (getD m (i / 8) 0 + 2 ^ (i % 8)))) e ∙ set-self m (i / 8)))
+        (marks-there m i e)
+    go false e =
+        subst (Marks m (eqb i)) (sym (ap (λ (b : Bool). set m (i / 8) (cond b (getD m (i / 8) 0) (getD m (i / 8) 0 + 2 ^ (i % 8)))) e))
+        (marks-set m i e inside byte)
 
 -- ---- nothing marked
 

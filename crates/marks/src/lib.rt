@@ -2,28 +2,32 @@
 //
 // `marked` reads a bit, `mark` sets it; specs/Marks says what marks are, and what one call after another makes of them.
 ghost use mathlib.Core.Path.{_≡_};
-ghost use Prim.Native.Nat.{_+_, _/_, _^_, _<_};
+ghost use Prim.Native.Nat.{_/_, _^_, _<_};
 ghost use lib.Dec.{eqb};
 ghost use lib.ListN.{length};
-ghost use Rattle.laws.specs.Bits.{bitOf};
-ghost use Rattle.marks.specs.Marks.{markedAt, Marks};
+ghost use Rattle.marks.specs.Marks.{markedAt, withBit, Marks};
 
-const POWERS: [u8; 8] = [1, 2, 4, 8, 16, 32, 64, 128];
+// The powers of 2, eight bits each from the lowest on.
+const POWERS: u64 = 0x8040201008040201;
 
 // 2 to the k.
 fn power(k: usize) -> u8
     requires { ⌜ k < 8 ⌝ }
     ensures { λ r. ⌜ r ≡ 2 ^ k ⌝ }
 {
-    POWERS[k]
+    ((POWERS >> (8 * k)) % 256) as u8
 }
 
-// A byte with bit k set, which it has not yet.
+// A byte with bit k set. Whether it has it already cannot be foreseen, so that is a choice and no branch.
 fn with_bit(byte: u8, k: usize) -> u8
-    requires { ⌜ (k < 8) × (bitOf byte k ≡ 0) ⌝ }
-    ensures { λ r. ⌜ (r ≡ byte + 2 ^ k) × (byte < 256) ⌝ }
+    requires { ⌜ k < 8 ⌝ }
+    ensures { λ r. ⌜ (r ≡ withBit byte k) × (byte < 256) ⌝ }
 {
-    byte + power(k)
+    if (byte >> k) % 2 == 1 {
+        byte
+    } else {
+        byte + power(k)
+    }
 }
 
 // Place i is marked.
@@ -40,9 +44,6 @@ pub fn mark(marks: &mut [u8], i: usize)
     requires { ⌜ i / 8 < length (now marks) ⌝ }
     ensures { λ _. ⌜ Marks (now (marks .entry)) (eqb i) (now (marks .exit)) ⌝ }
 {
-    if marked(marks, i) {
-        return;
-    }
     let at = i / 8;
     marks[at] = with_bit(marks[at], i % 8);
 }

@@ -115,8 +115,7 @@ fn fresh_plain(t: &[u8], v: Record, j: u8, a: Placed, b: Placed, k: usize, n: us
         return Fresh::Not;
     }
     match choose(t, v, j, n) {
-        Choice::First(o) => lone_face(t, v, j, a, o, b, k, n),
-        Choice::Second(o) => lone_face(t, v, j, a, o, b, k, n),
+        Choice::Is(_, o) => lone_face(t, v, j, a, o, b, k, n),
         Choice::Neither => Fresh::Not,
     }
 }
@@ -143,8 +142,7 @@ pub fn fresh_between(
         return fresh_plain(t, v, j, a, b, k, n);
     }
     match choose(t, v, j, n) {
-        Choice::First(o) => fresh_face(t, v, j, false, a, o, b, k, n),
-        Choice::Second(o) => fresh_face(t, v, j, true, a, o, b, k, n),
+        Choice::Is(second, o) => fresh_face(t, v, j, second, a, o, b, k, n),
         Choice::Neither => Fresh::Not,
     }
 }

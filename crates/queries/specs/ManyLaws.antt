@@ -1,4 +1,5 @@
--- Many answers as the code writes them: `triple-3`, `triple-one` the ways of one point · `answer-put` an answer's numbers, its row copied ·
+-- Many answers as the code writes them: `tripleSlot` where a point stands, `triple-slot-most`, `triple-answer` what it is answered by that ·
+-- `answer-put` an answer's numbers, its row copied ·
 -- `query-twenty`, `triple-twenty` an answer has twenty numbers, `answersIn`, `answers-start`, `answers-room`, `answers-more`, `answers-at` the answers
 -- so far · `all-1`, `all-13`, `all-0` the ways to an outcome, `after-parts` what equal ones share · `all-answer` each answer stands at its place.
 -- Assumes nothing.
@@ -8,7 +9,7 @@ use mathlib.Core.List.{List, [], _∷_, _++_, append-assoc}
 use Prim.Native.Nat.{ℕ, zero, suc, _+_, _*_, _≤_, _<_}
 use native.Mathlib.Omega.{arith}
 use native.Mathlib.Decide.{ℕ-discrete}
-use borrow.Author.Tests.{le-leb, lt-leb}
+use borrow.Author.Tests.{le-leb, lt-leb, le-ltb}
 use lib.Dec.{eqb, leb}
 use lib.IntN.{ℤ, pos, natAbs}
 use lib.ListN.{length, getD, take, drop, set, length-append, length-drop}
@@ -16,34 +17,57 @@ use lib.Seq.{sets, sets-eq, paste, take-at, drop-at, take-all, drop-append-add, 
 use Rattle.laws.specs.Choices.{unless}
 use Rattle.lattice.specs.Points.{normalOf}
 use Rattle.lattice.specs.Stars.{refused, given}
+use Rattle.lattice.specs.declared.points.Point.{Point}
 use Rattle.lattice.specs.declared.records.Record.{Record}
 use Rattle.lattice.specs.declared.stars.Answer.{Answer}
+use Rattle.table.specs.Slots.{Table, slotAt}
+use Rattle.table.specs.Search.{findOf}
 use Rattle.table.specs.Order.{inOrderOf}
-use Rattle.table.specs.Entries.{lookUp}
+use Rattle.table.specs.Entries.{heldIn, lookUp, slotFound}
+use Rattle.table.specs.MapLaws.{order-table, slot-in-most, test-order}
 use Rattle.table.specs.declared.entries.Looked.{Looked}
 use Rattle.table.specs.declared.entries.Looked.the-variants.{Absent, Held}
 use Rattle.queries.specs.Queries.{adjacentsThere, cornersThere, facesGiven, queryLooked, queryOf}
-use Rattle.queries.specs.Asked.{answerAt}
+use Rattle.queries.specs.Asked.{answerAt, slotAnswer}
+use Rattle.queries.specs.QueryLaws.{query-looked, slot-answer}
 use Rattle.lattice.specs.AnswerRows.{pointsNumbers, answerNumbers}
 use Rattle.queries.specs.declared.answers.Query.{Query}
 use Rattle.queries.specs.declared.answers.Query.the-variants.{Neighbours, Faces}
 use Rattle.laws.specs.Triples.{triplesIn, isByte}
 use Rattle.queries.specs.Many.{tripleOf, answerWidth, answerRow, answersTo, AnswersAfter, answersAfter, allOf}
 
--- ---- one point
-module _ (query : ℤ → ℤ → ℕ → Answer) (ps : List ℤ) (i : ℕ) where
-  abbrev answerOne : Answer
-  answerOne = query (getD ps (3 * i) (pos 0)) (getD ps (3 * i + 1) (pos 0)) (natAbs (getD ps (3 * i + 2) (pos 0)))
+-- ---- where a point stands
+-- the slot of the record at triple i, n where there is none
+abbrev pub tripleSlot : List ℕ → ℕ → List ℤ → ℕ → ℕ
+tripleSlot t n ps i =
+    unless (isByte (getD ps (3 * i + 2) (pos 0))) n
+    (slotFound n (findOf t (normalOf (getD ps (3 * i) (pos 0)) (getD ps (3 * i + 1) (pos 0)) (natAbs (getD ps (3 * i + 2) (pos 0))))))
 
-  pub triple-3 : isByte (getD ps (3 * i + 2) (pos 0)) ≡ false → refused 3 ≡ tripleOf query ps i
-  unfolding tripleOf
-  triple-3 h = ap (λ (b : Bool). unless b (refused 3) answerOne) (sym h)
+module _ (t : List ℕ) (n : ℕ) (k : Table t n) (h : inOrderOf t ≡ true) (ps : List ℤ) (i : ℕ) where
+  abbrev asked : Point
+  asked = normalOf (getD ps (3 * i) (pos 0)) (getD ps (3 * i + 1) (pos 0)) (natAbs (getD ps (3 * i + 2) (pos 0)))
 
-  pub triple-one :
-      isByte (getD ps (3 * i + 2) (pos 0)) ≡ true
-      → query (getD ps (3 * i) (pos 0)) (getD ps (3 * i + 1) (pos 0)) (natAbs (getD ps (3 * i + 2) (pos 0))) ≡ tripleOf query ps i
+  pub triple-slot-most : tripleSlot t n ps i ≤ n
+  triple-slot-most = go (isByte (getD ps (3 * i + 2) (pos 0)))
+    where
+      go : (b : Bool) → unless b n (slotFound n (findOf t asked)) ≤ n
+      go true = slot-in-most t (order-table t (test-order t h)) asked n _ k refl
+      go false = omega arith
+
+  pub triple-answer : (q : Query) → slotAnswer q t n (tripleSlot t n ps i) ≡ tripleOf (queryOf (answerAt q t) t) ps i
   unfolding tripleOf
-  triple-one h = ap (λ (b : Bool). unless b (refused 3) answerOne) (sym h)
+  triple-answer q = go (isByte (getD ps (3 * i + 2) (pos 0)))
+    where
+      f : Record → Answer
+      f = answerAt q t
+
+      go : (b : Bool)
+          → slotAnswer q t n (unless b n (slotFound n (findOf t asked)))
+          ≡ unless b (refused 3) (queryOf f t (getD ps (3 * i) (pos 0)) (getD ps (3 * i + 1) (pos 0)) (natAbs (getD ps (3 * i + 2) (pos 0))))
+      go true =
+          slot-answer q t n k h asked _ refl
+          ∙ query-looked f t (getD ps (3 * i) (pos 0)) (getD ps (3 * i + 1) (pos 0)) (natAbs (getD ps (3 * i + 2) (pos 0))) h _ refl
+      go false = ap (λ (b : Bool). unless b (refused 3) (queryLooked f (heldIn (slotAt t n)))) (le-ltb n n (omega arith))
 
 -- ---- one answer put
 -- its number at a place, and its row of so many numbers copied behind
@@ -90,7 +114,8 @@ pub triple-twenty :
 unfolding tripleOf answerNumbers pointsNumbers
 triple-twenty query h ps i = go (isByte (getD ps (3 * i + 2) (pos 0)))
   where
-    go : (b : Bool) → Twenty (unless b (refused 3) (answerOne query ps i))
+    go : (b : Bool)
+        → Twenty (unless b (refused 3) (query (getD ps (3 * i) (pos 0)) (getD ps (3 * i + 1) (pos 0)) (natAbs (getD ps (3 * i + 2) (pos 0)))))
     go true = h (getD ps (3 * i) (pos 0)) (getD ps (3 * i + 1) (pos 0)) (natAbs (getD ps (3 * i + 2) (pos 0)))
     go false = refl
 

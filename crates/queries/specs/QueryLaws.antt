@@ -1,13 +1,16 @@
 -- The laws of the queries. For the reader: `neighbours-spelling`, `faces-spelling` two spellings of one point get the same answer.
 -- For the code and the floors above: `query-refused`, `query-looked`, `neighbours-looked` a query is what follows the search for its vertex ·
--- `vertex-asked`, `asked-inner` what is known of a vertex that it finds · `neighbours-whole`, `neighbours-torn` ·
+-- `vertex-asked`, `asked-inner` what is known of a vertex that it finds, `slot-answer` the answer by its slot · `neighbours-whole`, `neighbours-torn` ·
 -- `chosen-first`, `chosen-second` the opposite of a corner · `hasOpposite`,
--- `opposite`, `faces-row` the row of the faces, `faces-torn`, `faces-cornered` the ways to an answer.
+-- `opposite`, `faces-row` the row of the faces, `faces-torn`, `faces-cornered` the ways to an answer, `answer-torn` whichever was asked · `when-true`.
 -- Assumes nothing.
 use mathlib.Core.Path.{_≡_, refl, sym, ap, _∙_}
 use mathlib.Core.Bool.{Bool, true, false, cond, _&&_}
 use mathlib.Core.List.{List}
-use Prim.Native.Nat.{ℕ}
+use Prim.Native.Nat.{ℕ, _<_}
+use native.Mathlib.Decide.{decLt}
+use native.Mathlib.Omega.{arith}
+use borrow.Author.Tests.{le-ltb, lt-ltb}
 use lib.Dec.{ltb}
 use lib.IntN.{ℤ}
 use Rattle.laws.specs.Choices.{unless, of-true}
@@ -18,15 +21,22 @@ use Rattle.lattice.specs.declared.points.Point.{Point}
 use Rattle.lattice.specs.declared.records.Record.{Record}
 use Rattle.lattice.specs.declared.stars.Answer.{Answer}
 use Rattle.lattice.specs.declared.patterns.Spot.the-variants.{At}
-use Rattle.table.specs.Slots.{Table}
-use Rattle.table.specs.Entries.{lookUp, holds}
+use Rattle.table.specs.Slots.{Table, slotsOf, slotAt}
+use Rattle.table.specs.Search.{findOf}
+use Rattle.table.specs.Entries.{heldIn, lookUp, holds, slotFound}
 use Rattle.table.specs.Order.{inOrderOf}
-use Rattle.table.specs.MapLaws.{lookup-valid, test-order}
+use Rattle.table.specs.LookLaws.{held-eq}
+use Rattle.table.specs.MapLaws.{order-table, slot-in-held, slot-in-absent, test-order}
+use Rattle.table.specs.SlotLaws.{table-slots}
+use Rattle.table.specs.declared.slots.Slot.{Slot}
+use Rattle.table.specs.declared.slots.Slot.the-variants.{Free, Holds}
 use Rattle.table.specs.declared.entries.Looked.{Looked}
 use Rattle.table.specs.declared.entries.Looked.the-variants.{Held}
 use Rattle.queries.specs.Queries.{adjacentsThere, there, chosenAt, isPoint, cornersThere, pointOr0, faceCell, facesGiven, neighboursAt, facesAt}
 use Rattle.queries.specs.Queries.{queryLooked, queryOf, neighboursOf, facesOf}
-use Rattle.queries.specs.Asked.{Asked}
+use Rattle.queries.specs.Asked.{Asked, answerAt, slotAnswer, whenTrue}
+use Rattle.queries.specs.declared.answers.Query.{Query}
+use Rattle.queries.specs.declared.answers.Query.the-variants.{Neighbours, Faces}
 use Rattle.lattice.specs.AnswerRows.{answerNumbers}
 use Rattle.lattice.specs.AnswerRowLaws.{sixNumbers, mixed}
 
@@ -56,10 +66,33 @@ module _ (t : List ℕ) (a b : ℤ) (m : ℕ) where
   unfolding neighboursOf
   neighbours-looked = query-looked (neighboursAt t) t a b m
 
--- what is known of a vertex that has a star
+-- what is known of a vertex that has a star, in slot i
 pub vertex-asked :
-    (t : List ℕ) (n : ℕ) → Table t n → inOrderOf t ≡ true → (p : Point) (v : Record) → lookUp t p ≡ Held v → (v .d ≡ 0 → ⊥) → Asked t n v
-vertex-asked t n k h p v e i = record { table = k; valid = lookup-valid t (test-order t h) p v e; inside = i }
+    (t : List ℕ) (n : ℕ) → Table t n → inOrderOf t ≡ true → (i : ℕ) (v : Record) → i < n → heldIn (slotAt t i) ≡ Held v → (v .d ≡ 0 → ⊥) → Asked t n v
+vertex-asked t n k h i v l e d =
+    let o = test-order t h in
+    let b : i < slotsOf t = omega (arith, table-slots t n k) in
+    record { table = k; order = h; valid = o .valid i v b (held-slot (slotAt t i) e); inside = d }
+  where
+    held-slot : (c : Slot) → heldIn c ≡ Held v → c ≡ Holds v
+    held-slot Free z = absurd (let x : _≡_ {A = ℕ} 0 1 = cc in omega (arith, x))
+    held-slot (Holds r) z = ap Holds (held-eq r v z)
+
+-- the answer by the slot where a search has found its point
+module _ (q : Query) (t : List ℕ) (n : ℕ) (k : Table t n) (h : inOrderOf t ≡ true) (p : Point) (s : ℕ) (e : s ≡ slotFound n (findOf t p)) where
+  pub slot-answer : slotAnswer q t n s ≡ queryLooked (answerAt q t) (lookUp t p)
+  slot-answer = go (decLt s n)
+    where
+      w : Table t (slotsOf t)
+      w = order-table t (test-order t h)
+
+      go : Dec (s < n) → slotAnswer q t n s ≡ queryLooked (answerAt q t) (lookUp t p)
+      go (yes l) =
+          ap (λ (b : Bool). unless b (refused 3) (queryLooked (answerAt q t) (heldIn (slotAt t s)))) (lt-ltb s n l)
+          ∙ ap (queryLooked (answerAt q t)) (slot-in-held t w p n s k e l)
+      go (no l) =
+          ap (λ (b : Bool). unless b (refused 3) (queryLooked (answerAt q t) (heldIn (slotAt t s)))) (le-ltb s n (omega arith))
+          ∙ ap (queryLooked (answerAt q t)) (sym (slot-in-absent t w p n s k e l))
 
 pub asked-inner : {t : List ℕ} {n : ℕ} {v : Record} → Asked t n v → Inner v
 asked-inner {v = v} k = inner v (of-true (k .valid)) (k .inside)
@@ -69,7 +102,7 @@ asked-inner {v = v} k = inner v (of-true (k .valid)) (k .inside)
 pub neighbours-whole : (t : List ℕ) (v : Record) → adjacentsThere t v ≡ true → given v ≡ neighboursAt t v
 neighbours-whole t v h = ap (λ (b : Bool). unless b (refused 7) (given v)) (sym h)
 
-pub neighbours-torn : (t : List ℕ) (v : Record) → adjacentsThere t v ≡ false → refused 7 ≡ neighboursAt t v
+neighbours-torn : (t : List ℕ) (v : Record) → adjacentsThere t v ≡ false → refused 7 ≡ neighboursAt t v
 neighbours-torn t v h = ap (λ (b : Bool). unless b (refused 7) (given v)) (sym h)
 
 -- ---- the opposite of a corner
@@ -110,3 +143,12 @@ module _ (t : List ℕ) (v : Record) where
   pub faces-cornered : adjacentsThere t v ≡ true → (b : Bool) → b ≡ cornersThere t v → unless b (refused 7) (facesGiven t v) ≡ facesAt t v
   faces-cornered h b e =
       ap (λ (c : Bool). unless c (refused 7) (facesGiven t v)) e ∙ ap (λ (c : Bool). unless (c && cornersThere t v) (refused 7) (facesGiven t v)) (sym h)
+
+-- ---- either question
+pub answer-torn : (q : Query) (t : List ℕ) (v : Record) → adjacentsThere t v ≡ false → refused 7 ≡ answerAt q t v
+answer-torn Neighbours t v h = neighbours-torn t v h
+answer-torn Faces t v h = faces-torn t v h
+
+pub when-true : (b : Bool) {A : Type 0} → A → whenTrue b A
+when-true true a = a
+when-true false a = tt

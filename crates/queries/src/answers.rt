@@ -1,11 +1,12 @@
 // The two calls. Their answer goes into a lent row; refused, it is count 0 and all zeros.
 ghost use mathlib.Core.Path.{_≡_};
 ghost use mathlib.Core.Bool.{true};
+ghost use Rattle.lattice.specs.Arms.{regularOf};
 ghost use Rattle.lattice.specs.Stars.{given};
 ghost use Rattle.table.specs.Slots.{Table};
 ghost use Rattle.table.specs.Order.{inOrderOf};
-ghost use Rattle.queries.specs.Queries.{cornersThere, facesGiven, neighboursAt, facesAt, queryOf, neighboursOf, facesOf};
-ghost use Rattle.queries.specs.Asked.{Asked, answerAt, whenTrue};
+ghost use Rattle.queries.specs.Queries.{adjacentsThere, cornersThere, facesGiven, queryOf, neighboursOf, facesOf};
+ghost use Rattle.queries.specs.Asked.{Asked, answerAt, slotAnswer, whenTrue};
 ghost use Rattle.lattice.specs.AnswerRows.{answerNumbers};
 use crate::opposites::adjacents_there;
 use crate::opposites::chosen;
@@ -17,13 +18,19 @@ use lattice::NOT_IN_ORDER;
 use lattice::Record;
 use lattice::Spot;
 use lattice::TORN;
+use lattice::added;
+use lattice::first_arm;
+use lattice::next_arm;
 use lattice::put_point;
 use lattice::refuse_row;
+use lattice::regular;
 use lattice::ring;
 use table::Looked;
+use table::held_in;
 use table::in_order;
-use table::look_up_request;
+use table::slot_by_guess;
 use table::slots_of;
+use table::stands;
 
 // What is asked of a vertex.
 pub enum Query {
@@ -31,17 +38,40 @@ pub enum Query {
     Faces,
 }
 
-// The neighbours of a vertex: its star, if each adjacent point is in the table.
-fn neighbours_at(t: &[u8], v: Record, n: usize, out: &mut [i32; ANSWER_NUMBERS]) -> u8
+// Puts the star of a vertex whose star is regular, each adjacent point as it is looked for, up to the first that is not in the table.
+fn regular_there(t: &[u8], v: Record, n: usize, out: &mut [i32; ANSWER_NUMBERS]) -> bool
     requires { ⌜ Asked (now t) n v ⌝ }
-    ensures { λ r. ⌜ r ≡ neighboursAt (now (t .entry)) v .number ⌝ }
-    ensures { λ _. ⌜ now (out .exit) ≡ answerNumbers (neighboursAt (now (t .entry)) v) ⌝ }
+    requires { ⌜ regularOf (v .d) ≡ true ⌝ }
+    ensures { λ r. ⌜ r ≡ adjacentsThere (now (t .entry)) v ⌝ }
+    ensures { λ r. ⌜ whenTrue r (now (out .exit) ≡ answerNumbers (given v)) ⌝ }
 {
-    ring(out, v);
-    if adjacents_there(t, out, v, n) {
-        return DONE;
+    *out = [0; ANSWER_NUMBERS];
+    out[0] = v.d as i32;
+    let mut w = first_arm(v);
+    let mut j: u8 = 0;
+    while j < v.d {
+        let p = added(w);
+        put_point(out, 3 * (j as usize) + 1, p);
+        if !stands(t, p.a, p.b, p.m.0, n) {
+            return false;
+        }
+        w = next_arm(w, v.d);
+        j += 1;
     }
-    refuse_row(out, TORN)
+    true
+}
+
+// Puts the star of a vertex, if each adjacent point is in the table.
+fn star_there(t: &[u8], v: Record, n: usize, out: &mut [i32; ANSWER_NUMBERS]) -> bool
+    requires { ⌜ Asked (now t) n v ⌝ }
+    ensures { λ r. ⌜ r ≡ adjacentsThere (now (t .entry)) v ⌝ }
+    ensures { λ r. ⌜ whenTrue r (now (out .exit) ≡ answerNumbers (given v)) ⌝ }
+{
+    if regular(v.d) {
+        return regular_there(t, v, n, out);
+    }
+    ring(out, v);
+    adjacents_there(t, out, v, n)
 }
 
 // Puts the chosen opposite of each corner in the place of the adjacent point before it, up to the first corner with none.
@@ -63,50 +93,38 @@ fn put_opposites(t: &[u8], v: Record, n: usize, out: &mut [i32; ANSWER_NUMBERS])
     true
 }
 
-// The faces round a vertex: the chosen opposite of each corner, if each adjacent point is in the table and each corner has one.
-fn faces_at(t: &[u8], v: Record, n: usize, out: &mut [i32; ANSWER_NUMBERS]) -> u8
-    requires { ⌜ Asked (now t) n v ⌝ }
-    ensures { λ r. ⌜ r ≡ facesAt (now (t .entry)) v .number ⌝ }
-    ensures { λ _. ⌜ now (out .exit) ≡ answerNumbers (facesAt (now (t .entry)) v) ⌝ }
-{
-    ring(out, v);
-    if !adjacents_there(t, out, v, n) {
-        return refuse_row(out, TORN);
-    }
-    if put_opposites(t, v, n, out) {
-        return DONE;
-    }
-    refuse_row(out, TORN)
-}
-
-// What a vertex that has a star is answered.
+// What a vertex that has a star is answered: its star, if each adjacent point is in the table; asked for its faces, the chosen opposites in its
+// place, if each corner has one.
 fn answer_at(q: Query, t: &[u8], v: Record, n: usize, out: &mut [i32; ANSWER_NUMBERS]) -> u8
     requires { ⌜ Asked (now t) n v ⌝ }
     ensures { λ r. ⌜ r ≡ answerAt q (now (t .entry)) v .number ⌝ }
     ensures { λ _. ⌜ now (out .exit) ≡ answerNumbers (answerAt q (now (t .entry)) v) ⌝ }
 {
+    if !star_there(t, v, n, out) {
+        return refuse_row(out, TORN);
+    }
     match q {
-        Query::Neighbours => neighbours_at(t, v, n, out),
-        Query::Faces => faces_at(t, v, n, out),
+        Query::Neighbours => DONE,
+        Query::Faces => {
+            if put_opposites(t, v, n, out) {
+                return DONE;
+            }
+            refuse_row(out, TORN)
+        }
     }
 }
 
-// The query at [a, b, m] in a table that is known to be in order.
-pub fn answer_in(
-    q: Query,
-    t: &[u8],
-    a: i32,
-    b: i32,
-    m: u8,
-    n: usize,
-    out: &mut [i32; ANSWER_NUMBERS],
-) -> u8
+// What is answered where the record is in slot i; n says that there is none.
+pub fn answer_in_slot(q: Query, t: &[u8], i: usize, n: usize, out: &mut [i32; ANSWER_NUMBERS]) -> u8
     requires { ⌜ Table (now t) n ⌝ }
     requires { ⌜ inOrderOf (now t) ≡ true ⌝ }
-    ensures { λ r. ⌜ r ≡ queryOf (answerAt q (now (t .entry))) (now (t .entry)) a b m .number ⌝ }
-    ensures { λ _. ⌜ now (out .exit) ≡ answerNumbers (queryOf (answerAt q (now (t .entry))) (now (t .entry)) a b m) ⌝ }
+    ensures { λ r. ⌜ r ≡ slotAnswer q (now (t .entry)) n i .number ⌝ }
+    ensures { λ _. ⌜ now (out .exit) ≡ answerNumbers (slotAnswer q (now (t .entry)) n i) ⌝ }
 {
-    match look_up_request(t, a, b, m, n) {
+    if n <= i {
+        return refuse_row(out, NO_RECORD);
+    }
+    match held_in(t, i) {
         Looked::Absent => refuse_row(out, NO_RECORD),
         Looked::Held(v) => {
             if v.d == 0 {
@@ -126,7 +144,8 @@ fn answer(q: Query, t: &[u8], a: i32, b: i32, m: u8, out: &mut [i32; ANSWER_NUMB
         return refuse_row(out, NOT_IN_ORDER);
     }
     let n = slots_of(t);
-    answer_in(q, t, a, b, m, n, out)
+    let i = slot_by_guess(t, a, b, m, n, n);
+    answer_in_slot(q, t, i, n, out)
 }
 
 // The neighbours of the vertex at [a, b, m]: its degree, and its adjacent points in star order. 1: the table is not in order; 3: no record is at

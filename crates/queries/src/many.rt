@@ -10,48 +10,38 @@ ghost use Rattle.table.specs.Slots.{Table};
 ghost use Rattle.table.specs.Order.{inOrderOf};
 ghost use Rattle.queries.specs.Queries.{queryOf};
 ghost use Rattle.queries.specs.Asked.{answerAt};
-ghost use Rattle.lattice.specs.AnswerRows.{answerNumbers};
 ghost use Rattle.queries.specs.Many.{answerWidth, tripleOf, allOf, neighboursAllOf, facesAllOf};
-ghost use Rattle.queries.specs.ManyLaws.{answersIn};
+ghost use Rattle.queries.specs.ManyLaws.{answersIn, tripleSlot};
 use crate::answers::Query;
-use crate::answers::answer_in;
+use crate::answers::answer_in_slot;
 use lattice::ANSWER_NUMBERS;
 use lattice::DONE;
-use lattice::NO_RECORD;
 use lattice::NOT_IN_ORDER;
 use lattice::SHORT;
-use lattice::refuse_row;
 use table::in_order;
+use table::slot_by_guess;
 use table::slots_of;
 
 // The numbers of an answer among many: its number, its count, its six points.
 const ANSWER_WIDTH: usize = 20;
 
-// The answer to triple i of a list.
-fn answer_triple(
-    q: Query,
-    t: &[u8],
-    points: &[i32],
-    i: usize,
-    n: usize,
-    out: &mut [i32; ANSWER_NUMBERS],
-) -> u8
+// The slot of the record at triple i of a list, n where there is none. The slot guessed is asked first.
+fn triple_slot(t: &[u8], points: &[i32], i: usize, n: usize, guess: usize) -> usize
     requires { ⌜ 3 * i + 3 ≤ length (now points) ⌝ }
     requires { ⌜ Table (now t) n ⌝ }
     requires { ⌜ inOrderOf (now t) ≡ true ⌝ }
-    ensures { λ r. ⌜ r ≡ tripleOf (queryOf (answerAt q (now (t .entry))) (now (t .entry))) (now (points .entry)) i .number ⌝ }
-    ensures { λ _. ⌜ now (out .exit) ≡ answerNumbers (tripleOf (queryOf (answerAt q (now (t .entry))) (now (t .entry))) (now (points .entry)) i) ⌝ }
+    ensures { λ r. ⌜ r ≡ tripleSlot (now (t .entry)) n (now (points .entry)) i ⌝ }
 {
     let a = points[3 * i];
     let b = points[3 * i + 1];
     let m = points[3 * i + 2];
     if m < 0 {
-        return refuse_row(out, NO_RECORD);
+        return n;
     }
     if 255 < m {
-        return refuse_row(out, NO_RECORD);
+        return n;
     }
-    answer_in(q, t, a, b, m as u8, n, out)
+    slot_by_guess(t, a, b, m as u8, n, guess)
 }
 
 // Puts answer i: its number, then its row.
@@ -70,7 +60,8 @@ fn put_answer(answers: &mut [i32], i: usize, number: u8, row: &[i32; ANSWER_NUMB
     }
 }
 
-// Puts the answers to the first `count` triples of a list.
+// Puts the answers to the first `count` triples of a list. Each is looked for first in the slot after that of the one before, where it mostly stands in a
+// list made of the table's own records.
 fn answer_each(q: Query, t: &[u8], points: &[i32], count: usize, n: usize, answers: &mut [i32])
     requires { ⌜ 3 * count ≤ length (now points) ⌝ }
     requires { ⌜ answerWidth * count ≤ length (now answers) ⌝ }
@@ -82,10 +73,13 @@ fn answer_each(q: Query, t: &[u8], points: &[i32], count: usize, n: usize, answe
         ⌝ }
 {
     let mut row = [0; ANSWER_NUMBERS];
+    let mut guess = 0;
     let mut i = 0;
     while i < count {
-        let number = answer_triple(q, t, points, i, n, &mut row);
+        let slot = triple_slot(t, points, i, n, guess);
+        let number = answer_in_slot(q, t, slot, n, &mut row);
         put_answer(answers, i, number, &row);
+        guess = slot + 1;
         i += 1;
     }
 }

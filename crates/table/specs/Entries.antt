@@ -1,6 +1,6 @@
 -- The table as a map from points to records. Document 01: "A new record takes the first free slot so met."
 -- `lookUp` the record at a point · `enterOf` a record entered · `replaceOf` one put in place of that at its point · `recordsOf` all of them · `holds`
--- a point is there.
+-- a point is there · `slotFound` in which slot.
 -- Assumes nothing.
 use mathlib.Core.Bool.{Bool, true, false}
 use mathlib.Core.List.{List, [], _∷_, _++_}
@@ -61,6 +61,12 @@ recordsBelow t (suc k) = recordsBelow t k ++ listed (slotAt t k)
 
 abbrev pub recordsOf : List ℕ → List Record
 recordsOf t = recordsBelow t (slotsOf t)
+
+-- the slot where a search has found its point, n where it has not
+abbrev pub slotFound : ℕ → Found → ℕ
+slotFound n (found.At i) = i
+slotFound n (found.Free i) = n
+slotFound n found.Full = n
 
 -- a point is in the table
 abbrev pub isHeld : Looked → Bool

@@ -1,18 +1,24 @@
--- The laws of a search in a table, for the code: `home-reached` it comes to its home slot, `resumed-find` it may start at any slot that it comes to ·
+-- The laws of a search in a table, for the code: `home-reached` it comes to its home slot, `resumed-find` it may start at any slot that it comes to,
+-- `reached-found` and ends there where that holds its point ·
 -- `find-told` what it tells, `resumed` it goes on from the slot told when slots have filled · `at-room`, `free-room` the slot where it ends lies in the table.
 -- Assumes nothing.
-use mathlib.Core.Path.{_≡_, sym, ap, _∙_, subst}
+use mathlib.Core.Path.{_≡_, refl, sym, ap, _∙_, subst}
+use mathlib.Core.Bool.{true}
 use mathlib.Core.List.{List}
-use Prim.Native.Nat.{ℕ, _+_, _*_, _≤_, _<_}
+use Prim.Native.Nat.{ℕ, _+_, _-_, _*_, _≤_, _<_}
 use native.Mathlib.Omega.{arith}
+use borrow.Author.Tests.{eq-eqb}
 use lib.ListN.{length}
 use Rattle.lattice.specs.declared.points.Point.{Point}
 use Rattle.table.specs.Slots.{slotWidth, Table, slotsOf, slotAt}
-use Rattle.table.specs.Search.{homeOf, meets, searchFrom, seek, findOf}
+use Rattle.table.specs.Search.{homeOf, meets, next, settle, searchFrom, seek, findOf}
+use Rattle.table.specs.Order.{isAt}
 use Rattle.table.specs.Told.{ComesTo, Reaches, Told, Fills}
 use Rattle.table.specs.SlotLaws.{table-slots, home-below}
-use Rattle.table.specs.SearchLaws.{steps-lo, other-another, search-resumed, comes-filled}
+use Rattle.table.specs.SearchLaws.{search-turn, steps-lo, other-another, search-resumed, comes-filled}
 use Rattle.table.specs.OrderLaws.{found-at, free-at, slots-some, Passed, Result, result, at, gap, none}
+use Rattle.table.specs.declared.probe.Meet.{Meet}
+use Rattle.table.specs.declared.probe.Meet.the-variants.{Hit}
 use Rattle.table.specs.declared.probe.Found.{Found}
 use Rattle.table.specs.declared.probe.Found.the-variants as found
 
@@ -36,6 +42,13 @@ module _ (t : List ℕ) (n : ℕ) (w : Table t n) (p : Point) where
   resumed-find i c o x =
       x ∙ ap (λ (k : ℕ). searchFrom (λ s. meets (slotAt t s) p) k i k) (sym (table-slots t n w))
       ∙ sym (search-resumed (slotsOf t) (slotAt t) p i (home-below (slotsOf t) some p) c)
+
+  -- a search that comes to a slot that holds its point ends there
+  pub reached-found : (i : ℕ) → Reaches t p i → meets (slotAt t i) p ≡ Hit → true ≡ isAt (findOf t p) i
+  reached-found i c e =
+      let look : ℕ → Meet = λ s. meets (slotAt t s) p in
+      let turn = search-turn look n i n (omega (arith, w .least)) ∙ ap (λ (m : Meet). settle m i (searchFrom look n (next n i) (n - 1))) e in
+      sym (ap (λ (o : Found). isAt o i) (sym (resumed-find i c (found.At i) (sym turn))) ∙ eq-eqb i i refl)
 
   way : (i : ℕ) → i < slotsOf t → Passed (slotsOf t) some (slotAt t) p i → Reaches t p i
   way i l os = record { below = l; before = λ s m k. other-another (slotAt t s) p (os s m k) }

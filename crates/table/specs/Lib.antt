@@ -15,10 +15,12 @@ pub mod SearchLaws
 pub mod HomeLaws
 pub mod OrderLaws
 pub mod EntryLaws
+pub mod RunLaws
 pub mod ChangeLaws
 pub mod WriteLaws
 pub mod RecordLaws
 pub mod LookLaws
+pub mod GroupLaws
 pub mod PutLaws
 pub mod AllLaws
 -- what the floors above cite: the index of the three before

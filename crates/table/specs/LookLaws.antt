@@ -3,7 +3,7 @@
 use mathlib.Core.Path.{_≡_, refl, sym, ap, _∙_, subst}
 use mathlib.Core.Bool.{true, false}
 use mathlib.Core.List.{List}
-use Prim.Native.Nat.{ℕ, _<_}
+use Prim.Native.Nat.{ℕ, _≤_, _<_}
 use native.Mathlib.Omega.{arith}
 use Rattle.laws.specs.Each.{not-both}
 use Rattle.lattice.specs.Records.{validOf}
@@ -13,7 +13,8 @@ use Rattle.table.specs.Slots.{Table, slotsOf, slotAt, freeSlots}
 use Rattle.table.specs.Search.{meets, findOf}
 use Rattle.table.specs.Order.{InOrder}
 use Rattle.table.specs.Ranges.{inRanges, valid-inside}
-use Rattle.table.specs.Entries.{heldIn, lookedAt, lookUp}
+use Rattle.table.specs.Entries.{heldIn, lookedAt, lookUp, slotFound}
+use Rattle.table.specs.SlotLaws.{table-slots}
 use Rattle.table.specs.OrderLaws.{slots-some, order-slots, Result, result, at, gap, none, present}
 use Rattle.table.specs.ChangeLaws.{free-one, none-free}
 use Rattle.table.specs.declared.slots.Slot.{Slot}
@@ -125,6 +126,31 @@ module _ (t : List ℕ) (w : Table t (slotsOf t)) (p : Point) where
       go (there i q e l s a k) = held-not-absent q k h
       go (room i e l s a k) = absurd (omega arith)
       go (full e a k) = e
+
+  -- what the map holds, by the slot of the point: one of the n, or n
+  pub slot-in-held : (n s : ℕ) → Table t n → s ≡ slotFound n (findOf t p) → s < n → heldIn (slotAt t s) ≡ lookUp t p
+  slot-in-held n s v h b = go searched
+    where
+      go : Searched t p → heldIn (slotAt t s) ≡ lookUp t p
+      go (there i q e l c a k) = let x : s ≡ i = h ∙ ap (slotFound n) e in ap (λ (j : ℕ). heldIn (slotAt t j)) x ∙ ap heldIn c ∙ sym k
+      go (room i e l c a k) = absurd (let x : s ≡ n = h ∙ ap (slotFound n) e in omega arith)
+      go (full e a k) = absurd (let x : s ≡ n = h ∙ ap (slotFound n) e in omega arith)
+
+  pub slot-in-absent : (n s : ℕ) → Table t n → s ≡ slotFound n (findOf t p) → (s < n → ⊥) → lookUp t p ≡ Absent
+  slot-in-absent n s v h b = go searched
+    where
+      go : Searched t p → lookUp t p ≡ Absent
+      go (there i q e l c a k) = absurd (let x : s ≡ i = h ∙ ap (slotFound n) e in b (omega (arith, table-slots t n v)))
+      go (room i e l c a k) = a
+      go (full e a k) = a
+
+  pub slot-in-most : (n s : ℕ) → Table t n → s ≡ slotFound n (findOf t p) → s ≤ n
+  slot-in-most n s v h = go searched
+    where
+      go : Searched t p → s ≤ n
+      go (there i q e l c a k) = let x : s ≡ i = h ∙ ap (slotFound n) e in omega (arith, table-slots t n v)
+      go (room i e l c a k) = let x : s ≡ n = h ∙ ap (slotFound n) e in omega arith
+      go (full e a k) = let x : s ≡ n = h ∙ ap (slotFound n) e in omega arith
 
   looked-stands : (r : Record) → lookUp t p ≡ Held r → StandsIn t r × (r .at ≡ p)
   looked-stands r h = go searched

@@ -6,7 +6,8 @@
 --               `lookup-same` two tables that hold the same at a point
 -- A search      `Searched`, `searched` its three ends, each with what it says of the map and of the free slots ·
 --               `at-held`, `at-free`, `at-full` the same, by where it ended · `find-held`, `find-free`, `find-full` where it ends, by what the
---               map holds: at a free slot exactly where the point is absent and a slot is free · `find-told` what it tells (Told) ·
+--               map holds: at a free slot exactly where the point is absent and a slot is free · `slot-in-held`, `slot-in-absent`,
+--               `slot-in-most` what the map holds, by the slot of a point (`slotFound`) · `find-told` what it tells (Told) ·
 --               `resumed` it goes on from the slot told · `enter-reaches` it comes as far as it came when a record has entered, since
 --               slots only fill (`enter-fills`)
 -- Entering      `enter-order`, `enter-finds`, `enter-keeps`, `enter-free`, `enter-records` · `enter-there`, `enter-full` nothing changes ·
@@ -23,7 +24,7 @@
 pub use Rattle.table.specs.LookLaws.{lookup-point, lookup-valid, lookup-stands, lookup-complete, slot-looked, stands-one}
 pub use Rattle.table.specs.LookLaws.{outside-absent, held-inside, lookup-same, order-table}
 pub use Rattle.table.specs.LookLaws.{Searched, there, room, full, searched, AtHeld, AtFree, at-held, at-free, at-full}
-pub use Rattle.table.specs.LookLaws.{find-held, find-free, find-full}
+pub use Rattle.table.specs.LookLaws.{find-held, find-free, find-full, slot-in-held, slot-in-absent, slot-in-most}
 pub use Rattle.table.specs.PutLaws.{enter-order, enter-finds, enter-keeps, enter-free, enter-there, enter-full, enter-length, put-enter}
 pub use Rattle.table.specs.PutLaws.{enter-fills, enter-reaches}
 pub use Rattle.table.specs.PutLaws.{replace-order, replace-finds, replace-keeps, replace-free, replace-find, replace-length, replace-table, put-replace}

@@ -70,6 +70,20 @@ module _ (t : List ℕ) (s f : ℕ) (F : First t s f) where
     unfolding samePoint recordAt
     same-is = rw (word-is a (p .a) la fa, word-is b (p .b) lb fb)
 
+    -- both compared at once
+    pub hit-both : eqb f (pairOf x y) && eqb (getD t (s + 8) 0) (p .m .0) ≡ samePoint (recordAt t s .at) p
+    hit-both = ap (λ (c : Bool). c && eqb (getD t (s + 8) 0) (p .m .0)) (same-test (eqb f (pairOf x y)) (eqb a x && eqb b y) there back) ∙ sym same-is
+      where
+        there : eqb f (pairOf x y) ≡ true → eqb a x && eqb b y ≡ true
+        there h =
+            let q = parts a b x y la (fits-ofZ fa .fits) (sym (F .is) ∙ eqb-true f (pairOf x y) h) in
+            rw (eq-eqb a x (q .0), eq-eqb b y (q .1))
+
+        back : eqb a x && eqb b y ≡ true → eqb f (pairOf x y) ≡ true
+        back h =
+            eq-eqb f (pairOf x y)
+            (F .is ∙ rw (eqb-true a x (both-left (eqb a x) (eqb b y) h), eqb-true b y (both-right (eqb a x) (eqb b y) h)))
+
     pub hit-rest : f ≡ pairOf x y → eqb (getD t (s + 8) 0) (p .m .0) ≡ samePoint (recordAt t s .at) p
     hit-rest e =
         let q = parts a b x y la (fits-ofZ fa .fits) (sym (F .is) ∙ e) in

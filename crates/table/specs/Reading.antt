@@ -1,14 +1,19 @@
 -- How the code reads a slot, word by word, and a weight: what the promises below `read_slot`, `look` and `home` cite.
 -- `Word` a word read from four bytes · `allOnes` three words that are twelve bytes of 255 (SlotLaws: `free-words`) ·
--- `pairOf` two words as one number, `First` those that a slot begins with · `over` more than any weight.
+-- `pairOf` two words as one number, `First` those that a slot begins with · `readsAs` a slot's bytes read as a point's record, `readsIn` of how many
+-- slots they do, `group` of so many that are asked at once · `runBefore` how many slots right before one are taken · `over` more than any weight.
 -- Assumes nothing.
 use mathlib.Core.Path.{_≡_}
-use mathlib.Core.Bool.{Bool, _&&_}
+use mathlib.Core.Bool.{Bool, false, true, cond, _&&_}
 use mathlib.Core.List.{List}
-use Prim.Native.Nat.{ℕ, _+_, _*_, _<_}
+use Prim.Native.Nat.{ℕ, zero, suc, _+_, _*_, _<_}
 use lib.Dec.{eqb}
 use lib.ListN.{getD}
 use Rattle.laws.specs.Words.{wordAt}
+use Rattle.lattice.specs.declared.points.Point.{Point}
+use Rattle.table.specs.Slots.{slotWidth, recordAt, isFree}
+use Rattle.table.specs.Search.{samePoint}
+use Rattle.table.specs.declared.slots.Slot.{Slot}
 
 -- r is the word at p, and what it was made of are bytes
 pub record Word (t : List ℕ) (p r : ℕ) : Type 0 where
@@ -30,6 +35,32 @@ pub record First (t : List ℕ) (p r : ℕ) : Type 0 where
   pub low : Word t p (wordAt t p)
   pub high : Word t (p + 4) (wordAt t (p + 4))
   pub is : r ≡ pairOf (wordAt t p) (wordAt t (p + 4))
+
+-- the bytes of slot i, free or not, read as a record of p: those of a free slot, as one of [-1, -1, 255]
+abbrev pub readsAs : List ℕ → Point → ℕ → Bool
+readsAs t p i = samePoint (recordAt t (slotWidth * i) .at) p
+
+abbrev pub oneIf : Bool → ℕ
+oneIf false = 0
+oneIf true = 1
+
+-- of how many of the k slots from slot h on they do
+unfoldable pub readsIn : List ℕ → Point → ℕ → ℕ → ℕ
+readsIn t p h zero = 0
+readsIn t p h (suc k) = readsIn t p h k + oneIf (readsAs t p (h + k))
+
+-- how many slots in a row are taken, one slot more seen: none where it is free
+abbrev pub runOn : ℕ → ℕ → ℕ
+runOn run free = cond (eqb free 0) (run + 1) 0
+
+-- how many slots right before slot i are taken, of slots of which slot s is `f s`
+unfoldable pub runBefore : (ℕ → Slot) → ℕ → ℕ
+runBefore f zero = 0
+runBefore f (suc i) = runOn (runBefore f i) (isFree (f i))
+
+-- how many slots are asked at once
+abbrev pub group : ℕ
+group = 8
 
 -- 65,536 times 2 to the 32: a multiple of the most slots that is over every weight
 abbrev pub over : ℕ

@@ -1,5 +1,5 @@
 -- The laws of the slots. What stands above cites these and never opens a byte.
--- `table-slots`, `slots-table`, `test-table` the fit of a length, `lengths-..` of two · `free-first`, `free-words`, `slot-free`,
+-- `table-slots`, `slots-table`, `test-table` the fit of a length, `lengths-..` of two · `free-byte`, `free-first`, `free-words`, `slot-free`,
 -- `slot-held` a slot read word by word ·
 -- `slot-written` one written in three parts · `put-same`, `put-other`, `put-length` a slot written and read back · `free-none`, `free-more` a count of
 -- free slots · `cleared-free` · `home-below` · `slot-same` equal bytes, equal slots.
@@ -112,7 +112,7 @@ module _ (t : List ℕ) (p w : ℕ) (W : Word t p w) where
   bytes-ones : getD t p 0 ≡ 255 → getD t (p + 1) 0 ≡ 255 → getD t (p + 2) 0 ≡ 255 → getD t (p + 3) 0 ≡ 255 → w ≡ 4294967295
   bytes-ones e0 e1 e2 e3 = word-bytes ∙ rw (e0, e1, e2, e3)
 
-free-byte : (t : List ℕ) (p : ℕ) → freeAt t p ≡ true → (x k : ℕ) → x ≡ p + k → k < slotWidth → _≡_ {A = ℕ} (getD t x 0) 255
+pub free-byte : (t : List ℕ) (p : ℕ) → freeAt t p ≡ true → (x k : ℕ) → x ≡ p + k → k < slotWidth → _≡_ {A = ℕ} (getD t x 0) 255
 unfolding freeAt
 free-byte t p h x k e l =
     ap (λ (y : ℕ). getD t y 0) e ∙ eqb-true (getD t (p + k) 0) 255 (upto-each (λ j. eqb (getD t (p + j) 0) 255) slotWidth k h l)

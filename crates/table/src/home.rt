@@ -12,7 +12,7 @@ use lattice::Point;
 const OVER: i64 = 281474976710656;
 
 // 7919a + 104729b + m: from depth 4 on it can be over 32 bits.
-fn weight(a: i32, b: i32, m: u8) -> i64
+pub fn weight(a: i32, b: i32, m: u8) -> i64
     ensures { λ r. ⌜ r ≡ weightOf a b m ⌝ }
 {
     7919 * (a as i64) + 104729 * (b as i64) + (m as i64)
@@ -29,7 +29,7 @@ fn remainder(s: i64, n: usize) -> usize
 }
 
 // The same for the most slots. A number that is not negative leaves its low bits there, which no division has to find.
-fn low(s: i64) -> usize
+pub fn low(s: i64) -> usize
     requires { ⌜ natAbs s < over ⌝ }
     ensures { λ r. ⌜ (r ≡ modZ s 65536) × (r < 65536) ⌝ }
 {

@@ -4,12 +4,14 @@
 // number of slots, which it hands on.
 // `find`, `look_up`, `look_up_request`, `is_there` and `held_in` read, `enter`, `enter_from`, `write_slot` and `clear` write, `read_slot` and
 // `free_slots` go through the slots. A search tells the slot where it ended: a record is written there, and a search for the same point may go on
-// from there when others have entered.
+// from there when others have entered. Whoever knows that a table is in order asks `stands` and `slot_by_guess`, which need not search.
 // The promises cite specs/: Slots, Search, Told, Order, Entries. What follows from them, for whoever stands above, is specs/MapLaws.
 mod bytes;
 mod entries;
+mod groups;
 mod home;
 mod order;
+mod ordered;
 mod probe;
 mod slots;
 
@@ -25,6 +27,8 @@ pub use entries::look_up_request;
 pub use order::Ordered;
 pub use order::check_order;
 pub use order::in_order;
+pub use ordered::slot_by_guess;
+pub use ordered::stands;
 pub use probe::Found;
 pub use probe::find;
 pub use probe::same_point;

@@ -3,9 +3,13 @@ ghost use mathlib.Core.Path.{_≡_};
 ghost use mathlib.Core.Bool.{true};
 ghost use Prim.Native.Nat.{_<_};
 ghost use Rattle.table.specs.Slots.{Table, slotAt, freeSlots};
-ghost use Rattle.table.specs.Search.{meets, findOf};
+ghost use Rattle.table.specs.Reading.{runOn, runBefore};
+ghost use Rattle.table.specs.Search.{homeOf, meets, findOf};
+ghost use Rattle.table.specs.Told.{Reaches};
 ghost use Rattle.table.specs.declared.probe.Meet.the-variants.{Hit};
 ghost use Rattle.table.specs.Order.{isAt, placedAt, allPlaced, inOrderOf};
+use crate::groups::GROUP;
+use crate::groups::group_reads;
 use crate::home::home;
 use crate::probe::Found;
 use crate::probe::find_from;
@@ -27,22 +31,48 @@ fn is_at(f: Found, i: usize) -> bool
     }
 }
 
-// The search for p ends at slot i, which holds it: where that is its home, nothing has to be looked at.
-fn found_at(t: &[u8], p: Point, i: usize, n: usize) -> bool
+// How many slots in a row are taken, one slot more seen: none where it is free.
+fn run_on(run: usize, free: usize) -> usize
+    requires { ⌜ run < 65536 ⌝ }
+    ensures { λ r. ⌜ r ≡ runOn run free ⌝ }
+{
+    if free == 0 { run + 1 } else { 0 }
+}
+
+// A group tells that the search for p, from its home h on, comes to slot i: the slots between are taken, and none of the group before slot i is p's.
+fn group_reaches(t: &[u8], p: Point, h: usize, i: usize, n: usize, run: usize) -> bool
+    requires { ⌜ Table (now t) n × (i < n) ⌝ }
+    requires { ⌜ (h ≡ homeOf p n) × (h < n) ⌝ }
+    requires { ⌜ run ≡ runBefore (slotAt (now t)) i ⌝ }
+    ensures { λ v. ⌜ (v ≡ true → Reaches (now (t .entry)) p i) ⌝ }
+{
+    if (h <= i) & (i <= h + run) & (i <= h + GROUP) & (GROUP <= i) {
+        return group_reads(t, p.a, p.b, p.m.0, i - GROUP) == 0;
+    }
+    false
+}
+
+// The search for p ends at slot i, which holds it: where that is its home, nothing has to be looked at; where it is near, a group.
+fn found_at(t: &[u8], p: Point, i: usize, n: usize, run: usize) -> bool
     requires { ⌜ Table (now t) n × (i < n) ⌝ }
     requires { ⌜ meets (slotAt (now t) i) p ≡ Hit ⌝ }
+    requires { ⌜ run ≡ runBefore (slotAt (now t)) i ⌝ }
     ensures { λ v. ⌜ v ≡ isAt (findOf (now (t .entry)) p) i ⌝ }
 {
     let h = home(p, n);
     if h == i {
         return true;
     }
+    if group_reaches(t, p, h, i, n, run) {
+        return true;
+    }
     is_at(find_from(t, p, h, n), i)
 }
 
 // Slot i is free, or holds a valid record that the search for its point finds there.
-fn placed(t: &[u8], i: usize, n: usize) -> bool
+fn placed(t: &[u8], i: usize, n: usize, run: usize) -> bool
     requires { ⌜ Table (now t) n × (i < n) ⌝ }
+    requires { ⌜ run ≡ runBefore (slotAt (now t)) i ⌝ }
     ensures { λ v. ⌜ v ≡ placedAt (now (t .entry)) i ⌝ }
 {
     let s = read_slot(t, i);
@@ -51,7 +81,7 @@ fn placed(t: &[u8], i: usize, n: usize) -> bool
         Slot::Holds(r) => {
             if valid(r) {
                 let q = r.at;
-                found_at(t, q, i, n)
+                found_at(t, q, i, n, run)
             } else {
                 false
             }
@@ -73,11 +103,14 @@ fn free_placed(t: &[u8], n: usize) -> Ordered
 {
     let mut i: usize = 0;
     let mut free = 0;
+    let mut run = 0;
     while i < n {
-        if !placed(t, i, n) {
+        if !placed(t, i, n, run) {
             return Ordered { ok: false, free: 0 };
         }
-        free += one_if_free(t, i);
+        let one = one_if_free(t, i);
+        free += one;
+        run = run_on(run, one);
         i += 1;
     }
     Ordered { ok: true, free }

@@ -39,7 +39,7 @@ pub fn same_point(p: Point, q: Point) -> bool
 }
 
 // The first two words of the slot at byte s.
-fn first_words(t: &[u8], s: usize) -> u64
+pub fn first_words(t: &[u8], s: usize) -> u64
     requires { ⌜ s + slotWidth ≤ length (now t) ⌝ }
     ensures { λ r. ⌜ First (now (t .entry)) s r ⌝ }
 {

@@ -1,7 +1,7 @@
 -- What the written numbers obey: the digits of a number are those of its tens and its last, so every law goes by tens.
 -- `digits-small`, `digits-more` the two cases · `by-tens` induction · `Digits` bytes that are digits, `digits-are` · `digits-value` what the digits
 -- count, `value-digits` the number that digits without a leading zero write · `digits-plain` no leading zero · `width-above`, `width-below`,
--- `digits-some` how many there are · `numeral-minus`, `numeral-plus` the sign.
+-- `digits-some`, `width-tens` how many there are · `numeral-minus`, `numeral-plus` the sign.
 -- Assumes nothing.
 use mathlib.Core.Path.{_≡_, refl, sym, _∙_, subst, ap}
 use mathlib.Core.Bool.{Bool, true, false, cond}
@@ -198,6 +198,82 @@ width-below (suc (suc w)) n z h = go (λ l. width-below (suc w) (n / 10) (omega 
         let p = pow-succ' 10 (suc w) in
         let tens : n / 10 < 10 ^ suc w = omega arith in
         omega (arith, r tens, more-length n (omega arith))
+
+-- the same below a million, by how many of the numbers before a power of ten it is past
+abbrev pub over : ℕ → ℕ → ℕ
+over most n = cond (ltb most n) 1 0
+
+is-over : (most n : ℕ) → most < n → over most n ≡ 1
+is-over most n h = rw (lt-ltb most n h)
+
+not-over : (most n : ℕ) → n ≤ most → over most n ≡ 0
+not-over most n h = rw (le-ltb most n h)
+
+pub width-tens : (n : ℕ) → n < 1000000 → 1 + over 9 n + over 99 n + over 999 n + over 9999 n + over 99999 n ≡ length (digits n)
+width-tens n top = go (decLt 9 n) (decLt 99 n) (decLt 999 n) (decLt 9999 n) (decLt 99999 n)
+  where
+    go : Dec (9 < n) → Dec (99 < n) → Dec (999 < n) → Dec (9999 < n) → Dec (99999 < n)
+        → 1 + over 9 n + over 99 n + over 999 n + over 9999 n + over 99999 n ≡ length (digits n)
+    go (no h) b c d e = omega (
+      arith,
+      not-over 9 n (omega arith),
+      not-over 99 n (omega arith),
+      not-over 999 n (omega arith),
+      not-over 9999 n (omega arith),
+      not-over 99999 n (omega arith),
+      digits-some n,
+      width-below 1 n (omega arith) (omega arith),
+    )
+    go (yes h) (no i) c d e = omega (
+      arith,
+      is-over 9 n h,
+      not-over 99 n (omega arith),
+      not-over 999 n (omega arith),
+      not-over 9999 n (omega arith),
+      not-over 99999 n (omega arith),
+      width-above 1 n (omega arith),
+      width-below 2 n (omega arith) (omega arith),
+    )
+    go (yes h) (yes i) (no j) d e = omega (
+      arith,
+      is-over 9 n h,
+      is-over 99 n i,
+      not-over 999 n (omega arith),
+      not-over 9999 n (omega arith),
+      not-over 99999 n (omega arith),
+      width-above 2 n (omega arith),
+      width-below 3 n (omega arith) (omega arith),
+    )
+    go (yes h) (yes i) (yes j) (no k) e = omega (
+      arith,
+      is-over 9 n h,
+      is-over 99 n i,
+      is-over 999 n j,
+      not-over 9999 n (omega arith),
+      not-over 99999 n (omega arith),
+      width-above 3 n (omega arith),
+      width-below 4 n (omega arith) (omega arith),
+    )
+    go (yes h) (yes i) (yes j) (yes k) (no l) = omega (
+      arith,
+      is-over 9 n h,
+      is-over 99 n i,
+      is-over 999 n j,
+      is-over 9999 n k,
+      not-over 99999 n (omega arith),
+      width-above 4 n (omega arith),
+      width-below 5 n (omega arith) (omega arith),
+    )
+    go (yes h) (yes i) (yes j) (yes k) (yes l) = omega (
+      arith,
+      is-over 9 n h,
+      is-over 99 n i,
+      is-over 999 n j,
+      is-over 9999 n k,
+      is-over 99999 n l,
+      width-above 5 n (omega arith),
+      width-below 6 n (omega arith) (omega arith),
+    )
 
 -- ---- signs
 

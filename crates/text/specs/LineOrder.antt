@@ -1,19 +1,19 @@
 -- Document 01, "Files": "Lines rise strictly by m, then a, then b." What the promises cite: `earlier`.
 -- `orderOf` a number for each point that rises as the lines do · `Close` the points of valid records, `close` · `order-earlier` the orders rise as the lines
--- do, `order-one` one order, one point.
+-- do, `order-one` one order, one point · `pointOf` the point of an order, `order-back`.
 -- Assumes nothing.
 use mathlib.Core.Path.{_≡_, refl, sym, ap, _∙_, subst}
 use mathlib.Core.Bool.{Bool, true, false, _&&_, _||_}
-use Prim.Native.Nat.{ℕ, _+_, _*_, _≤_, _<_}
+use Prim.Native.Nat.{ℕ, _+_, _*_, _/_, _%_, _≤_, _<_}
 use native.Mathlib.Omega.{arith}
 use native.Mathlib.Decide.{decLt}
 use borrow.Author.Tests.{lt-ltb, le-ltb, eq-eqb, ne-eqb}
 use lib.Dec.{eqb, ltb, T}
-use lib.IntN.{ℤ, pos, natAbs, _+ℤ_}
+use lib.IntN.{ℤ, pos, natAbs, _+ℤ_, _-ℤ_}
 use lib.Signed.{ltZ}
 use Rattle.laws.specs.Choices.{of-true, is-true}
 use Rattle.laws.specs.Each.{not-both}
-use Rattle.laws.specs.Parts.{up, dn, apart, abs-is, add-is, eqℤ, lt-true, lt-false}
+use Rattle.laws.specs.Parts.{up, dn, apart, abs-is, add-is, minus-is, eqℤ, lt-true, lt-false}
 use Rattle.laws.specs.Rules.{eqZ, eqZ→eq, eqZ-refl}
 use Rattle.lattice.specs.Points.{pt}
 use Rattle.lattice.specs.Records.{validOf}
@@ -145,3 +145,30 @@ module _ (p q : Point) (c : Close p) (d : Close q) where
       let ea : p .a ≡ q .a = lift-one (p .a) (q .a) (c .a) (d .a) (omega arith) in
       let eb : p .b ≡ q .b = lift-one (p .b) (q .b) (c .b) (d .b) (omega arith) in
       λ i. pt (ea i) (eb i) (em i)
+
+-- ---- and back
+abbrev pub lowered : ℕ → ℤ
+lowered x = pos (x % span) -ℤ pos middle
+
+-- the point of an order
+abbrev pub pointOf : ℕ → Point
+pointOf n = pt (lowered (n / span)) (lowered n) (n / (span * span) % 256)
+
+lift-back : (z : ℤ) → natAbs z ≤ widest → (x : ℕ) → x % span ≡ lifted z → lowered x ≡ z
+lift-back z h x e = eqℤ (lowered x) z (omega (arith, lift-is z h, minus-is (pos (x % span)) (pos middle)))
+
+pub order-back : (p : Point) → Close p → pointOf (orderOf p) ≡ p
+unfolding orderOf
+order-back p c =
+    let h = lift-below (p .a) (c .a) in
+    let l = lift-below (p .b) (c .b) in
+    let top = c .m in
+    let n = (p .m .0 * span + lifted (p .a)) * span + lifted (p .b) in
+    let q : n / span ≡ p .m .0 * span + lifted (p .a) = omega arith in
+    let r : (p .m .0 * span + lifted (p .a)) % span ≡ lifted (p .a) = omega arith in
+    let a : n / span % span ≡ lifted (p .a) = ap (λ (x : ℕ). x % span) q ∙ r in
+    let b : n % span ≡ lifted (p .b) = omega arith in
+    let d : n / (span * span) ≡ p .m .0 = omega arith in
+    let e : p .m .0 % 256 ≡ p .m .0 = omega arith in
+    let m : n / (span * span) % 256 ≡ p .m .0 = ap (λ (x : ℕ). x % 256) d ∙ e in
+    λ i. pt (lift-back (p .a) (c .a) (n / span) a i) (lift-back (p .b) (c .b) n b i) (m i)

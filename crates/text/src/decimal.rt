@@ -1,7 +1,9 @@
 // Decimal numbers in bytes: no plus sign, no leading zero, minus only before a nonzero number. Each ends with a byte of the caller's choice, a tab or a
 // line feed.
 ghost use mathlib.Core.Path.{_≡_};
+ghost use mathlib.Core.Bool.{cond};
 ghost use Prim.Native.Nat.{_+_, _-_, _≤_, _<_};
+ghost use lib.Dec.{ltb};
 ghost use lib.IntN.{negℤ, pos, natAbs};
 ghost use lib.ListN.{length, drop};
 ghost use Rattle.laws.specs.Stores.{Wrote};
@@ -107,8 +109,29 @@ pub fn read_signed(t: &[u8], at: usize, most: u32, stop: u8) -> Signed
     }
 }
 
-// How many digits a number has: a power of ten above it has one zero for each.
+// Every numerator of a record is below it.
+const MILLION: u32 = 1000000;
+
+// 1 where n is past a number, else 0. No branch: how long the next number is cannot be foreseen.
+fn past(n: u32, most: u32) -> usize
+    ensures { λ r. ⌜ (r ≡ cond (ltb most n) 1 0) × (r ≤ 1) ⌝ }
+{
+    (most < n) as usize
+}
+
+// How many digits a number has.
 pub fn width(n: u32) -> usize
+    ensures { λ r. ⌜ r ≡ length (digits n) ⌝ }
+    ensures { λ r. ⌜ (1 ≤ r) × (r ≤ 10) ⌝ }
+{
+    if n < MILLION {
+        return 1 + past(n, 9) + past(n, 99) + past(n, 999) + past(n, 9999) + past(n, 99999);
+    }
+    long_width(n)
+}
+
+// The same of any number: a power of ten above it has one zero for each digit.
+fn long_width(n: u32) -> usize
     ensures { λ r. ⌜ r ≡ length (digits n) ⌝ }
     ensures { λ r. ⌜ (1 ≤ r) × (r ≤ 10) ⌝ }
 {

@@ -3,7 +3,7 @@
 // One definition of a line, `lineOf` of specs/Line, is what is written and what is parsed: specs/LineLaws shows that a written line parses to its record
 // and that only a written line parses. No input wraps or stops a parser: what is no such line is refused.
 // The floors above call `parse_line`, `line_length` and `write_line_back` for files, `width` and `write_number` for counts,
-// `order` to sort; for lines of another form what a line is made of: `read_number`, `read_point`, `point_length`, `number_back`, `point_back`,
+// `order` and `ordered` to sort; for lines of another form what a line is made of: `read_number`, `read_point`, `point_length`, `number_back`, `point_back`,
 // `write_bytes`.
 mod bytes;
 mod decimal;
@@ -27,3 +27,4 @@ pub use line::point_length;
 pub use line::read_point;
 pub use line::write_line_back;
 pub use line_order::order;
+pub use line_order::ordered;

@@ -23,14 +23,15 @@ use Rattle.sorting.specs.Tally.{nth}
 use Rattle.sorting.specs.Keys.{Put}
 use Rattle.sorting.specs.KeyLaws.{firsts-length, firsts-at}
 use Rattle.writers.specs.Files.{sorted}
-use Rattle.writers.specs.Kept.{recordKeyed}
 use Rattle.writers.specs.KeptLaws.{Filled}
 use Rattle.mesh_faces.specs.MeshFaces.{meshFaces, tornOf}
 use Rattle.viewer.specs.Viewer.{vertexText, texts}
 use Rattle.viewer.specs.Packed.{unpacked}
+use Rattle.viewer.specs.Keyed.{recordKeyed}
 use Rattle.viewer.specs.Ranks.{keysOf, ordered, Stand}
 use Rattle.viewer.specs.Stored.{Stored, stored-none, stored-one, stored-then, Guessed}
 use Rattle.viewer.specs.Backward.{texts-least, texts-sort}
+use Rattle.viewer.specs.Lines.{faceLeast, vertexLeast}
 use Rattle.viewer.specs.Lines.{faceKey, keyLine, vertexLine, Queue, face-least, vertex-least, vertices-sorted, faces-sorted, keys-append, keys-long}
 use Rattle.viewer.specs.FaceLaws.{mesh-four}
 use Rattle.viewer.specs.CallLaws.{vertexPart, facePart, standing-records, faces-many}
@@ -125,7 +126,7 @@ key-front k o xs i r h =
 
 module _ (s : Style) (ks o : List ℕ) (k end : ℕ) (q : Queue s ks o k end) where
   pub queue-keys : keyWidth * k ≤ end
-  queue-keys = omega (arith, texts-least (keyLine s) 10 ks (λ v. face-least s (unpacked v)), q .count, q .long)
+  queue-keys = omega (arith, texts-least (keyLine s) faceLeast ks (λ v. face-least s (unpacked v)), q .count, q .long)
 
   module _ (o′ : List ℕ) (w : Sorts o k o′) where
     pub queue-sorted : Queue s (sortBy ltb ks) o′ k end
@@ -154,11 +155,11 @@ module _ (s : Style) (t : List ℕ) (o : InOrder t) where
   pub vertices-are : texts (vertexLine s t) (ordered t) ≡ vertexPart s t
   vertices-are = vertices-sorted s t o ∙ ap (λ (rs : List Record). texts (vertexText s) (sorted rs)) (standing-records t (slotsOf t))
 
-  vertices-least : 21 * length (keysOf t) ≤ length (vertexPart s t)
+  vertices-least : vertexLeast * length (keysOf t) ≤ length (vertexPart s t)
   vertices-least =
       omega (
         arith,
-        texts-least (vertexLine s t) 21 (ordered t) (λ v. vertex-least s (recordKeyed t v)),
+        texts-least (vertexLine s t) vertexLeast (ordered t) (λ v. vertex-least s (recordKeyed t v)),
         ap length vertices-are,
         sort-length ltb (keysOf t),
       )
@@ -167,11 +168,11 @@ module _ (s : Style) (t : List ℕ) (o : InOrder t) where
     pub faces-are : texts (keyLine s) (sortBy ltb (faceKeys t)) ≡ facePart s t
     faces-are = faces-sorted s t o (mesh-four t o untorn)
 
-    faces-least : 10 * length (meshFaces t) ≤ length (facePart s t)
+    faces-least : faceLeast * length (meshFaces t) ≤ length (facePart s t)
     faces-least =
         omega (
           arith,
-          texts-least (keyLine s) 10 (sortBy ltb (faceKeys t)) (λ v. face-least s (unpacked v)),
+          texts-least (keyLine s) faceLeast (sortBy ltb (faceKeys t)) (λ v. face-least s (unpacked v)),
           ap length faces-are,
           sort-length ltb (faceKeys t),
           keys-long t (meshFaces t),
@@ -186,16 +187,16 @@ pub record Body (s : Style) (t : List ℕ) (start total : ℕ) (out : List ℕ) 
   pub room : total ≤ length out
 
 module _ {s : Style} {t : List ℕ} {start total : ℕ} {out : List ℕ} (b : Body s t start total out) where
-  pub many : 21 * length (keysOf t) ≤ start
+  pub many : vertexLeast * length (keysOf t) ≤ start
   many = omega (arith, vertices-least s t (b .order), b .vertices)
 
-  more : start + 10 * length (meshFaces t) ≤ total
+  more : start + faceLeast * length (meshFaces t) ≤ total
   more = omega (arith, faces-least s t (b .order) (b .untorn), b .faces)
 
   pub body-keys : keyWidth * length (keysOf t) ≤ length out
   body-keys = omega (arith, many, more, b .room)
 
-  pub body-least : start + 10 * facesIn t ≤ total
+  pub body-least : start + faceLeast * facesIn t ≤ total
   body-least = omega (arith, more, faces-many t)
 
   -- the vertices' keys stand sorted, and the bytes past the file are as they were

@@ -28,14 +28,15 @@ use Rattle.sorting.specs.Sorting.{sortBy, keyIn}
 use Rattle.sorting.specs.Tally.{nth}
 use Rattle.sorting.specs.SortLaws.{mem-sort, at-mem, sort-map}
 use Rattle.writers.specs.Files.{sorted}
-use Rattle.writers.specs.Kept.{places, recordIn, recordKeyed, keysBelow, standing}
-use Rattle.writers.specs.KeptLaws.{standing-more, keys-inside, keys-sorted}
+use Rattle.writers.specs.Kept.{places, standing}
+use Rattle.writers.specs.KeptLaws.{standing-more}
 use Rattle.coordinates.specs.Coordinates.{blank, positionText}
 use Rattle.coordinates.specs.TextLaws.{position-least}
 use Rattle.mesh_faces.specs.MeshFaces.{meshFaces}
 use Rattle.viewer.specs.Viewer.{cornersOf, nextFirst, isLeast, leastFirst, leastOf, rises, faceCorners, numberOf}
-use Rattle.viewer.specs.Viewer.{headText, vertexMark, vertexText, faceText, texts}
-use Rattle.viewer.specs.Packed.{many, packed, unpacked, Small, pack-rises, unpack-all}
+use Rattle.viewer.specs.Viewer.{letterV, headText, vertexMark, vertexText, faceText, texts}
+use Rattle.viewer.specs.Packed.{packed, unpacked, Small, pack-rises, unpack-all}
+use Rattle.viewer.specs.Keyed.{recordIn, recordKeyed, keys-inside, keys-sorted}
 use Rattle.viewer.specs.Ranks.{keysOf, ordered, held-number}
 use Rattle.counts.specs.Counts.{gather}
 use Rattle.mesh_faces.specs.Once.{Four, freshAt, freshStar, freshIn, freshSlot, freshBelow, fresh-more, gather-more}
@@ -69,6 +70,31 @@ pub record Queue (s : Style) (ks o : List ℕ) (k end : ℕ) : Type 0 where
   pub room : end ≤ length o
 
 -- ---- how long
+
+-- the bytes of a face's shortest line, and of the longest: four numbers of five digits
+abbrev pub faceLeast : ℕ
+faceLeast = 10
+
+abbrev pub faceMost : ℕ
+faceMost = 26
+
+-- and of the lines of six faces: no vertex has more
+abbrev pub starMost : ℕ
+starMost = 6 * faceMost
+
+-- the bytes of a vertex's shortest line; no line of a vertex is longer, and no head
+abbrev pub vertexLeast : ℕ
+vertexLeast = 21
+
+abbrev pub vertexMost : ℕ
+vertexMost = 43
+
+abbrev pub headMost : ℕ
+headMost = 37
+
+-- where the faces' lines begin at most
+abbrev pub startMost : ℕ
+startMost = headMost + vertexMost * places
 
 ended-long : (xs : List ℕ) (c : ℕ) → length (ended xs c) ≡ length xs + 1
 ended-long xs c = length-append xs (c ∷ [])
@@ -117,44 +143,40 @@ face-long s q = go (isLeast q) (isLeast (nextFirst q)) (isLeast (nextFirst (next
     go false false true = corners-long s (nextFirst (nextFirst q)) ∙ omega arith
     go false false false = corners-long s (nextFirst (nextFirst (nextFirst q))) ∙ omega arith
 
-pub face-least : (s : Style) (q : Corners) → 10 ≤ length (faceText s q)
+pub face-least : (s : Style) (q : Corners) → faceLeast ≤ length (faceText s q)
 face-least s q =
     omega
     (arith, corners-long s q, digits-some (s .first + q .a), digits-some (s .first + q .b), digits-some (s .first + q .c), digits-some (s .first + q .d))
-
--- the bytes of the longest line of a face
-abbrev pub faceMost : ℕ
-faceMost = 26
 
 pub face-most : (s : Style) (q : Corners) → s .first ≤ 1 → Small q → length (faceText s q) ≤ faceMost
 face-most s q h w =
     omega (arith, corners-long s q, few (q .a) (w .a), few (q .b) (w .b), few (q .c) (w .c), few (q .d) (w .d))
   where
-    few : (n : ℕ) → n < many → widthOf s n ≤ 5
+    few : (n : ℕ) → n < places → widthOf s n ≤ 5
     few n l = width-below 5 (s .first + n) (omega arith) (omega arith)
 
 pub vertex-marked : (s : Style) (r : Record) → s .marked ≡ true → length (vertexText s r) ≡ length (positionText (r .at)) + 2
 unfolding vertexText
 vertex-marked s r e =
-    ap (λ (b : Bool). length (cond b (118 ∷ blank ∷ []) [] ++ positionText (r .at))) e
-    ∙ (let a = length-append (118 ∷ blank ∷ []) (positionText (r .at)) in omega arith)
+    ap (λ (b : Bool). length (cond b (letterV ∷ blank ∷ []) [] ++ positionText (r .at))) e
+    ∙ (let a = length-append (letterV ∷ blank ∷ []) (positionText (r .at)) in omega arith)
 
 pub vertex-plain : (s : Style) (r : Record) → s .marked ≡ false → vertexText s r ≡ positionText (r .at)
 unfolding vertexText
-vertex-plain s r e = ap (λ (b : Bool). cond b (118 ∷ blank ∷ []) [] ++ positionText (r .at)) e
+vertex-plain s r e = ap (λ (b : Bool). cond b (letterV ∷ blank ∷ []) [] ++ positionText (r .at)) e
 
-pub vertex-mark : (s : Style) (r : Record) → s .marked ≡ true → vertexText s r ≡ (118 ∷ blank ∷ []) ++ positionText (r .at)
+pub vertex-mark : (s : Style) (r : Record) → s .marked ≡ true → vertexText s r ≡ (letterV ∷ blank ∷ []) ++ positionText (r .at)
 unfolding vertexText
-vertex-mark s r e = ap (λ (b : Bool). cond b (118 ∷ blank ∷ []) [] ++ positionText (r .at)) e
+vertex-mark s r e = ap (λ (b : Bool). cond b (letterV ∷ blank ∷ []) [] ++ positionText (r .at)) e
 
 pub vertex-room : (s : Style) (r : Record) → length (positionText (r .at)) ≤ length (vertexText s r)
 unfolding vertexText
 vertex-room s r = omega (arith, length-append (vertexMark s) (positionText (r .at)))
 
-pub vertex-least : (s : Style) (r : Record) → 21 ≤ length (vertexText s r)
+pub vertex-least : (s : Style) (r : Record) → vertexLeast ≤ length (vertexText s r)
 vertex-least s r = go (s .marked) refl
   where
-    go : (b : Bool) → s .marked ≡ b → 21 ≤ length (vertexText s r)
+    go : (b : Bool) → s .marked ≡ b → vertexLeast ≤ length (vertexText s r)
     go true e = omega (arith, vertex-marked s r e, position-least (r .at))
     go false e = omega (arith, ap length (vertex-plain s r e), position-least (r .at))
 
@@ -223,7 +245,7 @@ module _ (t : List ℕ) (o : InOrder t) where
   -- the slot of a key is in the table
   pub ordered-inside : (k : ℕ) → k < length (ordered t) → slotWidth * (nth (ordered t) k % places) + slotWidth ≤ length t
   ordered-inside k l =
-      keys-inside t o (slotAt t) (λ i r e. e) (nth (ordered t) k) (mem-sort ltb (keysOf t) (nth (ordered t) k) (at-mem 0 (ordered t) k l))
+      keys-inside t o (nth (ordered t) k) (mem-sort ltb (keysOf t) (nth (ordered t) k) (at-mem 0 (ordered t) k l))
 
   pub keyed-close : (v : ℕ) → slotWidth * (v % places) + slotWidth ≤ length t → Close (recordKeyed t v .at)
   keyed-close v h = go (slotAt t (v % places)) refl
@@ -237,7 +259,7 @@ module _ (t : List ℕ) (o : InOrder t) where
 pub vertices-sorted : (s : Style) (t : List ℕ) → InOrder t
     → texts (vertexLine s t) (ordered t) ≡ texts (vertexText s) (sorted (standing (slotAt t) (slotsOf t)))
 vertices-sorted s t o =
-    sym (texts-map (vertexText s) (recordKeyed t) (ordered t)) ∙ ap (texts (vertexText s)) (keys-sorted t o (slotAt t) (λ i r e. e))
+    sym (texts-map (vertexText s) (recordKeyed t) (ordered t)) ∙ ap (texts (vertexText s)) (keys-sorted t o)
 
 -- the numbers of a face whose vertices all stand in the table fit
 four-small : (t : List ℕ) → InOrder t → (f : Face) → Four t f → Small (cornersOf t f)

@@ -10,30 +10,29 @@ use native.Mathlib.Decide.{decLt}
 use native.Mathlib.Nat.{mul-le-mul-right, suc-mul}
 use borrow.Author.Tests.{lt-ltb, le-ltb, eq-eqb, ne-eqb}
 use lib.Dec.{eqb, ltb}
+use Rattle.writers.specs.Kept.{places}
 use Rattle.viewer.specs.Viewer.{corners, isLeast, nextFirst, leastFirst, rises}
 use Rattle.viewer.specs.declared.corners.Corners.{Corners}
 
-abbrev pub many : ℕ
-many = 65536
+-- the square of the greatest table's slots, and the cube
+abbrev pub places² : ℕ
+places² = 4294967296
 
-abbrev pub many² : ℕ
-many² = 4294967296
+abbrev pub places³ : ℕ
+places³ = 281474976710656
 
-abbrev pub many³ : ℕ
-many³ = 281474976710656
-
--- each number is below 65,536
+-- each number is that of a vertex
 pub record Small (q : Corners) : Type 0 where
-  pub a : q .a < many
-  pub b : q .b < many
-  pub c : q .c < many
-  pub d : q .d < many
+  pub a : q .a < places
+  pub b : q .b < places
+  pub c : q .c < places
+  pub d : q .d < places
 
 unfoldable pub packed : Corners → ℕ
-packed q = q .a * many³ + (q .b * many² + (q .c * many + q .d))
+packed q = q .a * places³ + (q .b * places² + (q .c * places + q .d))
 
 unfoldable pub unpacked : ℕ → Corners
-unpacked v = corners (v / many³) (v / many² % many) (v / many % many) (v % many)
+unpacked v = corners (v / places³) (v / places² % places) (v / places % places) (v % places)
 
 -- ---- two numbers in one rise by the first, then by the second
 
@@ -67,26 +66,27 @@ pack-rises q r s z =
     let rc = z .c in
     let rd = z .d in
     let rb = z .b in
-    ap (λ (t : Bool). ltb (q .a) (r .a) || (eqb (q .a) (r .a) && (ltb (q .b) (r .b) || (eqb (q .b) (r .b) && t)))) (pair many (q .c) (r .c) (q .d) (r .d) qd rd)
+    ap (λ (t : Bool). ltb (q .a) (r .a) || (eqb (q .a) (r .a) && (ltb (q .b) (r .b) || (eqb (q .b) (r .b) && t))))
+    (pair places (q .c) (r .c) (q .d) (r .d) qd rd)
     ∙ ap (λ (t : Bool). ltb (q .a) (r .a) || (eqb (q .a) (r .a) && t))
-    (pair many² (q .b) (r .b) (q .c * many + q .d) (r .c * many + r .d) (omega arith) (omega arith))
-    ∙ pair many³ (q .a) (r .a) (q .b * many² + (q .c * many + q .d)) (r .b * many² + (r .c * many + r .d)) (omega arith) (omega arith)
+    (pair places² (q .b) (r .b) (q .c * places + q .d) (r .c * places + r .d) (omega arith) (omega arith))
+    ∙ pair places³ (q .a) (r .a) (q .b * places² + (q .c * places + q .d)) (r .b * places² + (r .c * places + r .d)) (omega arith) (omega arith)
 
 -- ---- and back
 
-last : (x d : ℕ) → d < many → (x * many + d) % many ≡ d
+last : (x d : ℕ) → d < places → (x * places + d) % places ≡ d
 last x d h = omega arith
 
-first : (a b c d : ℕ) → b < many → c < many → d < many → (a * many³ + (b * many² + (c * many + d))) / many³ ≡ a
+first : (a b c d : ℕ) → b < places → c < places → d < places → (a * places³ + (b * places² + (c * places + d))) / places³ ≡ a
 first a b c d hb hc hd = omega arith
 
-upper : (a b c d : ℕ) → c < many → d < many → (a * many³ + (b * many² + (c * many + d))) / many² ≡ a * many + b
+upper : (a b c d : ℕ) → c < places → d < places → (a * places³ + (b * places² + (c * places + d))) / places² ≡ a * places + b
 upper a b c d hc hd = omega arith
 
-middle : (a b c d : ℕ) → d < many → (a * many³ + (b * many² + (c * many + d))) / many ≡ (a * many + b) * many + c
+middle : (a b c d : ℕ) → d < places → (a * places³ + (b * places² + (c * places + d))) / places ≡ (a * places + b) * places + c
 middle a b c d hd = omega arith
 
-lowest : (a b c d : ℕ) → a * many³ + (b * many² + (c * many + d)) ≡ ((a * many + b) * many + c) * many + d
+lowest : (a b c d : ℕ) → a * places³ + (b * places² + (c * places + d)) ≡ ((a * places + b) * places + c) * places + d
 lowest a b c d = omega arith
 
 pub unpack-pack : (q : Corners) → Small q → unpacked (packed q) ≡ q
@@ -99,9 +99,9 @@ unpack-pack q s =
     λ i.
     corners
     (first a b c d (s .b) (s .c) (s .d) i)
-    ((ap (λ (x : ℕ). x % many) (upper a b c d (s .c) (s .d)) ∙ last a b (s .b)) i)
-    ((ap (λ (x : ℕ). x % many) (middle a b c d (s .d)) ∙ last (a * many + b) c (s .c)) i)
-    ((ap (λ (x : ℕ). x % many) (lowest a b c d) ∙ last ((a * many + b) * many + c) d (s .d)) i)
+    ((ap (λ (x : ℕ). x % places) (upper a b c d (s .c) (s .d)) ∙ last a b (s .b)) i)
+    ((ap (λ (x : ℕ). x % places) (middle a b c d (s .d)) ∙ last (a * places + b) c (s .c)) i)
+    ((ap (λ (x : ℕ). x % places) (lowest a b c d) ∙ last ((a * places + b) * places + c) d (s .d)) i)
 
 pub unpack-all : (qs : List Corners) → ((q : Corners) → List·Memᴰ q qs → Small q) → map unpacked (map packed qs) ≡ qs
 unpack-all [] h = refl

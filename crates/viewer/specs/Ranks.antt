@@ -30,8 +30,9 @@ use Rattle.text.specs.LineOrder.{orders, orderOf, Close, close, earlier, order-
 use Rattle.sorting.specs.Sorting.{sortBy, keyWidth, keyIn}
 use Rattle.sorting.specs.SortLaws.{sort-length, Rising, Decides, sort-rising, rising-at}
 use Rattle.sorting.specs.Tally.{nth}
-use Rattle.writers.specs.Kept.{places, keyOf, keyed, keysBelow}
+use Rattle.writers.specs.Kept.{places}
 use Rattle.viewer.specs.Viewer.{howMany, numberOf}
+use Rattle.viewer.specs.Keyed.{keyOf, keyed, keysBelow}
 use Rattle.viewer.specs.Counting.{many-append, many-same, many-more, many-most, many-fewer, many-sort, many-rank}
 use Rattle.viewer.specs.declared.numbers.Widths.{Widths}
 
@@ -91,7 +92,7 @@ module _ (t : List ℕ) (o : InOrder t) where
       subst Close (lookup-point t o p (f .0) (f .1)) (close (f .0) (lookup-valid t o p (f .0) (f .1)))
 
   -- its number is below that of the vertices, of which there are at most 65,536
-  pub held-number : (p : Point) → holds t p ≡ true → numberOf t p < 65536
+  pub held-number : (p : Point) → holds t p ≡ true → numberOf t p < places
   held-number p h =
       let f = found p h in
       let c = held-close p h in
@@ -200,7 +201,7 @@ reach k first n h l = go (decLt n (k - first))
     go (yes m) = lt-leb (k - first) n m ∙ sym (lt-leb k (first + n) (omega arith))
     go (no m) = le-leb (k - first) n (omega arith) ∙ sym (le-leb k (first + n) (omega arith))
 
-module _ (t : List ℕ) (o : InOrder t) (first : ℕ) (w : Widths) (c : Cuts t first w) (one : first ≤ 1) (p : Point) (k : Close p) (few : numberOf t p < 65536)
+module _ (t : List ℕ) (o : InOrder t) (first : ℕ) (w : Widths) (c : Cuts t first w) (one : first ≤ 1) (p : Point) (k : Close p) (few : numberOf t p < places)
     (inside : orderOf p < orders) where
   reaches : (x rank : ℕ) → 2 ≤ rank → Cut t (rank - first) x → bit (leb x (orderOf p)) ≡ bit (leb rank (first + numberOf t p))
   reaches x rank h u =

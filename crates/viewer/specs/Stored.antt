@@ -12,6 +12,10 @@ use Rattle.sorting.specs.Sorting.{keyWidth, keyIn}
 use Rattle.sorting.specs.Tally.{nth}
 use Rattle.sorting.specs.Keys.{Put}
 
+-- past every length of lent bytes
+abbrev pub lengths : ℕ
+lengths = 18446744073709551616
+
 pub record Stored (o : List ℕ) (s : ℕ) (ks o′ : List ℕ) : Type 0 where
   pub keys : (j : ℕ) → j < length ks → keyIn o′ (s + j) ≡ nth ks j
   pub before : (j : ℕ) → j < s → keyIn o′ j ≡ keyIn o j

@@ -3,6 +3,7 @@ ghost use mathlib.Core.Path.{_≡_};
 ghost use Prim.Native.Nat.{_<_};
 ghost use Rattle.viewer.specs.Viewer.{corners, isLeast, nextFirst, leastFirst};
 ghost use Rattle.viewer.specs.Packed.{packed, unpacked, Small};
+use crate::numbers::PLACES;
 
 // The numbers of a face's vertices, in their order round.
 pub struct Corners {
@@ -12,9 +13,7 @@ pub struct Corners {
     pub d: u64,
 }
 
-// The vertices of the greatest table, its square and its cube.
-const PLACES: u64 = 65536;
-
+// The square of the greatest table's slots, and the cube.
 const PLACES_2: u64 = 4294967296;
 
 const PLACES_3: u64 = 281474976710656;

@@ -4,22 +4,23 @@ ghost use mathlib.Core.Path.{_≡_};
 ghost use Prim.Native.Nat.{_+_, _*_, _≤_, _<_};
 ghost use lib.ListN.{length};
 ghost use Rattle.sorting.specs.Sorting.{keyWidth};
-ghost use Rattle.viewer.specs.Stored.{Guessed};
+ghost use Rattle.writers.specs.Kept.{places};
+ghost use Rattle.viewer.specs.Stored.{lengths, Guessed};
+ghost use Rattle.viewer.specs.Lines.{vertexLeast, faceLeast};
+use crate::numbers::PLACES;
 use sorting::key;
 use sorting::put_key;
 
-// The slots of the greatest table: a vertex's key holds its slot below its order.
-const PLACES: u64 = 65536;
-
-const KEY_WIDTH: usize = 8;
+// The bytes of a key.
+pub const KEY_WIDTH: usize = 8;
 
 // The least bytes of a face's line.
 const FACE_LEAST: usize = 10;
 
 // Where the guesses begin, 0 where the file, of which the faces' lines begin at `start`, has no room for them.
 pub fn base_of(vertices: usize, faces: u32, n: usize, start: usize) -> usize
-    requires { ⌜ (21 * vertices ≤ start) × ((n ≤ 65536) × (start + 10 * faces < 18446744073709551616)) ⌝ }
-    ensures { λ r. ⌜ (vertices < r → keyWidth * (r + n) ≤ start + 10 * faces) ⌝ }
+    requires { ⌜ (vertexLeast * vertices ≤ start) × ((n ≤ places) × (start + faceLeast * faces < lengths)) ⌝ }
+    ensures { λ r. ⌜ (vertices < r → keyWidth * (r + n) ≤ start + faceLeast * faces) ⌝ }
 {
     let many = faces as usize;
     let base = vertices + many;
@@ -55,7 +56,7 @@ fn put_guess(out: &mut [u8], k: usize, base: usize, n: usize, i: usize)
 
 // How many of k keys get a guess: all or none.
 fn guessed(len: usize, k: usize, base: usize, n: usize) -> usize
-    requires { ⌜ n ≤ 65536 ⌝ }
+    requires { ⌜ n ≤ places ⌝ }
     ensures { λ r. ⌜ (r ≤ k) × (0 < r → (k < base) × (keyWidth * (base + n) ≤ len)) ⌝ }
 {
     let last = len / KEY_WIDTH;
@@ -73,7 +74,7 @@ fn guessed(len: usize, k: usize, base: usize, n: usize) -> usize
 
 // Stores the guesses of k sorted keys of vertices.
 pub fn put_guesses(out: &mut [u8], k: usize, base: usize, n: usize)
-    requires { ⌜ (keyWidth * k ≤ length (now out)) × (n ≤ 65536) ⌝ }
+    requires { ⌜ (keyWidth * k ≤ length (now out)) × (n ≤ places) ⌝ }
     ensures { λ _. ⌜ Guessed (now (out .entry)) k base n (now (out .exit)) ⌝ }
 {
     let count = guessed(out.len(), k, base, n);

@@ -25,10 +25,12 @@ use crate::guesses::guess;
 use crate::numbers::number_near;
 use counts::Face;
 use counts::Placed;
-use counts::next_place;
+use counts::next_placed;
 use counts::with_slot;
+use lattice::ANSWER_NUMBERS;
 use lattice::Record;
-use lattice::adjacent_of;
+use lattice::point_at;
+use lattice::ring;
 use mesh_faces::Fresh;
 use mesh_faces::fresh_between;
 use sorting::put_key;
@@ -90,7 +92,7 @@ fn put_corner(
     }
 }
 
-// Stores the keys of v's faces. Each adjacent point is searched for once, and the first once more.
+// Stores the keys of v's faces. Each adjacent point is searched for once.
 fn put_star(
     t: &[u8],
     v: Record,
@@ -114,10 +116,13 @@ fn put_star(
         return from;
     }
     let mut at = from;
-    let mut a = with_slot(t, adjacent_of(v, 0), n);
+    let mut row = [0; ANSWER_NUMBERS];
+    ring(&mut row, v);
+    let first = with_slot(t, point_at(&row, v, 0), n);
+    let mut a = first;
     let mut j = 0;
     while j < d {
-        let b = with_slot(t, adjacent_of(v, next_place(d, j)), n);
+        let b = next_placed(t, &row, v, j, first, n);
         at = put_corner(t, v, j, a, b, k, n, plain, out, vertices, base, at);
         a = b;
         j += 1;

@@ -2,18 +2,19 @@
 ghost use mathlib.Core.Path.{_≡_};
 ghost use mathlib.Core.Bool.{false};
 ghost use mathlib.Core.List.{List};
-ghost use Prim.Native.Nat.{ℕ, _+_, _≤_, _<_};
+ghost use Prim.Native.Nat.{ℕ, _+_, _*_, _≤_, _<_};
 ghost use lib.ListN.{length};
 ghost use Rattle.lattice.specs.RecordLaws.{Inner};
 ghost use Rattle.table.specs.Slots.{slotsOf, slotAt};
 ghost use Rattle.table.specs.Order.{InOrder};
 ghost use Rattle.table.specs.declared.slots.Slot.the-variants.{Holds};
 ghost use Rattle.counts.specs.declared.faces.Face.{Face};
+ghost use Rattle.writers.specs.Kept.{places};
 ghost use Rattle.mesh_faces.specs.MeshFaces.{tornOf};
 ghost use Rattle.viewer.specs.Viewer.{texts};
 ghost use Rattle.viewer.specs.Ranks.{Cuts};
 ghost use Rattle.mesh_faces.specs.Once.{freshAt, freshStar, freshSlot, freshBelow, Four};
-ghost use Rattle.viewer.specs.Lines.{faceLine};
+ghost use Rattle.viewer.specs.Lines.{faceLine, faceMost, starMost};
 use crate::numbers::Widths;
 use crate::numbers::number_width;
 use crate::styles::Style;
@@ -24,17 +25,20 @@ use mesh_faces::fresh_at;
 use table::Slot;
 use table::read_slot;
 
+// The bytes of a face's line that are no digits of its numbers.
+pub const FACE_WIDTH: usize = 6;
+
 // How long the line of a face is.
 fn face_length(s: Style, w: Widths, f: Face) -> usize
     requires { ⌜ ((t : List ℕ) × (InOrder t × (Cuts t (s .first) w × Four t f))) × (s .first ≤ 1) ⌝ }
-    ensures { λ r. ⌜ ((t : List ℕ) → InOrder t → Cuts t (s .first) w → Four t f → r ≡ length (faceLine s t f)) × (r ≤ 26) ⌝ }
+    ensures { λ r. ⌜ ((t : List ℕ) → InOrder t → Cuts t (s .first) w → Four t f → r ≡ length (faceLine s t f)) × (r ≤ faceMost) ⌝ }
 {
     let first = s.first;
     let a = number_width(w, first, f.at);
     let b = number_width(w, first, f.adjacent);
     let c = number_width(w, first, f.opposite);
     let d = number_width(w, first, f.next);
-    6 + a + b + c + d
+    FACE_WIDTH + a + b + c + d
 }
 
 // How long the line of corner j's face is, if that is written here.
@@ -43,7 +47,7 @@ fn corner_length(t: &[u8], v: Record, j: u8, k: usize, n: usize, s: Style, w: Wi
     requires { ⌜ Cuts (now t) (s .first) w × (s .first ≤ 1) ⌝ }
     requires { ⌜ (k < n) × (slotAt (now t) k ≡ Holds v) ⌝ }
     requires { ⌜ Inner v × (j < v .d) ⌝ }
-    ensures { λ r. ⌜ (r ≡ length (texts (faceLine s (now (t .entry))) (freshAt (now (t .entry)) k v j))) × (r ≤ 26) ⌝ }
+    ensures { λ r. ⌜ (r ≡ length (texts (faceLine s (now (t .entry))) (freshAt (now (t .entry)) k v j))) × (r ≤ faceMost) ⌝ }
 {
     match fresh_at(t, v, j, k, n) {
         Fresh::Not => 0,
@@ -56,7 +60,7 @@ fn star_length(t: &[u8], v: Record, k: usize, n: usize, s: Style, w: Widths) -> 
     requires { ⌜ InOrder (now t) × ((n ≡ slotsOf (now t)) × (tornOf (now t) ≡ false)) ⌝ }
     requires { ⌜ Cuts (now t) (s .first) w × (s .first ≤ 1) ⌝ }
     requires { ⌜ (k < n) × (slotAt (now t) k ≡ Holds v) ⌝ }
-    ensures { λ r. ⌜ (r ≡ length (texts (faceLine s (now (t .entry))) (freshStar (now (t .entry)) k v))) × (r ≤ 156) ⌝ }
+    ensures { λ r. ⌜ (r ≡ length (texts (faceLine s (now (t .entry))) (freshStar (now (t .entry)) k v))) × (r ≤ starMost) ⌝ }
 {
     let d = v.d;
     let mut total = 0;
@@ -73,7 +77,7 @@ fn slot_length(t: &[u8], k: usize, n: usize, s: Style, w: Widths) -> usize
     requires { ⌜ InOrder (now t) × ((n ≡ slotsOf (now t)) × (tornOf (now t) ≡ false)) ⌝ }
     requires { ⌜ Cuts (now t) (s .first) w × (s .first ≤ 1) ⌝ }
     requires { ⌜ k < n ⌝ }
-    ensures { λ r. ⌜ (r ≡ length (texts (faceLine s (now (t .entry))) (freshSlot (now (t .entry)) k))) × (r ≤ 156) ⌝ }
+    ensures { λ r. ⌜ (r ≡ length (texts (faceLine s (now (t .entry))) (freshSlot (now (t .entry)) k))) × (r ≤ starMost) ⌝ }
 {
     match read_slot(t, k) {
         Slot::Free => 0,
@@ -85,7 +89,7 @@ fn slot_length(t: &[u8], k: usize, n: usize, s: Style, w: Widths) -> usize
 pub fn faces_length(t: &[u8], n: usize, s: Style, w: Widths) -> usize
     requires { ⌜ InOrder (now t) × ((n ≡ slotsOf (now t)) × (tornOf (now t) ≡ false)) ⌝ }
     requires { ⌜ Cuts (now t) (s .first) w × (s .first ≤ 1) ⌝ }
-    ensures { λ r. ⌜ (r ≡ length (texts (faceLine s (now (t .entry))) (freshBelow (now (t .entry)) n))) × (r ≤ 10223616) ⌝ }
+    ensures { λ r. ⌜ (r ≡ length (texts (faceLine s (now (t .entry))) (freshBelow (now (t .entry)) n))) × (r ≤ starMost * places) ⌝ }
 {
     let mut total = 0;
     let mut k = 0;

@@ -18,7 +18,7 @@ ghost use Rattle.sorting.specs.Sorting.{sortBy};
 ghost use Rattle.writers.specs.Files.{outputAfter, putOf};
 ghost use Rattle.mesh_faces.specs.MeshFaces.{tornOf};
 ghost use Rattle.viewer.specs.Viewer.{texts, viewerFile, viewOf, writeOffOf, writeObjOf};
-ghost use Rattle.viewer.specs.Lines.{keyLine, Queue};
+ghost use Rattle.viewer.specs.Lines.{startMost, keyLine, Queue};
 ghost use Rattle.viewer.specs.CallLaws.{vertexPart, facePart};
 
 mod corners;
@@ -29,6 +29,7 @@ mod lines;
 mod numbers;
 mod styles;
 
+use crate::guesses::KEY_WIDTH;
 use crate::guesses::base_of;
 use crate::guesses::put_guesses;
 use crate::keys::put_faces;
@@ -53,9 +54,7 @@ use sorting::sort;
 use table::in_order;
 use table::slots_of;
 
-// The bytes of a key, and of the longest line of a face.
-const KEY_WIDTH: usize = 8;
-
+// The bytes of the longest line of a face.
 const FACE_MOST: usize = 26;
 
 // The number that document 02 gives, and the bytes written, 0 if refused.
@@ -121,7 +120,7 @@ fn write_body(
 fn is_short(t: &[u8], n: usize, s: Style, faces: u32, start: usize, len: usize) -> bool
     requires { ⌜ InOrder (now t) × (n ≡ slotsOf (now t)) ⌝ }
     requires { ⌜ (tornOf (now t) ≡ false) × (s .first ≤ 1) ⌝ }
-    requires { ⌜ (faces ≡ facesIn (now t)) × (start ≤ 4294967296) ⌝ }
+    requires { ⌜ (faces ≡ facesIn (now t)) × (start ≤ startMost) ⌝ }
     ensures { λ r. ⌜ r ≡ ltb len (start + length (facePart s (now (t .entry)))) ⌝ }
 {
     if start + FACE_MOST * faces as usize <= len {

@@ -8,13 +8,17 @@ ghost use Rattle.table.specs.Slots.{slotWidth, slotsOf, slotAt};
 ghost use Rattle.table.specs.Order.{InOrder};
 ghost use Rattle.text.specs.LineOrder.{Close};
 ghost use Rattle.sorting.specs.Sorting.{keyWidth, keysIn};
-ghost use Rattle.writers.specs.Kept.{places, keyed, keysBelow, recordKeyed, standing, Added};
+ghost use Rattle.writers.specs.Kept.{places, standing, Added};
 ghost use Rattle.writers.specs.KeptLaws.{Filled};
 ghost use Rattle.viewer.specs.Viewer.{headText, vertexText, texts};
+ghost use Rattle.viewer.specs.Keyed.{keyed, keysBelow, recordKeyed};
 ghost use Rattle.viewer.specs.Ranks.{Stand, ordered};
-ghost use Rattle.viewer.specs.Lines.{keyLine, faceMost, slotLine, vertexLine, Queue};
+ghost use Rattle.viewer.specs.Lines.{keyLine, faceMost, vertexMost, headMost, slotLine, vertexLine, Queue};
 use crate::corners::unpack;
+use crate::lengths::FACE_WIDTH;
+use crate::numbers::PLACES;
 use crate::styles::Style;
+use coordinates::BLANK;
 use coordinates::position_back;
 use coordinates::position_length;
 use counts::Counts;
@@ -31,25 +35,27 @@ use text::width;
 use text::write_bytes;
 use text::write_number;
 
-const PLACES: u64 = 65536;
+// The bytes of `v`, or of what stands before a face, and its blank.
+const MARK_WIDTH: usize = 2;
 
-const BLANK: u8 = b' ';
+// The bytes of the head that are no digits: OFF, and what ends the lines and the numbers.
+const HEAD_WIDTH: usize = 7;
 
 // ---- vertices
 
 // How long the line of a vertex is.
 fn vertex_length(s: Style, r: Record) -> usize
     requires { ⌜ Close (r .at) ⌝ }
-    ensures { λ w. ⌜ (w ≡ length (vertexText s r)) × (w ≤ 43) ⌝ }
+    ensures { λ w. ⌜ (w ≡ length (vertexText s r)) × (w ≤ vertexMost) ⌝ }
 {
     let w = position_length(r.at);
-    if s.marked { w + 2 } else { w }
+    if s.marked { w + MARK_WIDTH } else { w }
 }
 
 // The same of what slot i holds.
 fn slot_vertex_length(t: &[u8], i: usize, s: Style) -> usize
     requires { ⌜ InOrder (now t) × (i < slotsOf (now t)) ⌝ }
-    ensures { λ w. ⌜ (w ≡ length (slotLine s (slotAt (now (t .entry)) i))) × (w ≤ 43) ⌝ }
+    ensures { λ w. ⌜ (w ≡ length (slotLine s (slotAt (now (t .entry)) i))) × (w ≤ vertexMost) ⌝ }
 {
     match read_slot(t, i) {
         Slot::Free => 0,
@@ -60,7 +66,7 @@ fn slot_vertex_length(t: &[u8], i: usize, s: Style) -> usize
 // How long the lines of all vertices are.
 pub fn vertices_length(t: &[u8], n: usize, s: Style) -> usize
     requires { ⌜ InOrder (now t) × (n ≡ slotsOf (now t)) ⌝ }
-    ensures { λ w. ⌜ (w ≡ length (texts (vertexText s) (standing (slotAt (now (t .entry))) n))) × (w ≤ 2818048) ⌝ }
+    ensures { λ w. ⌜ (w ≡ length (texts (vertexText s) (standing (slotAt (now (t .entry))) n))) × (w ≤ vertexMost * places) ⌝ }
 {
     let mut total = 0;
     let mut i = 0;
@@ -109,7 +115,7 @@ fn vertex_back(out: &mut [u8], end: usize, s: Style, r: Record) -> usize
     let at = position_back(out, end, r.at);
     if s.marked {
         let mark = [b'v', BLANK];
-        let from = at - 2;
+        let from = at - MARK_WIDTH;
         write_bytes(out, from, &mark);
         return from;
     }
@@ -159,7 +165,7 @@ fn face_back(out: &mut [u8], end: usize, s: Style, v: u64) -> usize
     let past_a = number_back(out, past_b, first + q.b as u32, BLANK);
     let past = number_back(out, past_a, first + q.a as u32, BLANK);
     let mark = [s.face, BLANK];
-    let at = past - 2;
+    let at = past - MARK_WIDTH;
     write_bytes(out, at, &mark);
     at
 }
@@ -175,7 +181,7 @@ fn key_length(s: Style, v: u64) -> usize
     let b = width(first + q.b as u32);
     let c = width(first + q.c as u32);
     let d = width(first + q.d as u32);
-    6 + a + b + c + d
+    FACE_WIDTH + a + b + c + d
 }
 
 // How long the lines of k keys of faces are.
@@ -213,10 +219,10 @@ pub fn write_faces(out: &mut [u8], k: usize, end: usize, s: Style)
 
 // How long the head is.
 pub fn head_length(s: Style, c: Counts) -> usize
-    ensures { λ w. ⌜ (w ≡ length (headText s c)) × (w ≤ 37) ⌝ }
+    ensures { λ w. ⌜ (w ≡ length (headText s c)) × (w ≤ headMost) ⌝ }
 {
     if s.head {
-        width(c.vertices) + width(c.faces) + width(c.edges) + 7
+        width(c.vertices) + width(c.faces) + width(c.edges) + HEAD_WIDTH
     } else {
         0
     }

@@ -10,6 +10,7 @@ ghost use Rattle.table.specs.Slots.{slotsOf};
 ghost use Rattle.table.specs.Order.{InOrder};
 ghost use Rattle.text.specs.Decimal.{digits};
 ghost use Rattle.text.specs.LineOrder.{Close};
+ghost use Rattle.writers.specs.Kept.{places};
 ghost use Rattle.viewer.specs.Viewer.{numberOf};
 ghost use Rattle.sorting.specs.Sorting.{keyWidth};
 ghost use Rattle.viewer.specs.Ranks.{belowAt, belowOf, Cut, Cuts, Stand, Searched};
@@ -20,7 +21,7 @@ use table::read_slot;
 use text::order;
 
 // The slots of the greatest table: a key holds an order above its slot.
-const PLACES: u64 = 65536;
+pub const PLACES: u64 = 65536;
 
 // Past every order.
 const ORDERS: u64 = 1924145348608;
@@ -110,8 +111,8 @@ pub fn widths_of(table: &[u8], n: usize, first: u32) -> Widths
 // How many digits the number of the vertex at p has.
 pub fn number_width(w: Widths, first: u32, p: Point) -> usize
     requires { ⌜ Close p ⌝ }
-    requires { ⌜ ((t : List ℕ) × (InOrder t × (Cuts t first w × (numberOf t p < 65536)))) × (first ≤ 1) ⌝ }
-    ensures { λ r. ⌜ ((t : List ℕ) → InOrder t → Cuts t first w → numberOf t p < 65536 → r ≡ length (digits (first + numberOf t p)))
+    requires { ⌜ ((t : List ℕ) × (InOrder t × (Cuts t first w × (numberOf t p < places)))) × (first ≤ 1) ⌝ }
+    ensures { λ r. ⌜ ((t : List ℕ) → InOrder t → Cuts t first w → numberOf t p < places → r ≡ length (digits (first + numberOf t p)))
         × (r ≤ 5) ⌝ }
 {
     let x = order(p);

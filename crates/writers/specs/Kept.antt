@@ -1,30 +1,23 @@
 -- What the code writes of a table, slot by slot: the records that are not marked to be left out, and their keys.
--- `keptAt` what is written of a slot · `keyOf` the key of a record · `standing`, `keysBelow` the records and the keys of the first slots · `recordKeyed`
--- the record of a key.
+-- `keptAt` what is written of a slot · `standing` the records of the first slots · `keyFor` the key of a record, `recordFor` the record of a key.
 -- Assumes nothing.
 use mathlib.Core.Path.{_≡_}
 use mathlib.Core.Bool.{Bool, cond, _&&_}
 use mathlib.Core.List.{List, [], _∷_, _++_}
-use Prim.Native.Nat.{ℕ, zero, suc, _+_, _*_, _%_}
+use Prim.Native.Nat.{ℕ, zero, suc, _+_, _*_, _/_, _%_}
 use lib.Dec.{eqb}
-use Rattle.lattice.specs.Records.{nobody}
 use Rattle.lattice.specs.declared.records.Record.{Record}
 use Rattle.table.specs.Slots.{slotAt}
 use Rattle.table.specs.Entries.{listed}
 use Rattle.table.specs.declared.slots.Slot.{Slot}
 use Rattle.table.specs.declared.slots.Slot.the-variants.{Free, Holds}
 use Rattle.marks.specs.Marks.{markedAt}
-use Rattle.text.specs.LineOrder.{orderOf}
+use Rattle.text.specs.LineOrder.{orderOf, pointOf}
 use Rattle.sorting.specs.Keys.{Put}
 
 -- the slots of the greatest table: there are no more keys
 abbrev pub places : ℕ
 places = 65536
-
--- the key of record r in slot i
-unfoldable pub keyOf : Record → ℕ → ℕ
-unfolding orderOf
-keyOf r i = orderOf (r .at) * places + i
 
 -- the bytes of a mark for each slot
 abbrev pub markBytes : ℕ
@@ -44,22 +37,17 @@ unfoldable pub standing : (ℕ → Slot) → ℕ → List Record
 standing f zero = []
 standing f (suc i) = standing f i ++ listed (f i)
 
--- their keys
-abbrev pub keyed : ℕ → Slot → List ℕ
-keyed i Free = []
-keyed i (Holds r) = keyOf r i ∷ []
+-- degree, orientation and level as one number
+abbrev pub shapeOf : ℕ → ℕ → ℕ → ℕ
+shapeOf d k n = d * 256 + k * 16 + n
 
-unfoldable pub keysBelow : (ℕ → Slot) → ℕ → List ℕ
-keysBelow f zero = []
-keysBelow f (suc i) = keysBelow f i ++ keyed i (f i)
+-- the key of a record
+abbrev pub keyFor : Record → ℕ
+keyFor r = orderOf (r .at) * places + shapeOf (r .d) (r .k) (r .n .0)
 
--- the record of a key: that of its slot
-abbrev pub recordIn : Slot → Record
-recordIn Free = nobody
-recordIn (Holds r) = r
-
-abbrev pub recordKeyed : List ℕ → ℕ → Record
-recordKeyed t v = recordIn (slotAt t (v % places))
+-- the record of a key
+abbrev pub recordFor : ℕ → Record
+recordFor v = record { at = pointOf (v / places); d = v / 256 % 256; k = v / 16 % 16; n = record { 0 = v % 16 } }
 
 -- keys vs, at most one, stored from key k on
 abbrev pub Added : List ℕ → ℕ → List ℕ → List ℕ → ℕ → Type 0

@@ -1,13 +1,12 @@
--- The records that are kept, their keys, and what sorting the keys does to the records.
--- `standing-more`, `keys-none`, `keys-more` slot by slot · `keys-length`, `keys-grow` · `keys-sorted` the records of the sorted keys are the records in
--- file order · `keys-inside` a key's slot is in the table · `lines-sorted` as many bytes in any order · `Filled` the keys in the output: `filled-none`,
--- `filled-more` · `kept-part`, `kept-valid`, `kept-close` what is kept stands in the table and is valid.
+-- The records that are kept, and their keys.
+-- `standing-more`, `standing-grow` slot by slot · `tail-order` keys that differ in their orders · `lines-sorted` as many bytes in any order ·
+-- `Filled` the keys in the output: `filled-none`, `filled-same`, `filled-put` · `kept-part`, `kept-valid`, `kept-near` what is kept stands in the table
+-- and is valid.
 -- Assumes nothing.
 use mathlib.Core.Path.{_≡_, refl, sym, ap, _∙_, subst}
-use mathlib.Core.Logic.{_⊎_, inl, inr}
 use mathlib.Core.Bool.{Bool, true, false, cond, _&&_}
-use mathlib.Core.List.{List, [], _∷_, _++_, map, map-append, append-nil, List·Memᴰ, List·Memᴰ·append-cases, List·Memᴰ·eq-of-singleton, List·Memᴰ·not-nil}
-use Prim.Native.Nat.{ℕ, zero, suc, _+_, _*_, _%_, _≤_, _<_}
+use mathlib.Core.List.{List, [], _∷_, _++_, append-nil}
+use Prim.Native.Nat.{ℕ, zero, suc, _+_, _*_, _≤_, _<_}
 use native.Mathlib.Omega.{arith}
 use native.Mathlib.Decide.{ℕ-discrete, decLt, decLe}
 use borrow.Author.Tests.{lt-ltb, le-ltb}
@@ -23,14 +22,12 @@ use Rattle.table.specs.declared.slots.Slot.{Slot}
 use Rattle.table.specs.declared.slots.Slot.the-variants.{Free, Holds}
 use Rattle.text.specs.Line.{lineOf, lines}
 use Rattle.text.specs.LineLaws.{lines-join}
-use Rattle.text.specs.LineOrder.{orderOf, Close, close, order-earlier, order-one}
+use Rattle.text.specs.Near.{Near, valid-near}
 use Rattle.marks.specs.Marks.{markedAt}
 use Rattle.sorting.specs.Sorting.{insertBy, sortBy, keyWidth, keyIn}
-use Rattle.sorting.specs.SortLaws.{sort-map}
 use Rattle.sorting.specs.Tally.{nth}
 use Rattle.sorting.specs.Keys.{Put}
-use Rattle.writers.specs.Files.{before, sorted}
-use Rattle.writers.specs.Kept.{places, keyOf, keptOf, keptAt, standing, keyed, keysBelow, recordIn, recordKeyed, Added}
+use Rattle.writers.specs.Kept.{places, keptOf, keptAt, standing}
 
 -- ---- slot by slot
 
@@ -38,121 +35,26 @@ pub standing-more : (f : ℕ → Slot) (i : ℕ) → standing f (i + 1) ≡ stan
 unfolding standing
 standing-more f i = let e : i + 1 ≡ suc i = omega arith in ap (standing f) e
 
-pub keys-none : (f : ℕ → Slot) → keysBelow f 0 ≡ []
-unfolding keysBelow
-keys-none f = refl
-
-pub keys-more : (f : ℕ → Slot) (i : ℕ) → keysBelow f (i + 1) ≡ keysBelow f i ++ keyed i (f i)
-unfolding keysBelow
-keys-more f i = let e : i + 1 ≡ suc i = omega arith in ap (keysBelow f) e
-
-pub keys-length : (f : ℕ → Slot) (i : ℕ) → length (keysBelow f i) ≡ length (standing f i)
-unfolding keysBelow standing
-keys-length f zero = refl
-keys-length f (suc i) =
-    let a = keys-length f i in
-    let b = length-append (keysBelow f i) (keyed i (f i)) in
-    let c = length-append (standing f i) (listed (f i)) in
-    let d = one (f i) in
-    omega arith
+pub standing-grow : (f : ℕ → Slot) (i n : ℕ) → i ≤ n → length (standing f i) ≤ length (standing f n)
+unfolding standing
+standing-grow f i zero h = let e : i ≡ 0 = omega arith in subst (λ (k : ℕ). length (standing f k) ≤ 0) (sym e) (omega arith)
+standing-grow f i (suc n) h = go (decLe i n) (λ l. standing-grow f i n l)
   where
-    one : (s : Slot) → length (keyed i s) ≡ length (listed s)
-    one Free = refl
-    one (Holds r) = refl
+    go : Dec (i ≤ n) → (i ≤ n → length (standing f i) ≤ length (standing f n)) → length (standing f i) ≤ length (standing f n ++ listed (f n))
+    go (yes l) ih = let a = ih l in omega (arith, length-append (standing f n) (listed (f n)))
+    go (no l) ih = let e : i ≡ suc n = omega arith in subst (λ (k : ℕ). length (standing f k) ≤ length (standing f (suc n))) (sym e) (omega arith)
 
-pub keys-grow : (f : ℕ → Slot) (i n : ℕ) → i ≤ n → length (keysBelow f i) ≤ length (keysBelow f n)
-unfolding keysBelow
-keys-grow f i zero h = let e : i ≡ 0 = omega arith in subst (λ (k : ℕ). length (keysBelow f k) ≤ 0) (sym e) (omega arith)
-keys-grow f i (suc n) h = go (decLe i n) (λ l. keys-grow f i n l)
+-- keys of different orders are compared by them, whatever their tails
+pub tail-order : (x y i j : ℕ) → i < places → j < places → (x ≡ y → i ≡ j) → ltb (x * places + i) (y * places + j) ≡ ltb x y
+tail-order x y i j hi hj one = go (decLt x y) (decLt y x)
   where
-    go : Dec (i ≤ n) → (i ≤ n → length (keysBelow f i) ≤ length (keysBelow f n)) → length (keysBelow f i) ≤ length (keysBelow f n ++ keyed n (f n))
-    go (yes l) ih = let a = ih l in omega (arith, length-append (keysBelow f n) (keyed n (f n)))
-    go (no l) ih = let e : i ≡ suc n = omega arith in subst (λ (k : ℕ). length (keysBelow f k) ≤ length (keysBelow f (suc n))) (sym e) (omega arith)
-
--- a key, and the slot that it comes from
-pub record Comes (f : ℕ → Slot) (n v : ℕ) : Type 0 where
-  pub slot : ℕ
-  pub rec : Record
-  pub below : slot < n
-  pub holds : f slot ≡ Holds rec
-  pub is : v ≡ keyOf rec slot
-
-pub keys-come : (f : ℕ → Slot) (n v : ℕ) → List·Memᴰ v (keysBelow f n) → Comes f n v
-unfolding keysBelow
-keys-come f zero v m = absurd (List·Memᴰ·not-nil m)
-keys-come f (suc n) v m = go (f n) refl (List·Memᴰ·append-cases (keysBelow f n) m) (λ k. keys-come f n v k)
-  where
-    go : (s : Slot) → f n ≡ s → List·Memᴰ v (keysBelow f n) ⊎ List·Memᴰ v (keyed n (f n)) → (List·Memᴰ v (keysBelow f n) → Comes f n v) → Comes f (suc n) v
-    go s e (inl k) ih = let x = ih k in record { slot = x .slot; rec = x .rec; below = omega (arith, x .below); holds = x .holds; is = x .is }
-    go Free e (inr k) ih = absurd (List·Memᴰ·not-nil (subst (λ (s : Slot). List·Memᴰ v (keyed n s)) e k))
-    go (Holds r) e (inr k) ih =
-        record { slot = n; rec = r; below = omega arith; holds = e; is = List·Memᴰ·eq-of-singleton (subst (λ (s : Slot). List·Memᴰ v (keyed n s)) e k) }
-
-key-slot : (r : Record) (i : ℕ) → i < places → keyOf r i % places ≡ i
-unfolding keyOf
-key-slot r i h = omega arith
-
--- ---- of a table in order, where f keeps some of its slots
-
-module _ (t : List ℕ) (o : InOrder t) (f : ℕ → Slot) (part : (i : ℕ) (r : Record) → f i ≡ Holds r → slotAt t i ≡ Holds r) where
-  few : (i : ℕ) → i < slotsOf t → i < places
-  few i h = omega (arith, o .fits .most)
-
-  come-record : (v : ℕ) (c : Comes f (slotsOf t) v) → recordKeyed t v ≡ c .rec
-  come-record v c =
-      ap (λ (x : ℕ). recordIn (slotAt t (x % places))) (c .is)
-      ∙ ap (λ (i : ℕ). recordIn (slotAt t i)) (key-slot (c .rec) (c .slot) (few (c .slot) (c .below)))
-      ∙ ap recordIn (part (c .slot) (c .rec) (c .holds))
-
-  -- a key's slot is in the table
-  pub keys-inside : (v : ℕ) → List·Memᴰ v (keysBelow f (slotsOf t)) → slotWidth * (v % places) + slotWidth ≤ length t
-  keys-inside v m =
-      let c = keys-come f (slotsOf t) v m in
-      let e : v % places ≡ c .slot = ap (λ (x : ℕ). x % places) (c .is) ∙ key-slot (c .rec) (c .slot) (few (c .slot) (c .below)) in
-      omega (arith, c .below, o .fits .long)
-
-  pub keys-map : (k : ℕ) → k ≤ slotsOf t → map (recordKeyed t) (keysBelow f k) ≡ standing f k
-  unfolding keysBelow standing
-  keys-map zero h = refl
-  keys-map (suc k) h =
-      map-append (recordKeyed t) (keysBelow f k) (keyed k (f k)) ∙ (λ i. keys-map k (omega arith) i ++ one (f k) refl i)
-    where
-      one : (s : Slot) → f k ≡ s → map (recordKeyed t) (keyed k s) ≡ listed s
-      one Free e = refl
-      one (Holds r) e = λ i. (ap (λ (x : ℕ). recordIn (slotAt t x)) (key-slot r k (few k (omega arith))) ∙ ap recordIn (part k r e)) i ∷ []
-
-  key-order : (r s : Record) (i j : ℕ) → i < places → j < places → (orderOf (r .at) ≡ orderOf (s .at) → i ≡ j)
-      → ltb (keyOf r i) (keyOf s j) ≡ ltb (orderOf (r .at)) (orderOf (s .at))
-  unfolding keyOf
-  key-order r s i j hi hj one = go (decLt (orderOf (r .at)) (orderOf (s .at))) (decLt (orderOf (s .at)) (orderOf (r .at)))
-    where
-      go : Dec (orderOf (r .at) < orderOf (s .at)) → Dec (orderOf (s .at) < orderOf (r .at))
-          → ltb (orderOf (r .at) * places + i) (orderOf (s .at) * places + j) ≡ ltb (orderOf (r .at)) (orderOf (s .at))
-      go (yes l) m = lt-ltb (orderOf (r .at) * places + i) (orderOf (s .at) * places + j) (omega arith) ∙ sym (lt-ltb (orderOf (r .at)) (orderOf (s .at)) l)
-      go (no l) (yes m) =
-          le-ltb (orderOf (r .at) * places + i) (orderOf (s .at) * places + j) (omega arith) ∙ sym (le-ltb (orderOf (r .at)) (orderOf (s .at)) (omega arith))
-      go (no l) (no m) =
-          let e : orderOf (r .at) ≡ orderOf (s .at) = omega arith in
-          let q = one e in
-          le-ltb (orderOf (r .at) * places + i) (orderOf (s .at) * places + j) (omega arith) ∙ sym (le-ltb (orderOf (r .at)) (orderOf (s .at)) (omega arith))
-
-  keys-order : (v w : ℕ) → List·Memᴰ v (keysBelow f (slotsOf t)) → List·Memᴰ w (keysBelow f (slotsOf t)) → ltb v w ≡ before (recordKeyed t v) (recordKeyed t w)
-  keys-order v w m n =
-      let c = keys-come f (slotsOf t) v m in
-      let d = keys-come f (slotsOf t) w n in
-      let hc = part (c .slot) (c .rec) (c .holds) in
-      let hd = part (d .slot) (d .rec) (d .holds) in
-      let cc′ = close (c .rec) (o .valid (c .slot) (c .rec) (c .below) hc) in
-      let cd = close (d .rec) (o .valid (d .slot) (d .rec) (d .below) hd) in
-      (λ i. ltb (c .is i) (d .is i))
-      ∙ key-order (c .rec) (d .rec) (c .slot) (d .slot) (few (c .slot) (c .below)) (few (d .slot) (d .below))
-      (λ e. o .once (c .slot) (d .slot) (c .rec) (d .rec) (c .below) (d .below) hc hd (order-one (c .rec .at) (d .rec .at) cc′ cd e))
-      ∙ sym (order-earlier (c .rec .at) (d .rec .at) cc′ cd)
-      ∙ sym (λ i. before (come-record v c i) (come-record w d i))
-
-  -- the records of the sorted keys are the records in file order
-  pub keys-sorted : map (recordKeyed t) (sortBy ltb (keysBelow f (slotsOf t))) ≡ sorted (standing f (slotsOf t))
-  keys-sorted = sort-map ltb before (recordKeyed t) (keysBelow f (slotsOf t)) keys-order ∙ ap sorted (keys-map (slotsOf t) (omega arith))
+    go : Dec (x < y) → Dec (y < x) → ltb (x * places + i) (y * places + j) ≡ ltb x y
+    go (yes l) m = lt-ltb (x * places + i) (y * places + j) (omega arith) ∙ sym (lt-ltb x y l)
+    go (no l) (yes m) = le-ltb (x * places + i) (y * places + j) (omega arith) ∙ sym (le-ltb x y (omega arith))
+    go (no l) (no m) =
+        let e : x ≡ y = omega arith in
+        let q = one e in
+        le-ltb (x * places + i) (y * places + j) (omega arith) ∙ sym (le-ltb x y (omega arith))
 
 -- ---- as many bytes in any order
 
@@ -195,7 +97,7 @@ nth-left [] ys j h = absurd (omega arith)
 nth-left (x ∷ xs) ys zero h = refl
 nth-left (x ∷ xs) ys (suc j) h = nth-left xs ys j (omega arith)
 
-filled-put : (o ks o₁ o₂ : List ℕ) (k v : ℕ) → Filled o ks o₁ k → Put o₁ k v o₂ → Filled o (ks ++ v ∷ []) o₂ (k + 1)
+pub filled-put : (o ks o₁ o₂ : List ℕ) (k v : ℕ) → Filled o ks o₁ k → Put o₁ k v o₂ → Filled o (ks ++ v ∷ []) o₂ (k + 1)
 filled-put o ks o₁ o₂ k v f p = record {
   count = omega (arith, f .count, length-append ks (v ∷ []));
   keys = λ j l. go j (omega (arith, length-append ks (v ∷ []))) (ℕ-discrete j (length ks));
@@ -207,16 +109,10 @@ filled-put o ks o₁ o₂ k v f p = record {
     go j l (yes e) = ap (keyIn o₂) (e ∙ sym (f .count)) ∙ p .here ∙ sym (getD-append-seam ks v [] 0) ∙ ap (nth (ks ++ v ∷ [])) (sym e)
     go j l (no e) = let c = f .count in p .others j (λ q. e (q ∙ c)) ∙ f .keys j (omega arith) ∙ sym (nth-left ks (v ∷ []) j (omega arith))
 
-pub filled-more : (f : ℕ → Slot) (i : ℕ) (o o₁ o₂ : List ℕ) (k k₂ : ℕ) → Filled o (keysBelow f i) o₁ k → Added o₁ k (keyed i (f i)) o₂ k₂
-    → Filled o (keysBelow f (i + 1)) o₂ k₂
-filled-more f i o o₁ o₂ k k₂ w a = subst (λ (ks : List ℕ). Filled o ks o₂ k₂) (sym (keys-more f i)) (go (f i) a)
-  where
-    go : (s : Slot) → Added o₁ k (keyed i s) o₂ k₂ → Filled o (keysBelow f i ++ keyed i s) o₂ k₂
-    go Free b = subst (λ (ks : List ℕ). Filled o ks o₂ k₂) (sym (append-nil (keysBelow f i))) (moved b)
-      where
-        moved : (o₂ ≡ o₁) × (k₂ ≡ k) → Filled o (keysBelow f i) o₂ k₂
-        moved e = subst (λ (x : List ℕ). Filled o (keysBelow f i) x k₂) (sym (e .0)) (subst (Filled o (keysBelow f i) o₁) (sym (e .1)) w)
-    go (Holds r) b = subst (Filled o (keysBelow f i ++ keyOf r i ∷ []) o₂) (sym (b .1)) (filled-put o (keysBelow f i) o₁ o₂ k (keyOf r i) w (b .0))
+pub filled-same : (o ks o₁ o₂ : List ℕ) (k k₂ : ℕ) → Filled o ks o₁ k → (o₂ ≡ o₁) × (k₂ ≡ k) → Filled o (ks ++ []) o₂ k₂
+filled-same o ks o₁ o₂ k k₂ w e =
+    subst (λ (x : List ℕ). Filled o x o₂ k₂) (sym (append-nil ks))
+    (subst (λ (x : List ℕ). Filled o ks x k₂) (sym (e .0)) (subst (Filled o ks o₁) (sym (e .1)) w))
 
 -- ---- what the code's steps say
 
@@ -249,8 +145,8 @@ kept-part t m i r = go (slotAt t i) (markedAt m i)
 pub kept-valid : (t : List ℕ) → InOrder t → (m : List ℕ) (i : ℕ) (r : Record) → i < slotsOf t → keptAt t m i ≡ Holds r → validOf r ≡ true
 kept-valid t o m i r l e = o .valid i r l (kept-part t m i r e)
 
-pub kept-close : (t : List ℕ) → InOrder t → (m : List ℕ) (i : ℕ) (r : Record) → i < slotsOf t → keptAt t m i ≡ Holds r → Close (r .at)
-kept-close t o m i r l e = close r (kept-valid t o m i r l e)
+pub kept-near : (t : List ℕ) → InOrder t → (m : List ℕ) (i : ℕ) (r : Record) → i < slotsOf t → keptAt t m i ≡ Holds r → Near r
+kept-near t o m i r l e = valid-near r (kept-valid t o m i r l e)
 
 pub slot-room : (t : List ℕ) → InOrder t → (i : ℕ) → i < slotsOf t → (slotWidth * i + slotWidth ≤ length t) × (i < places)
 slot-room t o i l = (omega (arith, o .fits .long), omega (arith, o .fits .most))
@@ -273,10 +169,3 @@ pub standing-length : (f : ℕ → Slot) (i : ℕ) → length (lines (standing f
 standing-length f i =
     ap (λ (x : List Record). length (lines x)) (standing-more f i) ∙ ap length (lines-join (standing f i) (listed (f i)))
     ∙ length-append (lines (standing f i)) (lines (listed (f i)))
-
-pub keys-room : (f : ℕ → Slot) (i n : ℕ) → i < n → length (keysBelow f i) + length (keyed i (f i)) ≤ length (keysBelow f n)
-keys-room f i n h =
-    let a = keys-grow f (i + 1) n (omega arith) in
-    let b = ap length (keys-more f i) in
-    let c = length-append (keysBelow f i) (keyed i (f i)) in
-    omega arith

@@ -5,7 +5,7 @@
 use mathlib.Core.Path.{_≡_, sym, ap, _∙_, subst}
 use mathlib.Core.Bool.{Bool, cond}
 use mathlib.Core.List.{List, [], _∷_, _++_, map, map-append, append-assoc}
-use Prim.Native.Nat.{ℕ, suc, _+_, _*_, _%_, _≤_, _<_}
+use Prim.Native.Nat.{ℕ, suc, _+_, _*_, _≤_, _<_}
 use native.Mathlib.Omega.{arith}
 use borrow.Author.Tests.{lt-ltb, le-ltb}
 use lib.Dec.{ltb}
@@ -13,19 +13,19 @@ use lib.ListN.{length, take, drop, length-append, length-map}
 use lib.Seq.{sets, sets-eq, drop-at, drop-cons, drop-length, take-suc, take-length, length-take-le, length-sets, ext-getD}
 use Rattle.laws.specs.Stores.{Wrote}
 use Rattle.lattice.specs.declared.records.Record.{Record}
-use Rattle.table.specs.Slots.{slotWidth, slotsOf}
+use Rattle.table.specs.Slots.{slotsOf}
 use Rattle.table.specs.Order.{InOrder}
 use Rattle.text.specs.Line.{lineOf, lines}
 use Rattle.text.specs.LineLaws.{lines-join}
 use Rattle.text.specs.LineLengths.{shortest, lines-least}
-use Rattle.sorting.specs.Sorting.{sortBy, keyWidth, keyIn, keysIn, Sorts}
-use Rattle.sorting.specs.SortLaws.{sort-length, mem-sort, at-mem}
+use Rattle.sorting.specs.Sorting.{sortBy, keyIn, keysIn, Sorts}
 use Rattle.sorting.specs.Tally.{nth}
 use Rattle.sorting.specs.Keys.{key-before}
 use Rattle.sorting.specs.KeyLaws.{firsts-length, firsts-at}
 use Rattle.writers.specs.Files.{before, sorted, outputAfter, putOf}
-use Rattle.writers.specs.Kept.{places, keptAt, standing, keysBelow, recordKeyed}
-use Rattle.writers.specs.KeptLaws.{keys-sorted, keys-inside, keys-length, lines-sorted, kept-part, Filled}
+use Rattle.writers.specs.Kept.{keptAt, standing, keyFor, recordFor}
+use Rattle.writers.specs.KeptLaws.{lines-sorted, kept-part, Filled}
+use Rattle.writers.specs.FileKeys.{file-records}
 
 -- the file of the records that are not marked
 abbrev pub fileOf : List ℕ → List ℕ → List ℕ
@@ -33,94 +33,86 @@ fileOf t m = lines (sorted (standing (keptAt t m) (slotsOf t)))
 
 -- the keys of what is kept, and these in their order
 abbrev pub keysOf : List ℕ → List ℕ → List ℕ
-keysOf t m = keysBelow (keptAt t m) (slotsOf t)
+keysOf t m = map keyFor (standing (keptAt t m) (slotsOf t))
 
 abbrev pub ordered : List ℕ → List ℕ → List ℕ
 ordered t m = sortBy ltb (keysOf t m)
 
-pub record Keyed (t m o : List ℕ) (k total : ℕ) : Type 0 where
-  pub keys : keysIn o k ≡ ordered t m
-  pub long : total ≡ length (fileOf t m)
+abbrev pub linesOf : List ℕ → List ℕ
+linesOf K = lines (map recordFor K)
+
+-- the keys K stand at the output's beginning, and their lines have room
+pub record Keyed (K o : List ℕ) (k total : ℕ) : Type 0 where
+  pub keys : keysIn o k ≡ K
+  pub long : total ≡ length (linesOf K)
   pub room : total ≤ length o
 
-abbrev pub linesOf : List ℕ → List ℕ → List ℕ
-linesOf t K = lines (map (recordKeyed t) K)
-
 -- of the keys K, in their order, the first k are left; the lines of the others stand at `at`, and the bytes `rest` past them
-pub record Left (t K rest o : List ℕ) (k at : ℕ) : Type 0 where
+pub record Left (K rest o : List ℕ) (k at : ℕ) : Type 0 where
   pub count : k ≤ length K
-  pub place : at ≡ length (linesOf t (take k K))
-  pub done : drop at o ≡ linesOf t (drop k K) ++ rest
+  pub place : at ≡ length (linesOf (take k K))
+  pub done : drop at o ≡ linesOf (drop k K) ++ rest
   pub room : at ≤ length o
   pub keys : (i : ℕ) → i < k → keyIn o i ≡ nth K i
 
-module _ (t : List ℕ) (in-order : InOrder t) (m : List ℕ) where
-  pub ordered-file : linesOf t (ordered t m) ≡ fileOf t m
-  ordered-file = ap lines (keys-sorted t in-order (keptAt t m) (kept-part t m))
-
-  -- the slot of a key of the list is in the table
-  pub ordered-inside : (k : ℕ) → k < length (ordered t m) → slotWidth * (nth (ordered t m) k % places) + slotWidth ≤ length t
-  ordered-inside k l =
-      keys-inside t in-order (keptAt t m) (kept-part t m) (nth (ordered t m) k) (mem-sort ltb (keysOf t m) (nth (ordered t m) k) (at-mem 0 (ordered t m) k l))
-
-  pub left-start : (o : List ℕ) (k total : ℕ) → Keyed t m o k total → Left t (ordered t m) (drop total o) o k total
-  unfolding lines
-  left-start o k total r =
-      let e : k ≡ length (ordered t m) = sym (firsts-length (keyIn o) k) ∙ ap length (r .keys) in
-      let a : take k (ordered t m) ≡ ordered t m = ap (λ (n : ℕ). take n (ordered t m)) e ∙ take-length (ordered t m) in
-      let b : drop k (ordered t m) ≡ [] = ap (λ (n : ℕ). drop n (ordered t m)) e ∙ drop-length (ordered t m) in
-      record {
-        count = omega arith;
-        place = r .long ∙ ap length (sym ordered-file) ∙ ap (λ (l : List ℕ). length (linesOf t l)) (sym a);
-        done = ap (λ (l : List ℕ). linesOf t l ++ drop total o) (sym b);
-        room = r .room;
-        keys = λ i h. sym (firsts-at (keyIn o) k i h) ∙ ap (λ (l : List ℕ). nth l i) (r .keys);
-      }
+pub left-start : (K o : List ℕ) (k total : ℕ) → Keyed K o k total → Left K (drop total o) o k total
+unfolding lines
+left-start K o k total r =
+    let e : k ≡ length K = sym (firsts-length (keyIn o) k) ∙ ap length (r .keys) in
+    let a : take k K ≡ K = ap (λ (n : ℕ). take n K) e ∙ take-length K in
+    let b : drop k K ≡ [] = ap (λ (n : ℕ). drop n K) e ∙ drop-length K in
+    record {
+      count = omega arith;
+      place = r .long ∙ ap (λ (l : List ℕ). length (linesOf l)) (sym a);
+      done = ap (λ (l : List ℕ). linesOf l ++ drop total o) (sym b);
+      room = r .room;
+      keys = λ i h. sym (firsts-at (keyIn o) k i h) ∙ ap (λ (l : List ℕ). nth l i) (r .keys);
+    }
 
 drop-stored : (o : List ℕ) (at : ℕ) (xs : List ℕ) → at + length xs ≤ length o → drop at (sets o at xs) ≡ xs ++ drop (at + length xs) o
 drop-stored o at xs h =
     ap (drop at) (sets-eq xs o at h ∙ append-assoc (take at o) xs (drop (at + length xs) o))
     ∙ drop-at (take at o) (xs ++ drop (at + length xs) o) at (length-take-le at o (omega arith))
 
-module _ (t K rest o : List ℕ) (k at : ℕ) (l : Left t K rest o (k + 1) at) where
+module _ (K rest o : List ℕ) (k at : ℕ) (l : Left K rest o (k + 1) at) where
   -- the next key is the last of those left
   pub left-top : keyIn o k ≡ nth K k
   left-top = l .keys k (omega arith)
 
   abbrev top : Record
-  top = recordKeyed t (nth K k)
+  top = recordFor (nth K k)
 
-  split : linesOf t (take (k + 1) K) ≡ linesOf t (take k K) ++ (lineOf top ++ [])
+  split : linesOf (take (k + 1) K) ≡ linesOf (take k K) ++ (lineOf top ++ [])
   unfolding lines
   split =
       let e : k + 1 ≡ suc k = omega arith in
-      ap (λ (n : ℕ). linesOf t (take n K)) e ∙ ap (linesOf t) (take-suc K k 0 (omega (arith, l .count)))
-      ∙ ap lines (map-append (recordKeyed t) (take k K) (nth K k ∷ [])) ∙ lines-join (map (recordKeyed t) (take k K)) (top ∷ [])
+      ap (λ (n : ℕ). linesOf (take n K)) e ∙ ap linesOf (take-suc K k 0 (omega (arith, l .count)))
+      ∙ ap lines (map-append (recordFor) (take k K) (nth K k ∷ [])) ∙ lines-join (map (recordFor) (take k K)) (top ∷ [])
 
   -- its line ends at `at`
-  pub left-place : at ≡ length (linesOf t (take k K)) + length (lineOf top)
+  pub left-place : at ≡ length (linesOf (take k K)) + length (lineOf top)
   left-place =
       let a = l .place in
       let b = ap length split in
-      let c = length-append (linesOf t (take k K)) (lineOf top ++ []) in
+      let c = length-append (linesOf (take k K)) (lineOf top ++ []) in
       let d = length-append (lineOf top) [] in
       omega arith
 
-  behind : linesOf t (drop k K) ≡ lineOf top ++ linesOf t (drop (k + 1) K)
+  behind : linesOf (drop k K) ≡ lineOf top ++ linesOf (drop (k + 1) K)
   unfolding lines
   behind =
       let e : suc k ≡ k + 1 = omega arith in
-      ap (linesOf t) (drop-cons K k 0 (omega (arith, l .count))) ∙ ap (λ (n : ℕ). lineOf top ++ linesOf t (drop n K)) e
+      ap linesOf (drop-cons K k 0 (omega (arith, l .count))) ∙ ap (λ (n : ℕ). lineOf top ++ linesOf (drop n K)) e
 
   -- the keys left end before the lines
-  keys-end : (j : ℕ) → j ≤ length K → shortest * j ≤ length (linesOf t (take j K))
+  keys-end : (j : ℕ) → j ≤ length K → shortest * j ≤ length (linesOf (take j K))
   keys-end j h =
-      let a = lines-least (map (recordKeyed t) (take j K)) in
-      let b = length-map (take j K) (recordKeyed t) in
+      let a = lines-least (map (recordFor) (take j K)) in
+      let b = length-map (take j K) (recordFor) in
       let c = length-take-le j K h in
       omega arith
 
-  pub left-step : (o′ : List ℕ) (at′ past : ℕ) → at ≡ at′ + length (lineOf top) → Wrote o at′ (lineOf top) o′ past → Left t K rest o′ k at′
+  pub left-step : (o′ : List ℕ) (at′ past : ℕ) → at ≡ at′ + length (lineOf top) → Wrote o at′ (lineOf top) o′ past → Left K rest o′ k at′
   left-step o′ at′ past e w =
       let c = l .count in
       let s = left-place in
@@ -132,22 +124,22 @@ module _ (t K rest o : List ℕ) (k at : ℕ) (l : Left t K rest o (k + 1) at) w
         done =
             ap (drop at′) (w .bytes) ∙ drop-stored o at′ (lineOf top) (omega arith)
             ∙ ap (λ (n : ℕ). lineOf top ++ drop n o) (sym e) ∙ ap (λ (x : List ℕ). lineOf top ++ x) (l .done)
-            ∙ sym (append-assoc (lineOf top) (linesOf t (drop (k + 1) K)) rest) ∙ ap (λ (x : List ℕ). x ++ rest) (sym behind);
+            ∙ sym (append-assoc (lineOf top) (linesOf (drop (k + 1) K)) rest) ∙ ap (λ (x : List ℕ). x ++ rest) (sym behind);
         room = let x : length o′ ≡ length o = ap length (w .bytes) ∙ length-sets o at′ (lineOf top) in omega arith;
         keys = λ i h.
             ap (λ (x : List ℕ). keyIn x i) (w .bytes) ∙ key-before (lineOf top) o at′ i (omega arith)
             ∙ l .keys i (omega arith);
       }
 
-pub left-end : (t K rest o : List ℕ) (at : ℕ) → Left t K rest o 0 at → o ≡ linesOf t K ++ rest
+pub left-end : (K rest o : List ℕ) (at : ℕ) → Left K rest o 0 at → o ≡ linesOf K ++ rest
 unfolding lines
-left-end t K rest o at l = ap (λ (n : ℕ). drop n o) (sym (l .place)) ∙ l .done
+left-end K rest o at l = ap (λ (n : ℕ). drop n o) (sym (l .place)) ∙ l .done
 
 -- the keys left end where the lines begin, or before
-pub left-room : (t K rest o : List ℕ) (k at : ℕ) → Left t K rest o k at → shortest * k ≤ at
-left-room t K rest o k at l =
-    let a = lines-least (map (recordKeyed t) (take k K)) in
-    let b = length-map (take k K) (recordKeyed t) in
+pub left-room : (K rest o : List ℕ) (k at : ℕ) → Left K rest o k at → shortest * k ≤ at
+left-room K rest o k at l =
+    let a = lines-least (map (recordFor) (take k K)) in
+    let b = length-map (take k K) (recordFor) in
     let c = length-take-le k K (l .count) in
     omega (arith, l .place)
 
@@ -157,17 +149,22 @@ pub file-long : (t m : List ℕ) → length (lines (standing (keptAt t m) (slots
 file-long t m = sym (lines-sorted before (standing (keptAt t m) (slotsOf t)))
 
 -- the keys take no more room than the file
-pub keys-fit : (t m : List ℕ) → shortest * length (keysOf t m) ≤ length (fileOf t m)
-keys-fit t m = omega (arith, file-long t m, keys-length (keptAt t m) (slotsOf t), lines-least (standing (keptAt t m) (slotsOf t)))
+pub keys-fit : (t m : List ℕ) → shortest * length (standing (keptAt t m) (slotsOf t)) ≤ length (fileOf t m)
+keys-fit t m = omega (arith, file-long t m, lines-least (standing (keptAt t m) (slotsOf t)))
 
-pub filled-all : (t m o : List ℕ) (n : ℕ) → n ≡ slotsOf t → {o₁ : List ℕ} {k : ℕ} → Filled o (keysBelow (keptAt t m) n) o₁ k → Filled o (keysOf t m) o₁ k
-filled-all t m o n e {o₁} {k} f = subst (λ (x : ℕ). Filled o (keysBelow (keptAt t m) x) o₁ k) e f
+pub filled-all : (t m o : List ℕ) (n : ℕ) → n ≡ slotsOf t → {o₁ : List ℕ} {k : ℕ} → Filled o (map keyFor (standing (keptAt t m) n)) o₁ k
+    → Filled o (keysOf t m) o₁ k
+filled-all t m o n e {o₁} {k} f = subst (λ (x : ℕ). Filled o (map keyFor (standing (keptAt t m) x)) o₁ k) e f
 
 pub counted-all : (t m : List ℕ) (n : ℕ) → n ≡ slotsOf t → {w : ℕ} → w ≡ length (lines (standing (keptAt t m) n)) → w ≡ length (fileOf t m)
 counted-all t m n e h = h ∙ ap (λ (x : ℕ). length (lines (standing (keptAt t m) x))) e ∙ file-long t m
 
-pub keys-all : (t m : List ℕ) (n : ℕ) → n ≡ slotsOf t → shortest * length (keysBelow (keptAt t m) n) ≤ length (fileOf t m)
-keys-all t m n e = subst (λ (x : ℕ). shortest * length (keysBelow (keptAt t m) x) ≤ length (fileOf t m)) (sym e) (keys-fit t m)
+pub keys-all : (t m : List ℕ) (n : ℕ) → n ≡ slotsOf t → shortest * length (standing (keptAt t m) n) ≤ length (fileOf t m)
+keys-all t m n e = subst (λ (x : ℕ). shortest * length (standing (keptAt t m) x) ≤ length (fileOf t m)) (sym e) (keys-fit t m)
+
+-- the lines of the sorted keys are the file
+pub ordered-file : (t : List ℕ) → InOrder t → (m : List ℕ) → linesOf (ordered t m) ≡ fileOf t m
+ordered-file t o m = ap lines (file-records t o (keptAt t m) (kept-part t m))
 
 module _ (t m o : List ℕ) (total : ℕ) (long : total ≡ length (fileOf t m)) where
   pub put-short : length o < total → outputAfter 13 0 o ≡ putOf (fileOf t m) o
@@ -190,11 +187,17 @@ module _ (t m o : List ℕ) (total : ℕ) (long : total ≡ length (fileOf t m))
         ext-getD 0 (keysIn o₁ k) (keysOf t m) (n ∙ f .count)
         (λ i l. let h : i < k = omega arith in firsts-at (keyIn o₁) k i h ∙ f .keys i (omega (arith, f .count)))
 
-    pub ready : Keyed t m o₂ k total
-    ready = record { keys = s .keys ∙ ap (sortBy ltb) filled-keys; long = long; room = omega (arith, s .long, f .long) }
+    pub ready : InOrder t → Keyed (ordered t m) o₂ k total
+    ready i =
+        record {
+          keys = s .keys ∙ ap (sortBy ltb) filled-keys;
+          long = long ∙ ap length (sym (ordered-file t i m));
+          room = omega (arith, s .long, f .long);
+        }
 
     pub ready-past : drop total o₂ ≡ drop total o
     ready-past =
         let a = keys-fit t m in
+        let b = length-map (standing (keptAt t m) (slotsOf t)) keyFor in
         let c = f .count in
         s .past total (omega arith) ∙ f .past total (omega arith)

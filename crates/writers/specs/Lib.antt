@@ -5,6 +5,7 @@ pub mod Examples
 pub mod Kept
 pub mod Named
 pub mod KeptLaws
+pub mod FileKeys
 pub mod LeftLaws
 pub mod CallLaws
 pub mod ReducedLaws

@@ -1,5 +1,6 @@
 // The records that are written, slot by slot: how long their lines are, and their keys into the output.
 ghost use mathlib.Core.Path.{_≡_};
+ghost use mathlib.Core.List.{map};
 ghost use Prim.Native.Nat.{_+_, _*_, _≤_, _<_};
 ghost use lib.ListN.{length};
 ghost use Rattle.table.specs.Slots.{slotWidth, slotsOf};
@@ -8,7 +9,7 @@ ghost use Rattle.table.specs.Entries.{listed};
 ghost use Rattle.text.specs.Line.{lines};
 ghost use Rattle.text.specs.LineLengths.{longest};
 ghost use Rattle.sorting.specs.Sorting.{keyWidth};
-ghost use Rattle.writers.specs.Kept.{places, keptAt, standing, keyed, keysBelow, Added};
+ghost use Rattle.writers.specs.Kept.{places, keptAt, standing, keyFor, Added};
 ghost use Rattle.writers.specs.KeptLaws.{Filled};
 use crate::keys::pack;
 use crate::named::MARK_BYTES;
@@ -61,13 +62,13 @@ pub fn file_length(table: &[u8], marks: &[u8; MARK_BYTES], n: usize) -> usize
 // Stores the key of slot i as key k, if the slot is written, and gives how many keys there are then.
 fn put_kept(table: &[u8], marks: &[u8; MARK_BYTES], i: usize, out: &mut [u8], k: usize) -> usize
     requires { ⌜ InOrder (now table) × (i < slotsOf (now table)) ⌝ }
-    requires { ⌜ keyWidth * (k + length (keyed i (keptAt (now table) (now marks) i))) ≤ length (now out) ⌝ }
-    ensures { λ r. ⌜ Added (now (out .entry)) k (keyed i (keptAt (now (table .entry)) (now (marks .entry)) i)) (now (out .exit)) r ⌝ }
+    requires { ⌜ keyWidth * (k + length (listed (keptAt (now table) (now marks) i))) ≤ length (now out) ⌝ }
+    ensures { λ r. ⌜ Added (now (out .entry)) k (map keyFor (listed (keptAt (now (table .entry)) (now (marks .entry)) i))) (now (out .exit)) r ⌝ }
 {
     match kept(table, marks, i) {
         Slot::Free => k,
         Slot::Holds(r) => {
-            put_key(out, k, pack(r, i));
+            put_key(out, k, pack(r));
             k + 1
         }
     }
@@ -76,8 +77,8 @@ fn put_kept(table: &[u8], marks: &[u8; MARK_BYTES], i: usize, out: &mut [u8], k:
 // Stores the keys of all that is written, and gives how many there are.
 pub fn put_keys(table: &[u8], marks: &[u8; MARK_BYTES], n: usize, out: &mut [u8]) -> usize
     requires { ⌜ InOrder (now table) × (n ≡ slotsOf (now table)) ⌝ }
-    requires { ⌜ keyWidth * length (keysBelow (keptAt (now table) (now marks)) n) ≤ length (now out) ⌝ }
-    ensures { λ k. ⌜ Filled (now (out .entry)) (keysBelow (keptAt (now (table .entry)) (now (marks .entry))) n) (now (out .exit)) k ⌝ }
+    requires { ⌜ keyWidth * length (standing (keptAt (now table) (now marks)) n) ≤ length (now out) ⌝ }
+    ensures { λ k. ⌜ Filled (now (out .entry)) (map keyFor (standing (keptAt (now (table .entry)) (now (marks .entry))) n)) (now (out .exit)) k ⌝ }
 {
     let mut i = 0;
     let mut k = 0;

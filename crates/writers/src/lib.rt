@@ -48,7 +48,7 @@ fn write_kept(table: &[u8], marks: &[u8; MARK_BYTES], n: usize, out: &mut [u8]) 
     }
     let k = put_keys(table, marks, n, out);
     sort(out, k);
-    write_lines(table, out, k, total);
+    write_lines(out, k, total);
     answer(DONE, total as u64)
 }
 

@@ -21,12 +21,20 @@ const BARS: [(&str, f64); 13] = [
 pub const GROWTH: f64 = 1.3;
 pub const GROWN_FROM: usize = 6_825;
 
-/// How many times as fast as OpenMesh a file is read and written, at least.
+/// The most nanoseconds a unit, where a bar is not a ratio.
+const NANOSECONDS: [(&str, f64); 1] = [("neighbours_all", 80.0)];
+
+/// How many times as fast as OpenMesh a file is read and written, at least, and an OFF file.
 pub const READS: f64 = 8.0;
 pub const WRITES: f64 = 15.0;
+pub const VIEWS: f64 = 2.0;
 
 pub fn bar(task: &str) -> Option<f64> {
     BARS.iter().find(|(name, _)| task.starts_with(name)).map(|(_, bar)| *bar)
+}
+
+pub fn nanoseconds(task: &str) -> Option<f64> {
+    NANOSECONDS.iter().find(|(name, _)| task == *name).map(|(_, most)| *most)
 }
 
 /// What is over its bar, each in a line.
@@ -40,6 +48,15 @@ impl Over {
             return "";
         }
         self.0.push(format!("{what}: {ratio:.2}, at most {bar:.2}"));
+        "over"
+    }
+
+    /// The same of nanoseconds.
+    pub fn most_nanoseconds(&mut self, what: &str, time: f64, most: f64) -> &'static str {
+        if time <= most {
+            return "";
+        }
+        self.0.push(format!("{what}: {time:.0} ns, at most {most:.0}"));
         "over"
     }
 

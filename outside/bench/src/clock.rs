@@ -1,7 +1,7 @@
 //! Timing by turns: the library, plain Rust and, where there is one, a third; the least of the rounds, which other work on the machine
 //! disturbs least.
 
-use crate::bars::{bar, Over};
+use crate::bars::{bar, nanoseconds, Over};
 use std::time::{Duration, Instant};
 
 pub struct Task {
@@ -52,6 +52,8 @@ impl Bench {
             Some(bar) => (format!("{bar:.2}"), self.over.most(task.name, ratio, bar)),
             None => (String::new(), ""),
         };
+        let slow = nanoseconds(task.name).map_or("", |most| self.over.most_nanoseconds(task.name, library, most));
+        let mark = if mark.is_empty() { slow } else { mark };
         let mut line = format!("  {:36} {library:>11.1} {plain:>11.1} {ratio:>6.2} {most:>5} {mark:4}", task.name);
         if has_third {
             let third = per_unit(third);

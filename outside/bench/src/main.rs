@@ -10,7 +10,7 @@ mod clock;
 mod lookups;
 mod sheets;
 
-use bars::{GROWN_FROM, GROWTH, READS, WRITES};
+use bars::{GROWN_FROM, GROWTH, READS, VIEWS, WRITES};
 use clock::{Bench, Task};
 use differential::bring::deepest;
 use differential::rng::Rng;
@@ -406,13 +406,12 @@ fn openmesh(times: [f64; 2], bench: &mut Bench) {
         "\nbeside OpenMesh, {vertices} vertices, nanoseconds a vertex\n  {:12} {:>8} {:>8} {:>14} {:>9}",
         "", "library", "OpenMesh", "times as fast", "at least"
     );
-    let lines =
-        [("read_full", read, times[0], Some(READS)), ("write_full", write, times[1], Some(WRITES)), ("write_off", off, times[1], None)];
+    let lines = [("read_full", read, times[0], READS), ("write_full", write, times[1], WRITES), ("write_off", off, times[1], VIEWS)];
     for (name, ours, theirs, bar) in lines {
         let ours = ours.as_nanos() as f64;
-        let mark = bar.map_or("", |bar| bench.over.least(&format!("{name} beside OpenMesh"), theirs / ours, bar));
-        let (per_vertex, bar) = (|ns: f64| ns / vertices as f64, bar.map_or(String::new(), |bar| format!("{bar:.1}")));
-        println!("  {name:12} {:>8.0} {:>8.0} {:>14.1} {bar:>9} {mark}", per_vertex(ours), per_vertex(theirs), theirs / ours);
+        let mark = bench.over.least(&format!("{name} beside OpenMesh"), theirs / ours, bar);
+        let per_vertex = |ns: f64| ns / vertices as f64;
+        println!("  {name:12} {:>8.0} {:>8.0} {:>14.1} {bar:>9.1} {mark}", per_vertex(ours), per_vertex(theirs), theirs / ours);
     }
 }
 

@@ -9,7 +9,7 @@ use lib.ListN.{length, take, drop}
 use Rattle.table.specs.Slots.{slotAt}
 use Rattle.counts.specs.declared.faces.Face.{Face}
 use Rattle.sorting.specs.Sorting.{sortBy, keyWidth}
-use Rattle.writers.specs.Kept.{keysBelow}
+use Rattle.writers.specs.Kept.{places}
 use Rattle.writers.specs.KeptLaws.{Filled}
 use Rattle.mesh_faces.specs.MeshFaces.{meshFaces}
 use Rattle.viewer.specs.Viewer.{texts}
@@ -19,6 +19,7 @@ use Rattle.viewer.specs.Backward.{texts-sort}
 use Rattle.viewer.specs.Lines.{keyLine, Queue}
 use Rattle.viewer.specs.CallLaws.{facePart}
 use Rattle.viewer.specs.BodyLaws.{FacesIn, faceKeys, vertices-are, Body}
+use Rattle.viewer.specs.Keyed.{keysBelow}
 use Rattle.viewer.specs.BodyLaws.{many, body-keys, body-least, Arranged, body-arranged, body-room, body-from, body-long, body-queue}
 use Rattle.viewer.specs.BodyLaws.{body-lines-end, body-same, body-kept, body-lines}
 use Rattle.viewer.proofs.write_body.Statement.{statement}
@@ -69,7 +70,7 @@ sort-requires c κs =
     let v = c .before .before .before in
     omega (arith, body-keys (body (z v)), filled v .count, filled v .long)
 
-few : (s : tie.Start) → s .args .n ≤ 65536
+few : (s : tie.Start) → s .args .n ≤ places
 few s = omega (arith, s .pre .0 .1, s .pre .0 .0 .fits .most)
 
 base-of-requires : tie.Need-base-of-requires

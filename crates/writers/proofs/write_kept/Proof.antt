@@ -3,10 +3,13 @@ use mathlib.Core.Path.{_≡_, _∙_, ap}
 use mathlib.Core.List.{List, _++_}
 use Prim.Native.Nat.{ℕ, _≤_}
 use native.Mathlib.Omega.{arith}
-use lib.ListN.{length}
+use lib.ListN.{length, length-map}
 use borrow.Author.Needs.{needs}
+use Rattle.table.specs.Slots.{slotsOf}
+use Rattle.writers.specs.Kept.{keptAt, standing, keyFor}
 use Rattle.writers.specs.KeptLaws.{Filled}
-use Rattle.writers.specs.LeftLaws.{fileOf, keysOf, Keyed, filled-all, counted-all, keys-all, keys-fit, put-short, put-done, ready, ready-past}
+use Rattle.writers.specs.LeftLaws.{fileOf, keysOf, ordered, Keyed, filled-all, counted-all, keys-all, keys-fit}
+use Rattle.writers.specs.LeftLaws.{ordered-file, put-short, put-done, ready, ready-past}
 use Rattle.writers.specs.CallLaws.{out-is}
 use Rattle.writers.proofs.write_kept.Statement.{statement}
 use Rattle.writers.proofs.write_kept.Tie as tie
@@ -56,6 +59,7 @@ sort-requires c κs =
     let count = filled w .count in
     let same = filled w .long in
     let fit = keys-fit (t (f w)) (m (f w)) in
+    let each = length-map (standing (keptAt (t (f w)) (m (f w))) (slotsOf (t (f w)))) keyFor in
     let all = long (f w) in
     omega (arith, room w)
 
@@ -64,11 +68,13 @@ module _ (c : tie.After-sort) where
   abbrev w : tie.After-put-keys
   w = c .before .before .before .before
 
-  stand : Keyed (t (f w)) (m (f w)) (c .sort .last .0) (w .put-keys .result) (f w .file-length .result)
-  stand = ready (t (f w)) (m (f w)) (o (f w)) (f w .file-length .result) (long (f w)) _ _ (w .put-keys .result) (room w) (filled w) (c .sort .ensures)
+  stand : Keyed (ordered (t (f w)) (m (f w))) (c .sort .last .0) (w .put-keys .result) (f w .file-length .result)
+  stand =
+      ready (t (f w)) (m (f w)) (o (f w)) (f w .file-length .result) (long (f w)) _ _ (w .put-keys .result) (room w) (filled w) (c .sort .ensures)
+      (s (f w) .pre .0)
 
 write-lines-requires : tie.Need-write-lines-requires
-write-lines-requires c κs = let h = c .before .before .before in (s (f (w h)) .pre .0, (m (f (w h)), stand h))
+write-lines-requires c κs = let h = c .before .before .before in (ordered (t (f (w h))) (m (f (w h))), stand h)
 
 returns-2 : tie.Need-returns-2
 returns-2 c =
@@ -78,7 +84,8 @@ returns-2 c =
     let total = g .file-length .result in
     let past = ready-past (t g) (m g) (o g) total (long g) _ _ (w h .put-keys .result) (room (w h)) (filled (w h)) (h .sort .ensures) in
     out-is _ (c .answer2 .ensures .0) (c .answer2 .ensures .1)
-    ∙ put-done (t g) (m g) (o g) total (long g) _ (room (w h)) (x .write-lines .ensures (m g) (stand h) ∙ ap (λ (l : List ℕ). fileOf (t g) (m g) ++ l) past)
+    ∙ put-done (t g) (m g) (o g) total (long g) _ (room (w h))
+    (x .write-lines .ensures (ordered (t g) (m g)) (stand h) ∙ (λ i. ordered-file (t g) (s g .pre .0) (m g) i ++ past i))
 
 pub write-kept-spec : {M : Type 1} → statement M
 write-kept-spec =

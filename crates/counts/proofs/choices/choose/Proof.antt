@@ -1,13 +1,13 @@
 -- `counts::choose` meets its promise: the first opposite where it is there, else the second. Assumes nothing.
 use mathlib.Core.Path.{_≡_, ap, sym, _∙_}
-use mathlib.Core.Bool.{Bool, cond}
+use mathlib.Core.Bool.{Bool, false, cond}
 use borrow.Author.Needs.{needs}
 use Rattle.lattice.specs.Stars.{firstAt, secondAt}
 use Rattle.table.specs.Entries.{holds}
 use Rattle.counts.specs.Earlier.{placedOf}
 use Rattle.counts.specs.EarlierLaws.{slot-there, slot-absent}
 use Rattle.counts.specs.Choices.{keptOf, choiceOf}
-use Rattle.counts.specs.declared.choices.Choice.the-variants.{First}
+use Rattle.counts.specs.declared.choices.Choice.the-variants.{Is}
 use Rattle.counts.proofs.choices.choose.Statement.{statement}
 use Rattle.counts.proofs.choices.choose.Tie as tie
 
@@ -20,18 +20,18 @@ module _ (c : tie.After-with-slot) where
   is = c .with-slot .ensures ∙ ap (placedOf (s .args .t .now)) (c .before .first-of .ensures)
 
   at-first : (b : Bool) → holds (s .args .t .now) (firstAt (s .args .v) (s .args .j)) ≡ b
-      → cond b (First (placedOf (s .args .t .now) (firstAt (s .args .v) (s .args .j)))) (keptOf (s .args .t .now) (secondAt (s .args .v) (s .args .j)))
+      → cond b (Is false (placedOf (s .args .t .now) (firstAt (s .args .v) (s .args .j)))) (keptOf (s .args .t .now) (secondAt (s .args .v) (s .args .j)))
       ≡ choiceOf (s .args .t .now) (s .args .v) (s .args .j)
   unfolding choiceOf
   at-first b e =
-      ap (λ (x : Bool). cond x (First (placedOf (s .args .t .now) (firstAt (s .args .v) (s .args .j))))
+      ap (λ (x : Bool). cond x (Is false (placedOf (s .args .t .now) (firstAt (s .args .v) (s .args .j))))
       (keptOf (s .args .t .now) (secondAt (s .args .v) (s .args .j)))) (sym e)
 
 returns : tie.Need-returns
 returns c =
     let r = c .before .before in
     let a = s r .args in
-    ap First (is r)
+    ap (Is false) (is r)
     ∙ at-first r _ (slot-there (a .t .now) (a .n) (s r .pre .0) (firstAt (a .v) (a .j)) (r .with-slot .result) (is r) (c .if1 .taken))
 
 returns-2 : tie.Need-returns-2

@@ -1,13 +1,13 @@
 -- `counts::kept` meets its promise: by whether there is a point, and whether the table holds it. Assumes nothing.
 use mathlib.Core.Path.{_≡_, ap, sym, _∙_}
-use mathlib.Core.Bool.{Bool, cond}
+use mathlib.Core.Bool.{Bool, true, cond}
 use borrow.Author.Needs.{needs}
 use Rattle.lattice.specs.declared.points.Point.{Point}
 use Rattle.table.specs.Entries.{holds}
 use Rattle.counts.specs.Earlier.{placedOf}
 use Rattle.counts.specs.EarlierLaws.{slot-there, slot-absent}
 use Rattle.counts.specs.Choices.{keptOf}
-use Rattle.counts.specs.declared.choices.Choice.the-variants.{Second, Neither}
+use Rattle.counts.specs.declared.choices.Choice.the-variants.{Is, Neither}
 use Rattle.counts.proofs.choices.kept.Statement.{statement}
 use Rattle.counts.proofs.choices.kept.Tie as tie
 
@@ -19,17 +19,17 @@ module _ (c : tie.After-with-slot) where
   abbrev p : Point
   p = c .before .before .s .given .0 .0
 
-  at-point : (b : Bool) → holds (start .args .t .now) p ≡ b → cond b (Second (placedOf (start .args .t .now) p)) Neither
+  at-point : (b : Bool) → holds (start .args .t .now) p ≡ b → cond b (Is true (placedOf (start .args .t .now) p)) Neither
       ≡ keptOf (start .args .t .now) (start .args .s)
   at-point b e =
-      ap (λ (x : Bool). cond x (Second (placedOf (start .args .t .now) p)) Neither) (sym e)
+      ap (λ (x : Bool). cond x (Is true (placedOf (start .args .t .now) p)) Neither) (sym e)
       ∙ ap (keptOf (start .args .t .now)) (sym (c .before .before .s .given .1))
 
 returns : tie.Need-returns
 returns c =
     let r = c .before .before in
     let s = start r in
-    ap Second (r .with-slot .ensures)
+    ap (Is true) (r .with-slot .ensures)
     ∙ at-point r _ (slot-there (s .args .t .now) (s .args .n) (s .pre) (p r) (r .with-slot .result) (r .with-slot .ensures) (c .if1 .taken))
 
 returns-2 : tie.Need-returns-2

@@ -1,5 +1,6 @@
 -- `counts::count_face` meets its promise: the side to the adjacent point, the face, the two sides across. Assumes nothing.
 use mathlib.Core.Path.{_≡_, ap, sym, _∙_, subst}
+use mathlib.Core.Bool.{Bool, _&&_}
 use Prim.Native.Nat.{ℕ, _+_, _<_}
 use native.Mathlib.Omega.{arith}
 use borrow.Author.Needs.{needs}
@@ -10,7 +11,7 @@ use Rattle.queries.specs.Queries.{isPoint}
 use Rattle.counts.specs.Counts.{face}
 use lib.Dec.{ltb}
 use Rattle.lattice.specs.Stars.{adjacentAt}
-use Rattle.counts.specs.Earlier.{facesAndSides, Spared, faceBefore, faceOn, innersIn}
+use Rattle.counts.specs.Earlier.{facesAndSides, Spared, faceBefore, faceOn, innersIn, innersBefore}
 use Rattle.counts.specs.EarlierLaws.{placed-at, placed-slot, holds-slot}
 use Rattle.counts.specs.EdgeLaws.{far-spared}
 use Rattle.counts.specs.Strides.{ToldOf}
@@ -86,9 +87,9 @@ far-count-requires c κs =
       ),
     )
 
-inners-before-requires : tie.Need-inners-before-requires
-inners-before-requires c κs =
-    let s = c .before .before .before .before .before .before .before .before .before .before .before in
+is-first-requires : tie.Need-is-first-requires
+is-first-requires c κs =
+    let s = c .before .before .before .before .before .before .before .before .before .before .before .before in
     (subst (λ (n : ℕ). Table (s .args .t .now) n) (sym (s .pre .0 .1 .0)) (s .pre .0 .0 .fits), omega (arith, s .pre .0 .1 .1))
 
 returns : tie.Need-returns
@@ -106,13 +107,14 @@ returns c =
     let f = q .far-count .ensures in
     let there = (λ i. ltb (ap (λ (x : Placed). x .slot) (r .adjacent) i) (s .pre .0 .1 .0 i))
     ∙ sym (holds-slot t (s .pre .0 .0 .fits) (adjacentAt (a .v) (a .j))) in
-    let before = h .inners-before .ensures
-    ∙ (λ i. innersIn t (a .k) (placed-slot t _ _ (r .adjacent) i) (r .opposite i) (placed-slot t _ _ (r .next) i)) in (
+    let before : innersIn t (a .k) (a .a .slot) (a .o .slot) (a .b .slot) ≡ innersBefore t (a .k) (asked s) =
+    λ i. innersIn t (a .k) (placed-slot t _ _ (r .adjacent) i) (r .opposite i) (placed-slot t _ _ (r .next) i) in (
       (λ i. facesAndSides
           ((w .new-face .ensures .0
           ∙ corner-counted t (a .k) (a .v) (a .j) (a .o .at) (r .chosen) (asked s) (is s) _ (sym (b .face-seen .ensures))) i)
           (e .0 i + f .0 i)
-          (plain-face t (a .k) (a .v) (a .j) (a .o .at) (r .chosen) (asked s) (is s) _ _ _ there before (b .face-seen .ensures) i)),
+          ((ap (λ (x : Bool). ltb (a .a .slot) (a .n) && x) (c .is-first .ensures)
+          ∙ plain-face t (a .k) (a .v) (a .j) (a .o .at) (r .chosen) (asked s) (is s) _ _ _ there before (b .face-seen .ensures)) i)),
       (w .new-face .ensures .1, omega (arith, e .1, f .1)),
     )
 
@@ -126,5 +128,5 @@ count-face-spec =
     (λ c κs. search needs)
     far-count-requires
     (λ c. search needs)
-    inners-before-requires
+    is-first-requires
     returns)

@@ -5,7 +5,8 @@ use Rattle.table.specs.Slots.{slotsOf}
 use Rattle.table.specs.MapLaws.{table-slots}
 use Rattle.table.specs.declared.probe.Found.{Found}
 use Rattle.table.specs.declared.probe.Found.the-variants as found
-use Rattle.counts.specs.Earlier.{slotFound, slotIn}
+use Rattle.table.specs.Entries.{slotFound}
+use Rattle.counts.specs.Earlier.{slotIn}
 use Rattle.counts.proofs.earlier.slot_of.Statement.{statement}
 use Rattle.counts.proofs.earlier.slot_of.Tie as tie
 

@@ -8,11 +8,11 @@ use lib.Dec.{ltb}
 use Rattle.lattice.specs.Stars.{adjacentAt}
 use Rattle.lattice.specs.declared.points.Point.{Point}
 use Rattle.counts.specs.Counts.{nextPlace}
-use Rattle.counts.specs.Across.{StarPoint}
+use Rattle.across.specs.Across.{StarPoint}
 use Rattle.counts.specs.Earlier.{slotIn, endHas, faceOn, farOne}
 use Rattle.counts.specs.EarlierLaws.{placed-at, placed-slot}
 use Rattle.counts.specs.FaceLaws.{next-below}
-use Rattle.counts.specs.OppositeLaws.{adjacent-bound, chosen-bound}
+use Rattle.across.specs.OppositeLaws.{adjacent-bound, chosen-bound}
 use Rattle.counts.specs.ToldLaws.{before-ended, after-ended}
 use Rattle.counts.specs.CaseLaws.{far-counted}
 use Rattle.counts.proofs.sides.far_count.Statement.{statement}

@@ -4,7 +4,7 @@ use mathlib.Core.Bool.{Bool}
 use native.Mathlib.Omega.{arith}
 use borrow.Author.Needs.{needs}
 use Rattle.table.specs.Slots.{slotsOf}
-use Rattle.counts.specs.Across.{apexOf}
+use Rattle.across.specs.Across.{apexOf}
 use Rattle.counts.specs.Earlier.{apexSeen}
 use Rattle.counts.specs.CaseLaws.{narrow-first, narrow-second, narrow-rest}
 use Rattle.counts.proofs.sides.narrow_else.Statement.{statement}

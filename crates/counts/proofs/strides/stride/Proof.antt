@@ -14,7 +14,7 @@ abbrev part : tie.Start → ℕ
 part s = partOf (s .args .row) (s .args .j)
 
 at : (s : tie.Start) (b : Bool) → ℕ
-at s b = cond b 0 (12 * (s .args .n + part s / 12) + (s .args .k + part s % 12) % 12)
+at s b = cond b 0 (16 * (s .args .n + part s / 16) + (s .args .k + part s % 16) % 12)
 
 returns : tie.Need-returns
 unfolding strideOf at

@@ -18,24 +18,33 @@ abbrev thereAt : List ℕ → Record → ℕ → Bool
 thereAt t r j = there (sheetOf t) (adjacentAt r j)
 
 abbrev Inv-loop : tie.InvT-loop
-Inv-loop t r n j₀ j = (j ≤ 6) × (upto j (thereAt t r) ≡ true)
+Inv-loop t r n row j₀ j = (j ≤ 6) × (upto j (thereAt t r) ≡ true)
 
 abbrev μ-loop : tie.MeasureT-loop
-μ-loop t r n j₀ j = 6 - j
+μ-loop t r n row j₀ j = 6 - j
+
+ring-requires : tie.Need-ring-requires Inv-loop μ-loop
+ring-requires c κs = c .before .before .pre .1 .0
+
+point-at-requires : tie.Need-point-at-requires Inv-loop μ-loop
+point-at-requires c κs =
+    let r = c .before .before .before in
+    let s = r .before .before .before in
+    (r .ring .ensures, (s .pre .1 .0, omega (arith, s .pre .1 .1)))
 
 -- whether the adjacent at hand is there
 module _ (c : tie.After-is-there Inv-loop μ-loop) where
   abbrev l : tie.At-loop Inv-loop μ-loop
-  l = c .before .before .before
+  l = c .before .before .before .before
 
   abbrev t : List ℕ
-  t = l .before .before .args .t .now
+  t = l .before .before .before .before .args .t .now
 
   abbrev r : Record
-  r = l .before .before .args .r
+  r = l .before .before .before .before .args .r
 
   here : c .is-there .result ≡ thereAt t r (l .loop .j)
-  here = c .is-there .ensures ∙ held-there t (c .before .adjacent-of .ensures)
+  here = c .is-there .ensures ∙ held-there t (c .before .point-at .ensures)
 
 loop-again : tie.Need-loop-again Inv-loop μ-loop
 loop-again c =
@@ -45,12 +54,12 @@ loop-again c =
 returns : tie.Need-returns Inv-loop μ-loop
 returns c =
     let k = c .before in
-    sym (upto-fails (thereAt (t k) (r k)) (l k .loop .j) 6 (k .before .before .loop-test .taken) (sym (here k) ∙ c .if1 .left))
+    sym (upto-fails (thereAt (t k) (r k)) (l k .loop .j) 6 (k .before .before .before .loop-test .taken) (sym (here k) ∙ c .if1 .left))
 
 returns-2 : tie.Need-returns-2 Inv-loop μ-loop
 returns-2 c =
     let l = c .before in
-    let a = l .before .before .args in
+    let a = l .before .before .before .before .args in
     let e : l .loop .j ≡ 6 = omega arith in
     sym (l .loop .inv .1) ∙ ap (λ (k : ℕ). upto k (thereAt (a .t .now) (a .r))) e
 
@@ -60,8 +69,9 @@ adjacents-there-spec =
     (tie.spec
     Inv-loop
     μ-loop
+    ring-requires
     (λ c. search needs)
-    (λ c κs. search needs)
+    point-at-requires
     (λ c κs. search needs)
     (λ c. search needs)
     (λ c. search needs)

@@ -1,6 +1,6 @@
 -- `local::deep_passes` meets its promise: the tests in their order, all of the parents as they were looked up. Assumes nothing.
 use borrow.Author.Needs.{needs}
-use mathlib.Core.Path.{_≡_, sym, _∙_, subst}
+use mathlib.Core.Path.{_≡_, sym, _∙_}
 use mathlib.Core.Bool.{true, _&&_}
 use Prim.Native.Nat.{_<_}
 use native.Mathlib.Omega.{arith}
@@ -10,8 +10,7 @@ use Rattle.growth.specs.Local.{deepTest}
 use Rattle.local.specs.Sheet.{sheetOf}
 use Rattle.local.specs.Places.{starred}
 use Rattle.local.specs.declared.parents.Parents.{Parents}
-use Rattle.local.specs.Parents.{Shallow, allThere, creatorOver, toldIn}
-use Rattle.local.specs.ParentLaws.{parents-shallow}
+use Rattle.local.specs.Parents.{Born, allThere, creatorOver, toldIn}
 use Rattle.local.specs.BornLaws.{valid-depth, valid-born, rank-deep}
 use Rattle.local.specs.PlaceLaws.{first-fails, second-fails, third-decides, deep-boundary, deep-by}
 use Rattle.local.proofs.places.deep_passes.Statement.{statement}
@@ -24,21 +23,24 @@ module _ (s : tie.Start) where
   deep : 1 < rankOf (s .args .r .at)
   deep = rank-deep (s .args .r .at) (s .pre .1)
 
-parents-of-requires : tie.Need-parents-of-requires
-parents-of-requires c κs =
-    let s = c .before .before .before .before in
-    (s .pre .0 .0, valid-born (s .args .r) (s .pre .0 .1) (omega (arith, deep s)))
+  born : Born (s .args .r .at)
+  born = valid-born (s .args .r) (s .pre .0 .1) (omega (arith, deep))
 
-module _ (c : tie.After-parents-of) where
+deep-parents-requires : tie.Need-deep-parents-requires
+deep-parents-requires c κs =
+    let s = c .before .before .before .before in
+    (s .pre .0 .0, (born s, s .pre .1))
+
+module _ (c : tie.After-deep-parents) where
   abbrev start : tie.Start
   start = c .before .before .before .before .before
 
   abbrev s : Parents
-  s = c .parents-of .result
+  s = c .deep-parents .result
 
   by : (allThere s && creatorOver (start .args .r .at) s) && toldIn (start .args .r) s ≡ starred (deepTest (sheetOf (start .args .t .now)) (start .args .r))
       (sheetOf (start .args .t .now)) (start .args .r)
-  by = deep-by (start .args .t .now) (start .args .r) s (c .parents-of .ensures) (c .before .if1 .left) (start .pre .1)
+  by = deep-by (start .args .t .now) (start .args .r) s (c .deep-parents .ensures) (c .before .if1 .left) (start .pre .1)
 
 returns-2 : tie.Need-returns-2
 returns-2 c =
@@ -48,11 +50,7 @@ returns-2 c =
     (toldIn (start p .args .r) (s p)) (sym (v .all-there .ensures) ∙ not-true (v .all-there .result) (c .if2 .taken)) ∙ by p
 
 creator-over-requires : tie.Need-creator-over-requires
-creator-over-requires c κs =
-    let p = c .before .before in
-    let a = start p .args in
-    let d = valid-depth (a .r) (start p .pre .0 .1) in
-    (d, (deep (start p), subst Shallow (sym (p .parents-of .ensures)) (parents-shallow (a .t .now) (a .r .at) d)))
+creator-over-requires c κs = let s = start (c .before .before) in (born s, deep s)
 
 all-are : (c : tie.Else2) → allThere (s (c .before .before)) ≡ true
 all-are c = sym (c .before .all-there .ensures) ∙ not-false (c .before .all-there .result) (c .if2 .left)
@@ -85,7 +83,7 @@ deep-passes-spec =
     tie.close
     (tie.spec
     returns
-    parents-of-requires
+    deep-parents-requires
     (λ c κs. search needs)
     returns-2
     creator-over-requires

@@ -1,7 +1,7 @@
 -- `viewer::fresh::fresh_between` meets its promise: by the opposite that is chosen. Assumes nothing.
 use mathlib.Core.Path.{_≡_, ap, sym, _∙_}
 use borrow.Author.Needs.{needs}
-use Rattle.counts.specs.Choices.{choice-first, choice-second, choice-neither}
+use Rattle.counts.specs.Choices.{choice-is, choice-neither}
 use Rattle.mesh_faces.specs.Once.{fresh-none}
 use Rattle.mesh_faces.proofs.fresh.fresh_between.Statement.{statement}
 use Rattle.mesh_faces.proofs.fresh.fresh_between.Tie as tie
@@ -21,24 +21,14 @@ fresh-face-requires c κs =
     let h = o .before .before in
     let p = s h .pre in
     let a = s h .args in
-    let x = choice-first (a .t .now) (a .v) (a .j) (o .o .given .0 .0) (sym (h .choose .ensures) ∙ o .o .given .1) in (
+    let g = o .second .given in
+    let x = choice-is (a .t .now) (a .v) (a .j) (g .0 .0) (g .0 .1 .0) (sym (h .choose .ensures) ∙ g .1) in (
       p .0,
       (p .1 .0, (p .1 .1 .0, (record { adjacent = p .1 .1 .1 .0 .0; chosen = x .chosen; opposite = x .slot; next = p .1 .1 .1 .0 .1 }, x .spot))),
     )
 
-fresh-face-requires-2 : tie.Need-fresh-face-requires-2
-fresh-face-requires-2 c κs =
-    let o = c .before in
-    let h = o .before .before in
-    let p = s h .pre in
-    let a = s h .args in
-    let x = choice-second (a .t .now) (a .v) (a .j) (o .o2 .given .0 .0) (sym (h .choose .ensures) ∙ o .o2 .given .1) in (
-      p .0,
-      (p .1 .0, (p .1 .1 .0, (record { adjacent = p .1 .1 .1 .0 .0; chosen = x .chosen; opposite = x .slot; next = p .1 .1 .1 .0 .1 }, x .spot))),
-    )
-
-returns-4 : tie.Need-returns-4
-returns-4 c =
+returns-3 : tie.Need-returns-3
+returns-3 c =
     let h = c .before .before in
     let a = s h .args in
     fresh-none (a .t .now) (a .k) (a .v) (a .j) (choice-neither (a .t .now) (a .v) (a .j) (sym (h .choose .ensures) ∙ c .enum-told .given .1))
@@ -53,8 +43,5 @@ fresh-between-spec =
     (λ c. search needs)
     fresh-face-requires
     (λ c. search needs)
-    fresh-face-requires-2
-    (λ c. search needs)
     (λ c. c .fresh-face .ensures)
-    (λ c. c .fresh-face2 .ensures)
-    returns-4)
+    returns-3)

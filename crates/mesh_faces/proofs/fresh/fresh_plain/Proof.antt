@@ -6,7 +6,7 @@ use borrow.Author.Needs.{needs}
 use Rattle.lattice.specs.Stars.{adjacentAt}
 use Rattle.counts.specs.Counts.{nextPlace}
 use Rattle.counts.specs.Earlier.{slotIn, innerIn}
-use Rattle.counts.specs.Choices.{choice-first, choice-second, choice-neither}
+use Rattle.counts.specs.Choices.{choice-is, choice-neither}
 use Rattle.counts.specs.declared.earlier.Placed.{Placed}
 use Rattle.mesh_faces.specs.Once.{fresh-none}
 use Rattle.mesh_faces.specs.Plain.{plain-hidden}
@@ -64,24 +64,14 @@ lone-face-requires c κs =
     let h = o .before .before in
     let p = s h .pre in
     let a = s h .args in
-    let x = choice-first (a .t .now) (a .v) (a .j) (o .o .given .0 .0) (sym (h .choose .ensures) ∙ o .o .given .1) in (
+    let g = o .o .given in
+    let x = choice-is (a .t .now) (a .v) (a .j) (g .0 .0) (g .0 .1 .0) (sym (h .choose .ensures) ∙ g .1) in (
       p .0,
       ((record { adjacent = p .1 .1 .0 .0; chosen = x .chosen; opposite = x .slot; next = p .1 .1 .0 .1 }, p .1 .1 .1), (none-a h, none-b h)),
     )
 
-lone-face-requires-2 : tie.Need-lone-face-requires-2
-lone-face-requires-2 c κs =
-    let o = c .before in
-    let h = o .before .before in
-    let p = s h .pre in
-    let a = s h .args in
-    let x = choice-second (a .t .now) (a .v) (a .j) (o .o2 .given .0 .0) (sym (h .choose .ensures) ∙ o .o2 .given .1) in (
-      p .0,
-      ((record { adjacent = p .1 .1 .0 .0; chosen = x .chosen; opposite = x .slot; next = p .1 .1 .0 .1 }, p .1 .1 .1), (none-a h, none-b h)),
-    )
-
-returns-5 : tie.Need-returns-5
-returns-5 c =
+returns-4 : tie.Need-returns-4
+returns-4 c =
     let h = c .before .before in
     let a = s h .args in
     fresh-none (a .t .now) (a .k) (a .v) (a .j) (choice-neither (a .t .now) (a .v) (a .j) (sym (h .choose .ensures) ∙ c .enum-told .given .1))
@@ -98,8 +88,5 @@ fresh-plain-spec =
     (λ c. search needs)
     lone-face-requires
     (λ c. search needs)
-    lone-face-requires-2
-    (λ c. search needs)
     (λ c. c .lone-face .ensures)
-    (λ c. c .lone-face2 .ensures)
-    returns-5)
+    returns-4)

@@ -1,4 +1,4 @@
--- `table::free_placed` meets its promise. The invariant: the slots so far are placed, and the free ones counted. Assumes nothing.
+-- `table::free_placed` meets its promise. The invariant: the slots so far are placed, the free ones counted, and the last taken ones. Assumes nothing.
 use mathlib.Core.Path.{_≡_, ap, sym, _∙_, refl}
 use mathlib.Core.Bool.{true}
 use Prim.Native.Nat.{ℕ, _≤_, _-_}
@@ -9,18 +9,21 @@ use Rattle.laws.specs.Rules.{upto}
 use Rattle.laws.specs.Each.{upto-more, upto-fails, not-both}
 use Rattle.table.specs.Slots.{slotAt, freeBelow}
 use Rattle.table.specs.SlotLaws.{table-slots, free-none, free-more}
+use Rattle.table.specs.Reading.{runBefore}
+use Rattle.table.specs.RunLaws.{run-none, run-more, run-most}
 use Rattle.table.specs.Order.{placedAt, allPlaced}
 use Rattle.table.proofs.order.free_placed.Statement.{statement}
 use Rattle.table.proofs.order.free_placed.Tie as tie
 
 abbrev Inv-loop : tie.InvT-loop
-Inv-loop t n i₀ free₀ i free = (i ≤ n) × ((upto i (placedAt t) ≡ true) × ((free ≡ freeBelow (slotAt t) i) × (free ≤ i)))
+Inv-loop t n i₀ free₀ run₀ i free run =
+    (i ≤ n) × ((upto i (placedAt t) ≡ true) × ((free ≡ freeBelow (slotAt t) i) × ((free ≤ i) × (run ≡ runBefore (slotAt t) i))))
 
 abbrev μ-loop : tie.MeasureT-loop
-μ-loop t n i₀ free₀ i free = n - i
+μ-loop t n i₀ free₀ run₀ i free run = n - i
 
 loop-holds : tie.Need-loop-holds Inv-loop μ-loop
-loop-holds c = (omega arith, (refl, (free-none (slotAt (c .before .args .t .now)), omega arith)))
+loop-holds c = let f = slotAt (c .before .args .t .now) in (omega arith, (refl, (free-none f, (omega arith, run-none f))))
 
 returns : tie.Need-returns Inv-loop μ-loop
 unfolding allPlaced
@@ -32,18 +35,30 @@ returns c =
       λ e. absurd (not-both e refl),
     )
 
+run-on-requires : tie.Need-run-on-requires Inv-loop μ-loop
+run-on-requires c κs =
+    let p = c .before .before in
+    let l = p .before .before in
+    let st = l .before .before in
+    omega (arith, run-most (slotAt (st .args .t .now)) (l .loop .i), l .loop .inv .1 .1 .1 .1, p .before .loop-test .taken, st .pre .most)
+
 loop-again : tie.Need-loop-again Inv-loop μ-loop
 loop-again c =
-    let e = c .before in
+    let o = c .before in
+    let e = o .before in
     let p = e .before in
     let l = p .before .before in
-    let t = l .before .before .args .t .now in (
+    let inv = l .loop .inv .1 in
+    let f = slotAt (l .before .before .args .t .now) in (
       omega (arith, p .before .loop-test .taken),
       (
-        upto-more (placedAt t) (l .loop .i) (l .loop .inv .1 .0) (sym (p .placed .ensures) ∙ not-false _ (e .if1 .left)),
+        upto-more (placedAt (l .before .before .args .t .now)) (l .loop .i) (inv .0) (sym (p .placed .ensures) ∙ not-false _ (e .if1 .left)),
         (
-          free-more (slotAt t) (l .loop .i) (l .loop .inv .1 .1 .0) (c .one-if-free .ensures .0),
-          omega (arith, l .loop .inv .1 .1 .1, c .one-if-free .ensures .1),
+          free-more f (l .loop .i) (inv .1 .0) (o .one-if-free .ensures .0),
+          (
+            omega (arith, inv .1 .1 .0, o .one-if-free .ensures .1),
+            run-more f (l .loop .i) _ _ _ (inv .1 .1 .1) (o .one-if-free .ensures .0) (c .run-on .ensures),
+          ),
         ),
       ),
     )
@@ -69,6 +84,7 @@ free-placed-spec =
     returns
     (λ c κs. search needs)
     (λ c. search needs)
+    run-on-requires
     (λ c. search needs)
     (λ c. search needs)
     loop-again

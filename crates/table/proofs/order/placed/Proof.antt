@@ -25,7 +25,7 @@ found-at-requires c κs =
     let k = c .before .before .before .before in
     let r = k .before .before in
     let st = r .before .before in
-    (st .pre, own-hit _ (k .s .given .0 .0) (sym (r .read-slot .ensures) ∙ k .s .given .1))
+    (st .pre .0, (own-hit _ (k .s .given .0 .0) (sym (r .read-slot .ensures) ∙ k .s .given .1), st .pre .1))
 
 returns-2 : tie.Need-returns-2
 returns-2 c =

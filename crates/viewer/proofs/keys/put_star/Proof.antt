@@ -31,11 +31,11 @@ round-first d = go (eqb 0 d)
     go false = refl
 
 abbrev Inv-loop : tie.InvT-loop
-Inv-loop t v k n plain out₀ vertices base from d at₀ a₀ j₀ out at a j =
+Inv-loop t v k n plain out₀ vertices base from d at₀ row first a₀ j₀ out at a j =
     (j ≤ v .d) × (FacesIn t out₀ from (gather j (freshAt t k v)) out at × (a ≡ placedOf t (adjacentAt v (round (v .d) j))))
 
 abbrev μ-loop : tie.MeasureT-loop
-μ-loop t v k n plain out₀ vertices base from d at₀ a₀ j₀ out at a j = v .d - j
+μ-loop t v k n plain out₀ vertices base from d at₀ row first a₀ j₀ out at a j = v .d - j
 
 returns : tie.Need-returns Inv-loop μ-loop
 returns c =
@@ -50,19 +50,23 @@ module _ (s : tie.Start Inv-loop μ-loop) where
       let p = s .pre in
       valid-inner (s .args .v) j (p .0 .0 .valid (s .args .k) (s .args .v) (omega (arith, p .1 .1 .0 .0, p .0 .1 .0)) (p .1 .1 .0 .1)) h
 
-adjacent-of-requires : tie.Need-adjacent-of-requires Inv-loop μ-loop
-adjacent-of-requires c κs =
-    let s = c .before .before .before in
-    (star s 0 (omega (arith, c .if1 .left)), omega (arith, c .if1 .left))
+ring-requires : tie.Need-ring-requires Inv-loop μ-loop
+ring-requires c κs = let i = c .before in star (i .before .before .before) 0 (omega (arith, i .if1 .left))
+
+point-at-requires : tie.Need-point-at-requires Inv-loop μ-loop
+point-at-requires c κs =
+    let i = c .before .before .before in
+    let s = i .before .before .before in
+    (c .before .ring .ensures, (star s 0 (omega (arith, i .if1 .left)), omega (arith, i .if1 .left)))
 
 loop-holds : tie.Need-loop-holds Inv-loop μ-loop
 loop-holds c =
-    let a = c .before .before .before .before .before .args in
+    let a = c .before .before .before .before .before .before .before .before .args in
     let t = a .t .now in (
       omega arith,
       (
         faces-none t (a .out .now) (a .from) _ (gather-start (freshAt t (a .k) (a .v))),
-        c .with-slot .ensures ∙ ap (placedOf t) (c .before .adjacent-of .ensures ∙ ap (adjacentAt (a .v)) (round-first (a .v .d))),
+        c .with-slot .ensures ∙ ap (placedOf t) (c .before .point-at .ensures ∙ ap (adjacentAt (a .v)) (round-first (a .v .d))),
       ),
     )
 
@@ -72,26 +76,33 @@ module _ (c : tie.In-loop Inv-loop μ-loop) where
   l = c .before
 
   abbrev s : tie.Start Inv-loop μ-loop
-  s = l .before .before .before .before .before .before
+  s = l .before .before .before .before .before .before .before .before .before
 
-adjacent-of-requires-2 : tie.Need-adjacent-of-requires-2 Inv-loop μ-loop
-adjacent-of-requires-2 c κs =
+-- the first adjacent point, found before the loop
+next-placed-requires : tie.Need-next-placed-requires Inv-loop μ-loop
+next-placed-requires c κs =
     let i = c .before in
-    (star (s i) (l i .loop .j) (omega (arith, i .loop-test .taken)), c .next-place .ensures .1)
-
-with-slot-requires-2 : tie.Need-with-slot-requires-2 Inv-loop μ-loop
-with-slot-requires-2 c κs =
-    let z = s (c .before .before) in
-    subst (λ (n : ℕ). Table (z .args .t .now) n) (sym (z .pre .0 .1 .0)) (z .pre .0 .0 .fits)
+    let z = s i in
+    let w = l i .before in
+    let p = w .before in
+    let r = p .before .before in (
+      subst (λ (n : ℕ). Table (z .args .t .now) n) (sym (z .pre .0 .1 .0)) (z .pre .0 .0 .fits),
+      (
+        r .ring .ensures,
+        (
+          (star z (l i .loop .j) (omega (arith, i .loop-test .taken)), omega (arith, i .loop-test .taken)),
+          w .with-slot .ensures ∙ ap (placedOf (z .args .t .now)) (p .point-at .ensures),
+        ),
+      ),
+    )
 
 -- the next adjacent point
-module _ (c : tie.After-with-slot2 Inv-loop μ-loop) where
+module _ (c : tie.After-next-placed Inv-loop μ-loop) where
   abbrev i : tie.In-loop Inv-loop μ-loop
-  i = c .before .before .before
+  i = c .before .before
 
-  next : c .with-slot2 .result ≡ placedOf (s i .args .t .now) (adjacentAt (s i .args .v) (nextPlace (s i .args .v .d) (l i .loop .j)))
-  next = c .with-slot2 .ensures
-      ∙ ap (placedOf (s i .args .t .now)) (c .before .adjacent-of2 .ensures ∙ ap (adjacentAt (s i .args .v)) (c .before .before .next-place .ensures .0))
+  next : c .next-placed .result ≡ placedOf (s i .args .t .now) (adjacentAt (s i .args .v) (nextPlace (s i .args .v .d) (l i .loop .j)))
+  next = c .next-placed .ensures
 
 put-corner-requires : tie.Need-put-corner-requires Inv-loop μ-loop
 put-corner-requires c κs =
@@ -153,7 +164,7 @@ same-length c = c .before .loop .inv .1 .0 .stored .long
 returns-2 : tie.Need-returns-2 Inv-loop μ-loop
 returns-2 c =
     let m = c .before in
-    let a = m .before .before .before .before .before .before .args in
+    let a = m .before .before .before .before .before .before .before .before .before .args in
     let t = a .t .now in
     let e : m .loop .j ≡ a .v .d = omega (arith, m .loop .inv .0, c .loop-test .left) in
     subst (λ (j : ℕ). FacesIn t (a .out .now) (a .from) (gather j (freshAt t (a .k) (a .v))) (m .loop .out) (m .loop .at)) e (m .loop .inv .1 .0)
@@ -165,12 +176,11 @@ put-star-spec =
     Inv-loop
     μ-loop
     returns
-    adjacent-of-requires
+    ring-requires
+    point-at-requires
     (λ c κs. search needs)
     loop-holds
-    (λ c κs. search needs)
-    adjacent-of-requires-2
-    with-slot-requires-2
+    next-placed-requires
     put-corner-requires
     add-j
     (λ c. search needs)

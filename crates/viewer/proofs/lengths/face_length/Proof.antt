@@ -9,6 +9,7 @@ use Rattle.lattice.specs.declared.points.Point.{Point}
 use Rattle.table.specs.Order.{InOrder}
 use Rattle.table.specs.Entries.{holds}
 use Rattle.text.specs.LineOrder.{Close}
+use Rattle.writers.specs.Kept.{places}
 use Rattle.viewer.specs.Viewer.{numberOf, cornersOf}
 use Rattle.viewer.specs.Ranks.{Cuts, held-close, held-number}
 use Rattle.mesh_faces.specs.Once.{Four}
@@ -19,7 +20,7 @@ use Rattle.viewer.proofs.lengths.face_length.Tie as tie
 -- a vertex of the table in which all four stand
 module _ (s : tie.Start) where
   vertex : (p : Point) → (Four (s .pre .0 .0) (s .args .f) → holds (s .pre .0 .0) p ≡ true)
-      → Close p × (((t : List ℕ) × (InOrder t × (Cuts t (s .args .s .first) (s .args .w) × (numberOf t p < 65536)))) × (s .args .s .first ≤ 1))
+      → Close p × (((t : List ℕ) × (InOrder t × (Cuts t (s .args .s .first) (s .args .w) × (numberOf t p < places)))) × (s .args .s .first ≤ 1))
   vertex p h =
       let w = s .pre .0 in
       let t = w .0 in

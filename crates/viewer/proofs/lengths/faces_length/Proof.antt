@@ -6,12 +6,12 @@ use borrow.Author.Needs.{needs}
 use lib.ListN.{length}
 use Rattle.viewer.specs.Viewer.{texts}
 use Rattle.mesh_faces.specs.Once.{freshBelow}
-use Rattle.viewer.specs.Lines.{faceLine, slots-start, slots-more}
+use Rattle.viewer.specs.Lines.{faceLine, starMost, slots-start, slots-more}
 use Rattle.viewer.proofs.lengths.faces_length.Statement.{statement}
 use Rattle.viewer.proofs.lengths.faces_length.Tie as tie
 
 abbrev Inv-loop : tie.InvT-loop
-Inv-loop t n s w total₀ k₀ total k = (k ≤ n) × ((total ≡ length (texts (faceLine s t) (freshBelow t k))) × (total ≤ 156 * k))
+Inv-loop t n s w total₀ k₀ total k = (k ≤ n) × ((total ≡ length (texts (faceLine s t) (freshBelow t k))) × (total ≤ starMost * k))
 
 abbrev μ-loop : tie.MeasureT-loop
 μ-loop t n s w total₀ k₀ total k = n - k

@@ -9,13 +9,13 @@ use Rattle.counts.specs.Counts.{gather}
 use Rattle.counts.specs.EarlierLaws.{star-inner, valid-degree}
 use Rattle.viewer.specs.Viewer.{texts}
 use Rattle.mesh_faces.specs.Once.{freshAt}
-use Rattle.viewer.specs.Lines.{faceLine, star-start, star-more}
+use Rattle.viewer.specs.Lines.{faceLine, faceMost, star-start, star-more}
 use Rattle.viewer.proofs.lengths.star_length.Statement.{statement}
 use Rattle.viewer.proofs.lengths.star_length.Tie as tie
 
 abbrev Inv-loop : tie.InvT-loop
 Inv-loop t v k n s w d total₀ j₀ total j =
-    (j ≤ v .d) × ((total ≡ length (texts (faceLine s t) (gather j (freshAt t k v)))) × (total ≤ 26 * j))
+    (j ≤ v .d) × ((total ≡ length (texts (faceLine s t) (gather j (freshAt t k v)))) × (total ≤ faceMost * j))
 
 abbrev μ-loop : tie.MeasureT-loop
 μ-loop t v k n s w d total₀ j₀ total j = v .d - j

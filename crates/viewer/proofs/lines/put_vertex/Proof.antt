@@ -9,7 +9,8 @@ use Rattle.table.specs.declared.slots.Slot.{Slot}
 use Rattle.table.specs.declared.slots.Slot.the-variants.{Holds}
 use Rattle.text.specs.LineOrder.{close}
 use Rattle.sorting.specs.Keys.{Put}
-use Rattle.writers.specs.Kept.{places, keyOf, keyed, Added}
+use Rattle.writers.specs.Kept.{places, Added}
+use Rattle.viewer.specs.Keyed.{keyOf, keyed}
 use Rattle.viewer.proofs.lines.put_vertex.Statement.{statement}
 use Rattle.viewer.proofs.lines.put_vertex.Tie as tie
 

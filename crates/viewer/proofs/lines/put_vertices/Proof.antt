@@ -4,8 +4,8 @@ use Prim.Native.Nat.{ℕ, _-_, _≤_}
 use native.Mathlib.Omega.{arith}
 use borrow.Author.Needs.{needs}
 use Rattle.table.specs.Slots.{slotAt}
-use Rattle.writers.specs.Kept.{keysBelow}
-use Rattle.writers.specs.KeptLaws.{Filled, keys-none, keys-room, filled-none, filled-more}
+use Rattle.writers.specs.KeptLaws.{Filled, filled-none}
+use Rattle.viewer.specs.Keyed.{keysBelow, keys-none, keys-room, filled-more}
 use Rattle.viewer.proofs.lines.put_vertices.Statement.{statement}
 use Rattle.viewer.proofs.lines.put_vertices.Tie as tie
 

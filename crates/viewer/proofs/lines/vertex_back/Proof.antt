@@ -8,6 +8,7 @@ use borrow.Author.Needs.{needs}
 use Rattle.laws.specs.Stores.{Wrote}
 use Rattle.text.specs.Back.{wrote-before}
 use Rattle.coordinates.specs.Coordinates.{blank}
+use Rattle.viewer.specs.Viewer.{letterV}
 use Rattle.viewer.specs.Lines.{vertex-marked, vertex-plain, vertex-mark, vertex-room}
 use Rattle.viewer.proofs.lines.vertex_back.Statement.{statement}
 use Rattle.viewer.proofs.lines.vertex_back.Tie as tie
@@ -40,7 +41,7 @@ returns c =
     let t = b .before .before .before in
     let o = w t .position-back .last .0 in
     let at = w t .position-back .result in
-    let mark : Wrote o (at - 2) (118 ∷ blank ∷ []) (b .write-bytes .last .0) at =
+    let mark : Wrote o (at - 2) (letterV ∷ blank ∷ []) (b .write-bytes .last .0) at =
     record { bytes = b .write-bytes .ensures .bytes; past = omega (arith, two t) } in
     subst (λ (l : List ℕ). Wrote (s t .args .out .now) (at - 2) l (b .write-bytes .last .0) (s t .args .end))
     (sym (vertex-mark (s t .args .s) (s t .args .r) (t .if1 .taken)))

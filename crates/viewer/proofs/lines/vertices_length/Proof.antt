@@ -7,12 +7,12 @@ use borrow.Author.Needs.{needs}
 use Rattle.table.specs.Slots.{slotAt}
 use Rattle.writers.specs.Kept.{standing}
 use Rattle.viewer.specs.Viewer.{vertexText, texts}
-use Rattle.viewer.specs.Lines.{vertices-start, vertices-more}
+use Rattle.viewer.specs.Lines.{vertexMost, vertices-start, vertices-more}
 use Rattle.viewer.proofs.lines.vertices_length.Statement.{statement}
 use Rattle.viewer.proofs.lines.vertices_length.Tie as tie
 
 abbrev Inv-loop : tie.InvT-loop
-Inv-loop t n s total₀ i₀ total i = (total ≡ length (texts (vertexText s) (standing (slotAt t) i))) × (total ≤ 43 * i) × (i ≤ n)
+Inv-loop t n s total₀ i₀ total i = (total ≡ length (texts (vertexText s) (standing (slotAt t) i))) × (total ≤ vertexMost * i) × (i ≤ n)
 
 abbrev μ-loop : tie.MeasureT-loop
 μ-loop t n s total₀ i₀ total i = n - i

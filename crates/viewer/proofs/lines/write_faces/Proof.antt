@@ -11,7 +11,7 @@ use Rattle.sorting.specs.Tally.{nth}
 use Rattle.viewer.specs.Viewer.{texts}
 use Rattle.viewer.specs.Packed.{unpacked}
 use Rattle.viewer.specs.Backward.{Left, left-start, left-room, left-top, left-place, left-step, left-end}
-use Rattle.viewer.specs.Lines.{keyLine, Queue, face-least}
+use Rattle.viewer.specs.Lines.{faceLeast, keyLine, Queue, face-least}
 use Rattle.viewer.specs.declared.styles.Style.{Style}
 use Rattle.viewer.proofs.lines.write_faces.Statement.{statement}
 use Rattle.viewer.proofs.lines.write_faces.Tie as tie
@@ -30,11 +30,7 @@ Inv-loop out₀ k end s left₀ at₀ out left at = (length out ≡ length out�
 abbrev μ-loop : tie.MeasureT-loop
 μ-loop out₀ k end s left₀ at₀ out left at = left
 
--- the shortest line
-abbrev shortest : ℕ
-shortest = 10
-
-least : (s : Style) (v : ℕ) → shortest ≤ length (keyLine s v)
+least : (s : Style) (v : ℕ) → faceLeast ≤ length (keyLine s v)
 least s v = face-least s (unpacked v)
 
 loop-holds : tie.Need-loop-holds Inv-loop μ-loop
@@ -52,7 +48,7 @@ key-requires c κs =
     let a = s .args in
     let ks = s .pre .1 .0 in
     let v = l .loop .inv .1 ks (s .pre .1 .1) in
-    let room = left-room (keyLine (a .s)) (fromOf ks (a .s) (a .end)) shortest (least (a .s)) ks (drop (a .end) (a .out .now)) (l .loop .out) (l .loop .left)
+    let room = left-room (keyLine (a .s)) (fromOf ks (a .s) (a .end)) faceLeast (least (a .s)) ks (drop (a .end) (a .out .now)) (l .loop .out) (l .loop .left)
     (l .loop .at) v in
     omega (arith, room, v .room)
 
@@ -83,13 +79,13 @@ module _ (c : tie.After-key Inv-loop μ-loop) where
         subst (λ (x : ℕ). Going ks (s .args .s) (s .args .end) rest (l .loop .out) x (l .loop .at)) e (l .loop .inv .1 ks q)
 
     top : c .key .result ≡ nth ks k
-    top = c .key .ensures ∙ left-top line from shortest (least (s .args .s)) (omega arith) ks rest (l .loop .out) k (l .loop .at) one
+    top = c .key .ensures ∙ left-top line from faceLeast (least (s .args .s)) (omega arith) ks rest (l .loop .out) k (l .loop .at) one
 
     long : length (line (c .key .result)) ≡ length (line (nth ks k))
     long = ap (λ (v : ℕ). length (line v)) top
 
     place : length (line (c .key .result)) ≤ l .loop .at
-    place = omega (arith, long, left-place line from shortest (least (s .args .s)) (omega arith) ks rest (l .loop .out) k (l .loop .at) one)
+    place = omega (arith, long, left-place line from faceLeast (least (s .args .s)) (omega arith) ks rest (l .loop .out) k (l .loop .at) one)
 
 face-back-requires : tie.Need-face-back-requires Inv-loop μ-loop
 face-back-requires c κs =
@@ -111,7 +107,7 @@ loop-again c =
       λ ks q.
           let e = long p ks q in
           let w = x .face-back .ensures .past in
-          left-step (line p) (from p ks q) shortest (least (a .s)) (omega arith) ks (rest p) o₁ (k p) at (one p ks q) o₂ at′ at (omega arith)
+          left-step (line p) (from p ks q) faceLeast (least (a .s)) (omega arith) ks (rest p) o₁ (k p) at (one p ks q) o₂ at′ at (omega arith)
           (subst (λ (v : ℕ). Wrote o₁ at′ (line p v) o₂ at) (top p ks q) (x .face-back .ensures)),
     )
 

@@ -11,11 +11,12 @@ use Rattle.lattice.specs.declared.records.Record.{Record}
 use Rattle.table.specs.Slots.{slotWidth}
 use Rattle.text.specs.LineOrder.{Close}
 use Rattle.sorting.specs.Tally.{nth}
-use Rattle.writers.specs.Kept.{places, recordKeyed}
+use Rattle.writers.specs.Kept.{places}
+use Rattle.viewer.specs.Keyed.{recordKeyed}
 use Rattle.viewer.specs.Viewer.{vertexText, texts}
 use Rattle.viewer.specs.Ranks.{ordered}
 use Rattle.viewer.specs.Backward.{Left, left-start, left-room, left-top, left-place, left-step, left-end}
-use Rattle.viewer.specs.Lines.{vertexLine, vertex-least, ordered-inside, keyed-close}
+use Rattle.viewer.specs.Lines.{vertexLeast, vertexLine, vertex-least, ordered-inside, keyed-close}
 use Rattle.viewer.specs.declared.styles.Style.{Style}
 use Rattle.viewer.proofs.lines.write_vertices.Statement.{statement}
 use Rattle.viewer.proofs.lines.write_vertices.Tie as tie
@@ -34,11 +35,7 @@ Inv-loop t out₀ k end s left₀ at₀ out left at = (length out ≡ length out
 abbrev μ-loop : tie.MeasureT-loop
 μ-loop t out₀ k end s left₀ at₀ out left at = left
 
--- the shortest line
-abbrev shortest : ℕ
-shortest = 21
-
-least : (t : List ℕ) (s : Style) (v : ℕ) → shortest ≤ length (vertexLine s t v)
+least : (t : List ℕ) (s : Style) (v : ℕ) → vertexLeast ≤ length (vertexLine s t v)
 least t s v = vertex-least s (recordKeyed t v)
 
 loop-holds : tie.Need-loop-holds Inv-loop μ-loop
@@ -57,7 +54,7 @@ key-requires c κs =
     let a = l .before .before .before .args in
     let t = a .t .now in
     let v = l .loop .inv .1 in
-    let room = left-room (vertexLine (a .s) t) (fromOf t (a .s) (a .end)) shortest (least t (a .s)) (ordered t) (drop (a .end) (a .out .now))
+    let room = left-room (vertexLine (a .s) t) (fromOf t (a .s) (a .end)) vertexLeast (least t (a .s)) (ordered t) (drop (a .end) (a .out .now))
     (l .loop .out) (l .loop .left) (l .loop .at) v in
     omega (arith, room, v .room)
 
@@ -89,7 +86,7 @@ module _ (c : tie.After-key Inv-loop μ-loop) where
   top : c .key .result ≡ nth (ordered t) k
   top =
       c .key .ensures
-      ∙ left-top (vertexLine (s .args .s) t) from shortest (least t (s .args .s)) (omega arith) (ordered t) rest (l .loop .out) k (l .loop .at) one
+      ∙ left-top (vertexLine (s .args .s) t) from vertexLeast (least t (s .args .s)) (omega arith) (ordered t) rest (l .loop .out) k (l .loop .at) one
 
   abbrev rec : Record
   rec = recordKeyed t (nth (ordered t) k)
@@ -97,7 +94,7 @@ module _ (c : tie.After-key Inv-loop μ-loop) where
   place : length (vertexText (s .args .s) rec) ≤ l .loop .at
   place =
       omega
-      (arith, left-place (vertexLine (s .args .s) t) from shortest (least t (s .args .s)) (omega arith) (ordered t) rest (l .loop .out) k (l .loop .at) one)
+      (arith, left-place (vertexLine (s .args .s) t) from vertexLeast (least t (s .args .s)) (omega arith) (ordered t) rest (l .loop .out) k (l .loop .at) one)
 
   inside : slotWidth * (nth (ordered t) k % places) + slotWidth ≤ length t
   inside = ordered-inside t (s .pre .0 .0) k (omega (arith, one .count))
@@ -136,7 +133,7 @@ loop-again c =
     let e = long q in
     let w = x .vertex-back .ensures .past in (
       ap length (x .vertex-back .ensures .bytes) ∙ length-sets o₁ at′ (vertexText (a .s) (q .record-keyed .result)) ∙ l (p q) .loop .inv .0,
-      left-step (vertexLine (a .s) tb) (from (p q)) shortest (least tb (a .s)) (omega arith) (ordered tb) (rest (p q)) o₁ (k (p q)) at (one (p q)) o₂ at′ at
+      left-step (vertexLine (a .s) tb) (from (p q)) vertexLeast (least tb (a .s)) (omega arith) (ordered tb) (rest (p q)) o₁ (k (p q)) at (one (p q)) o₂ at′ at
           (omega arith) (subst (λ (y : Record). Wrote o₁ at′ (vertexText (a .s) y) o₂ at) (is q) (x .vertex-back .ensures)),
     )
 

@@ -2,13 +2,15 @@
 use mathlib.Core.Path.{_≡_, refl, sym, _∙_, ap, subst}
 use Prim.Native.Nat.{ℕ, _+_}
 use native.Mathlib.Omega.{arith}
+use mathlib.Core.List.{map}
 use lib.ListN.{length}
 use borrow.Author.Needs.{needs}
+use Rattle.table.specs.Entries.{listed}
 use Rattle.table.specs.declared.slots.Slot.{Slot}
 use Rattle.table.specs.declared.slots.Slot.the-variants.{Holds}
 use Rattle.sorting.specs.Keys.{Put}
-use Rattle.writers.specs.Kept.{keptAt, keyed, Added}
-use Rattle.writers.specs.KeptLaws.{slot-room, kept-close}
+use Rattle.writers.specs.Kept.{keptAt, keyFor, Added}
+use Rattle.writers.specs.KeptLaws.{slot-room, kept-near}
 use Rattle.writers.proofs.kept.put_kept.Statement.{statement}
 use Rattle.writers.proofs.kept.put_kept.Tie as tie
 
@@ -25,13 +27,13 @@ pack-requires c κs =
     let s = h .before .before .before .before .before in
     let t = s .args .table .now in
     let m = s .args .marks .now in
-    (kept-close t (s .pre .0 .0) m (s .args .i) (h .r .given .0 .0) (s .pre .0 .1) (holds h), slot-room t (s .pre .0 .0) (s .args .i) (s .pre .0 .1) .1)
+    kept-near t (s .pre .0 .0) m (s .args .i) (h .r .given .0 .0) (s .pre .0 .1) (holds h)
 
 put-key-requires : tie.Need-put-key-requires
 put-key-requires c κs =
     let h = c .before .before .before in
     let s = h .before .before .before .before .before in
-    let one = ap (λ (x : Slot). length (keyed (s .args .i) x)) (holds h) in
+    let one = ap (λ (x : Slot). length (listed x)) (holds h) in
     omega (arith, s .pre .1, one)
 
 returns : tie.Need-returns
@@ -39,7 +41,7 @@ returns c =
     let f = c .before .before in
     let a = f .before .before .before .args in
     let e = sym (f .kept .ensures) ∙ c .enum-told .given .1 in
-    subst (λ (x : Slot). Added (a .out .now) (a .k) (keyed (a .i) x) (a .out .now) (a .k)) (sym e) (refl, refl)
+    subst (λ (x : Slot). Added (a .out .now) (a .k) (map keyFor (listed x)) (a .out .now) (a .k)) (sym e) (refl, refl)
 
 returns-2 : tie.Need-returns-2
 returns-2 c =
@@ -49,7 +51,7 @@ returns-2 c =
     let a = h .before .before .before .before .before .args in
     let o = a .out .now in
     let o′ = w .put-key .last .0 in
-    subst (λ (x : Slot). Added o (a .k) (keyed (a .i) x) o′ (a .k + 1)) (sym (holds h))
+    subst (λ (x : Slot). Added o (a .k) (map keyFor (listed x)) o′ (a .k + 1)) (sym (holds h))
     (subst (λ (v : ℕ). Put o (a .k) v o′) (p .pack .ensures) (w .put-key .ensures), refl)
 
 pub put-kept-spec : {M : Type 1} → statement M

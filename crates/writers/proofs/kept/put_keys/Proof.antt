@@ -1,15 +1,18 @@
 -- `writers::put_keys` meets its promise. The invariant: the keys of the slots so far are stored. Assumes nothing.
 use mathlib.Core.Path.{_≡_, sym, subst}
+use mathlib.Core.List.{map}
 use Prim.Native.Nat.{ℕ, _-_, _≤_}
 use native.Mathlib.Omega.{arith}
+use lib.ListN.{length-map}
 use borrow.Author.Needs.{needs}
-use Rattle.writers.specs.Kept.{keptAt, keysBelow}
-use Rattle.writers.specs.KeptLaws.{Filled, keys-none, keys-room, filled-none, filled-more}
+use Rattle.writers.specs.Kept.{keptAt, standing, keyFor}
+use Rattle.writers.specs.KeptLaws.{Filled, filled-none}
+use Rattle.writers.specs.FileKeys.{standing-none, standing-room, filled-next}
 use Rattle.writers.proofs.kept.put_keys.Statement.{statement}
 use Rattle.writers.proofs.kept.put_keys.Tie as tie
 
 abbrev Inv-loop : tie.InvT-loop
-Inv-loop table marks n out₀ i₀ k₀ out i k = (i ≤ n) × Filled out₀ (keysBelow (keptAt table marks) i) out k
+Inv-loop table marks n out₀ i₀ k₀ out i k = (i ≤ n) × Filled out₀ (map keyFor (standing (keptAt table marks) i)) out k
 
 abbrev μ-loop : tie.MeasureT-loop
 μ-loop table marks n out₀ i₀ k₀ out i k = n - i
@@ -17,7 +20,8 @@ abbrev μ-loop : tie.MeasureT-loop
 loop-holds : tie.Need-loop-holds Inv-loop μ-loop
 loop-holds c =
     let a = c .before .before .args in
-    (omega arith, subst (λ ks. Filled (a .out .now) ks (a .out .now) 0) (sym (keys-none (keptAt (a .table .now) (a .marks .now)))) (filled-none (a .out .now)))
+    let none = standing-none (keptAt (a .table .now) (a .marks .now)) in
+    (omega arith, subst (λ ks. Filled (a .out .now) ks (a .out .now) 0) (sym none) (filled-none (a .out .now)))
 
 put-kept-requires : tie.Need-put-kept-requires Inv-loop μ-loop
 put-kept-requires c κs =
@@ -25,8 +29,14 @@ put-kept-requires c κs =
     let s = l .before .before .before in
     let f = keptAt (s .args .table .now) (s .args .marks .now) in (
       (s .pre .0 .0, omega (arith, s .pre .0 .1)),
-      omega
-          (arith, s .pre .1, l .loop .inv .1 .count, l .loop .inv .1 .long, keys-room f (l .loop .i) (s .args .n) (omega arith)),
+      omega (
+        arith,
+        s .pre .1,
+        l .loop .inv .1 .count,
+        length-map (standing f (l .loop .i)) keyFor,
+        l .loop .inv .1 .long,
+        standing-room f (l .loop .i) (s .args .n) (omega arith),
+      ),
     )
 
 add-i : tie.Need-add-i Inv-loop μ-loop
@@ -41,7 +51,7 @@ loop-again c =
     let l = w .before .before .before in
     let s = l .before .before .before in
     let f = keptAt (s .args .table .now) (s .args .marks .now) in
-    (omega arith, filled-more f (l .loop .i) (s .args .out .now) (l .loop .out) _ (l .loop .k) (w .put-kept .result) (l .loop .inv .1) (w .put-kept .ensures))
+    (omega arith, filled-next f (l .loop .i) (s .args .out .now) (l .loop .out) _ (l .loop .k) (w .put-kept .result) (l .loop .inv .1) (w .put-kept .ensures))
 
 same-length : tie.Need-same-length Inv-loop μ-loop
 same-length c = c .before .loop .inv .1 .long
@@ -52,7 +62,7 @@ returns c =
     let s = l .before .before .before in
     let f = keptAt (s .args .table .now) (s .args .marks .now) in
     let e : l .loop .i ≡ s .args .n = omega (arith, l .loop .inv .0) in
-    subst (λ (x : ℕ). Filled (s .args .out .now) (keysBelow f x) (l .loop .out) (l .loop .k)) e (l .loop .inv .1)
+    subst (λ (x : ℕ). Filled (s .args .out .now) (map keyFor (standing f x)) (l .loop .out) (l .loop .k)) e (l .loop .inv .1)
 
 pub put-keys-spec : {M : Type 1} → statement M
 put-keys-spec =
