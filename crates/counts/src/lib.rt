@@ -22,9 +22,10 @@ mod sides;
 mod strides;
 
 use crate::corners::count_corners;
-use crate::degrees::count_degrees;
 pub use choices::Choice;
 pub use choices::choose;
+pub use degrees::Degrees;
+pub use degrees::count_degrees;
 pub use earlier::Placed;
 pub use earlier::inner_before;
 pub use earlier::next_placed;

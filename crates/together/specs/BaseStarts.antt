@@ -33,7 +33,7 @@ use Rattle.together.specs.Added.{seqMesh}
 use Rattle.together.specs.Starts.{StartIn}
 
 -- ---- the base's starts: three in each hexagon, by its centre
-pub centrePt : List ℤ → ℕ → Pt
+unfoldable pub centrePt : List ℤ → ℕ → Pt
 centrePt cs i = record { at = centreAt cs i; normal = tt }
 
 abbrev hexCell : Pt → ℕ → Cell
@@ -60,7 +60,7 @@ module _ (cs : List ℤ) (g : GoodList cs) where
       ∙ at-among (λ j. samePoint (centreAt cs j) (centreAt cs i)) (centresIn cs) i h (same-refl (centreAt cs i))
 
   -- a later one equal to an earlier is refused
-  one-place : (i j : ℕ) → i < centresIn cs → j < centresIn cs → centrePt cs i ≡ centrePt cs j → i ≡ j
+  pub one-place : (i j : ℕ) → i < centresIn cs → j < centresIn cs → centrePt cs i ≡ centrePt cs j → i ≡ j
   unfolding centrePt listedIn
   one-place i j a b e = go (ℕ-discrete i j) (decLt j i)
     where
@@ -84,7 +84,7 @@ module _ (cs : List ℤ) (g : GoodList cs) where
       let (i, l, e) = among-at (λ i. samePoint (centreAt cs i) (h .at)) (centresIn cs) (sym (centre-in (isListed cs) (h .at) (sym (class-one h r) ∙ b)) ∙ k) in
       (i, l, pt-eq (centrePt cs i) h (same-true (centreAt cs i) (h .at) e))
 
-  hex-start : (h : Pt) (t : ℕ) → rank h ≡ 1 → birth h ≡ 0 → presAt (isListed cs) (cnt []) h 1 ≡ true → t < 3 → StartIn B (hexCell h t)
+  pub hex-start : (h : Pt) (t : ℕ) → rank h ≡ 1 → birth h ≡ 0 → presAt (isListed cs) (cnt []) h 1 ≡ true → t < 3 → StartIn B (hexCell h t)
   hex-start h t f b on ht =
       let k = hexCell h t in
       let d : Dir (k .e) 0 = even-turn 6 (birth h + 4 * t) 0 refl (par-dir h t 0 ht f) in

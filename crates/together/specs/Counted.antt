@@ -1,4 +1,5 @@
--- What a census counts of a table grown from a base of the list cs by S subdivisions: `records-fit`, `faces-fit`, `edges-fit`.
+-- What a census counts of a table grown from a base of the list cs by S subdivisions: `records-fit`, `faces-fit`, `edges-fit`;
+-- `edges-by` the same by any list of the base's labels.
 -- Faces are as many as starts, edges as labels; each subdivision adds six and twelve (Added).
 -- Assumes nothing.
 use mathlib.Core.Path.{_≡_, refl, sym, _∙_, ap}
@@ -6,6 +7,7 @@ use mathlib.Core.List.{List, []}
 use Prim.Native.Nat.{ℕ, _+_, _*_}
 use native.Mathlib.Omega.{arith}
 use lib.IntN.{ℤ}
+use lib.ListN.{length}
 use Rattle.growth.specs.Normal.{Pt}
 use Rattle.growth.specs.Closed.{rec}
 use Rattle.growth.specs.Order.{cnt, nil}
@@ -16,10 +18,10 @@ use Rattle.local.specs.Sheet.{sheetOf}
 use Rattle.counts.specs.Counts.{countsOf}
 use Rattle.together.specs.Corners.{Mesh}
 use Rattle.together.specs.Faces.{Drawn}
-use Rattle.together.specs.Inventory.{upTo, upto-length}
+use Rattle.together.specs.Inventory.{Inventory, upTo, upto-length}
 use Rattle.together.specs.Added.{seqMesh, seq-low, inventory-grown}
 use Rattle.together.specs.Starts.{StartIn, faces-starts, newStarts, starts-size, starts-add}
-use Rattle.together.specs.Edges.{Edge, edges-labels, edge-inventory, newLabels, labels-size, edges-add}
+use Rattle.together.specs.Edges.{Label, Edge, edges-labels, edge-inventory, newLabels, labels-size, edges-add}
 use Rattle.together.specs.GrownFrom.{GrownFrom, from-grown, list-from, sheet-from, records-from, History, history}
 use Rattle.together.specs.BaseStarts.{baseCell, base-starts}
 
@@ -64,14 +66,21 @@ module _ (t : List ℕ) (cs : List ℤ) (S : ℕ) (K : GrownFrom t cs S) where
       let n = h .many in
       omega (arith, b, e, z, n)
 
-  -- "and edges .. are the base's edges plus 12S": the base's labels are listed, and twelve more for each subdivision
+  -- where the base's labels are listed, twelve more for each subdivision
+  pub edges-by : (ls : List Label) → Inventory (Edge (seqMesh (isListed cs) [] nil)) ls → countsOf t .edges ≡ length ls + 12 * S
+  unfolding countsOf
+  edges-by ls L =
+      let (ms, I, e) = inventory-grown Edge newLabels 12 labels-size edges-add (isListed cs) ls L (h .steps) (h .seq) in
+      let z = edges-labels t N drawn ms I in
+      let n = h .many in
+      omega (arith, e, z, n)
+
+  -- "and edges .. are the base's edges plus 12S"
   pub edges-fit : (b : List ℕ) → GrownFrom b cs 0 → countsOf t .edges ≡ countsOf b .edges + 12 * S
   unfolding countsOf
   edges-fit b B =
       let D = base-drawn b cs B in
       let (ls, L) = edge-inventory b (seqMesh (isListed cs) [] nil) D in
       let x = edges-labels b (seqMesh (isListed cs) [] nil) D ls L in
-      let (ms, I, e) = inventory-grown Edge newLabels 12 labels-size edges-add (isListed cs) ls L (h .steps) (h .seq) in
-      let z = edges-labels t N drawn ms I in
-      let n = h .many in
-      omega (arith, x, e, z, n)
+      let z = edges-by ls L in
+      omega (arith, x, z)

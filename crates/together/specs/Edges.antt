@@ -65,18 +65,18 @@ abbrev sideIn : Mesh → Label → Side
 sideIn M l = side (l .x .at) (farEnd M l .at)
 
 -- a cell on one of the two sides of direction e is alive
-abbrev Flanked : Mesh → Pt → ℕ → ℕ → Type 0
+abbrev pub Flanked : Mesh → Pt → ℕ → ℕ → Type 0
 Flanked M x e i = Alive M (cell x e i) ⊎ Alive M (cell x ((e + 10) % 12) i)
 
 pub record Edge (M : Mesh) (l : Label) : Type 0 where
   pub dir : Dir (l .e) (rank (l .x))
   pub flanked : Flanked M (l .x) (l .e) (rank (l .x))
 
-flanked-at : (M : Mesh) (x : Pt) (e g i j : ℕ) → e ≡ g → i ≡ j → Flanked M x e i → Flanked M x g j
+pub flanked-at : (M : Mesh) (x : Pt) (e g i j : ℕ) → e ≡ g → i ≡ j → Flanked M x e i → Flanked M x g j
 flanked-at M x e g i j h k (inl A) = inl (subst (Alive M) (λ t. cell x (h t) (k t)) A)
 flanked-at M x e g i j h k (inr A) = inr (subst (Alive M) (λ t. cell x ((h t + 10) % 12) (k t)) A)
 
-flanked-there : (M : Mesh) (x : Pt) (e i : ℕ) → e < 12 → Flanked M x e i → pres M (move x e i) ≡ true
+pub flanked-there : (M : Mesh) (x : Pt) (e i : ℕ) → e < 12 → Flanked M x e i → pres M (move x e i) ≡ true
 flanked-there M x e i h (inl A) = A .u-there
 flanked-there M x e i h (inr A) = ap (λ (g : ℕ). pres M (move x g i)) (sym (add-turn e 10 2 ∙ whole e h)) ∙ A .v-there
 

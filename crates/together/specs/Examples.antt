@@ -1,5 +1,5 @@
 -- The counts of one hexagon, of document 01's mesh "Three", and of Three after one subdivision, of [1,0,0], computed from the bytes of their tables: 3H + 6S
--- faces, the base's edges and 12S.
+-- faces, the base's edges and 12S. The tally of Three.
 -- Assumes nothing.
 use mathlib.Core.Path.{_≡_, refl}
 use mathlib.Core.List.{List, [], _∷_}
@@ -19,6 +19,8 @@ use Rattle.queries.specs.Queries.{chosenAt}
 use Rattle.growth.specs.Sheets.{vertex}
 use Rattle.lattice.specs.Points.{pt}
 use Rattle.counts.specs.Counts.{differentAfter, gather, each, sameSide, fits, sameFace, ofDegree, numbers, countsOf}
+use Rattle.counts.specs.Earlier.{sumBelow}
+use Rattle.together.specs.Tally.{hexagonsIn, groundIn, pairsIn, besideOf}
 
 abbrev clear : ℕ → List ℕ
 clear n = replicate (slotWidth * n) 255
@@ -48,3 +50,10 @@ unfolding countsOf differentAfter gather each sameSide fits sameFace ofDegree re
     hexagonOf cornerRecord internal listedIn turns normalOf patternOf rowsOf three four five six orient lookUp enterOf findOf searchFrom slotAt
     freeAt recordAt putSlot recordBytes slotsIn homeOf samePoint wordAt subdivided renewedTo enteredTo replaceOf updateOf
 divided-counts = refl
+
+-- three hexagons, each beside the two others
+threes-tally : (hexagonsIn threes ≡ 3) × (groundIn threes ≡ 16) × (pairsIn threes ≡ 3)
+unfolding hexagonsIn groundIn pairsIn besideOf sumBelow threes baseOf firstBad laidOf layAll layHexagon hexagonOf cornerRecord internal listedIn turns
+    normalOf patternOf rowsOf three four five six orient lookUp enterOf findOf searchFrom slotAt freeAt recordAt putSlot recordBytes slotsIn homeOf
+    samePoint wordAt
+threes-tally = (refl, refl, refl)

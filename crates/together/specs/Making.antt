@@ -1,8 +1,8 @@
 -- What a plan was made of is told by its records, whatever its history.
--- `centre-held` the hexagons are those whose centres it has · `hexagons-same`, `hexagons-one`, `subdivisions-one` so there is only one set of hexagons, and
--- one number of subdivisions · `CentresOf` a list of the centres that a table has, `centres-from` there is one, `centres-accepted` a base of these is
--- accepted where there is room for the plan · `base-told`, `hexagons-told`, `subdivisions-told` it holds what the plan's own base holds, and a sixth of
--- the vertices beyond it is the number of subdivisions.
+-- `ground-held` of depth 0 it has what its hexagons give, `centre-held` these are those whose centres it has · `hexagons-same`, `hexagons-one`,
+-- `subdivisions-one` so there is only one set of hexagons, and one number of subdivisions · `CentresOf` a list of the centres that a table has,
+-- `centres-from` there is one, `centres-accepted` a base of these is accepted where there is room for the plan · `base-told`, `hexagons-told`,
+-- `subdivisions-told` it holds what the plan's own base holds, and a sixth of the vertices beyond it is the number of subdivisions.
 -- Assumes nothing.
 use mathlib.Core.Path.{_≡_, refl, sym, _∙_, ap, fun-ext}
 use mathlib.Core.Bool.{Bool, true, false, cond, not, _||_}
@@ -45,20 +45,22 @@ listed-centre cs g p e =
     (ap (λ (p : Point). p .m .0) (sym x), ap classOf (sym x) ∙ good-is (centreAt cs i) (g .good i l) .class)
 
 module _ (t : List ℕ) (cs : List ℤ) (S : ℕ) (K : GrownFrom t cs S) where
-  pub centre-held : (p : Point) → p .m .0 ≡ 0 → classOf p ≡ 0 → holds t p ≡ isListed cs p
+  pub ground-held : (p : Point) → p .m .0 ≡ 0 → holds t p ≡ givenBy (isListed cs) p
   unfolding meshOf presentOf there
-  centre-held p m k =
+  ground-held p m =
       let h = history t cs S K in
       let H = isListed cs in
       held-there t refl
       ∙ ap isThere (h .is p)
       ∙ is (presentOf H (h .c) p) _
       ∙ when-true (eqb (p .m .0) 0) (givenBy H p) _ (of-true (eq-eqb (p .m .0) 0 m))
-      ∙ centre-in H p k
     where
       is : (a : Bool) (r : Record) → isThere (cond a (some r) none) ≡ a
       is true r = refl
       is false r = refl
+
+  pub centre-held : (p : Point) → p .m .0 ≡ 0 → classOf p ≡ 0 → holds t p ≡ isListed cs p
+  centre-held p m k = ground-held p m ∙ centre-in (isListed cs) p k
 
   -- ---- ds lists the centres that t has, and b is laid of them
   module _ (ds : List ℤ) (g : GoodList ds) (has : (p : Point) → p .m .0 ≡ 0 → classOf p ≡ 0 → isListed ds p ≡ holds t p) where
