@@ -3,10 +3,11 @@ ghost use mathlib.Core.Path.{_≡_};
 ghost use mathlib.Core.Bool.{true};
 ghost use Rattle.lattice.specs.Arms.{regularOf};
 ghost use Rattle.lattice.specs.Stars.{given};
+ghost use Rattle.lattice.specs.Terms.{Light};
 ghost use Rattle.table.specs.Slots.{Table};
 ghost use Rattle.table.specs.Order.{inOrderOf};
 ghost use Rattle.queries.specs.Queries.{adjacentsThere, cornersThere, facesGiven, queryOf, neighboursOf, facesOf};
-ghost use Rattle.queries.specs.Asked.{Asked, answerAt, slotAnswer, whenTrue};
+ghost use Rattle.queries.specs.Asked.{Asked, answerAt, slotAnswer, chosenBy, whenTrue};
 ghost use Rattle.lattice.specs.AnswerRows.{answerNumbers};
 use crate::opposites::adjacents_there;
 use crate::opposites::chosen;
@@ -18,8 +19,11 @@ use lattice::NOT_IN_ORDER;
 use lattice::Record;
 use lattice::Spot;
 use lattice::TORN;
+use lattice::Terms;
 use lattice::added;
+use lattice::far_arm;
 use lattice::first_arm;
+use lattice::near_arm;
 use lattice::next_arm;
 use lattice::put_point;
 use lattice::refuse_row;
@@ -28,6 +32,7 @@ use lattice::ring;
 use table::Looked;
 use table::held_in;
 use table::in_order;
+use table::is_there;
 use table::slot_by_guess;
 use table::slots_of;
 use table::stands;
@@ -74,8 +79,48 @@ fn star_there(t: &[u8], v: Record, n: usize, out: &mut [i32; ANSWER_NUMBERS]) ->
     adjacents_there(t, out, v, n)
 }
 
-// Puts the chosen opposite of each corner in the place of the adjacent point before it, up to the first corner with none.
-fn put_opposites(t: &[u8], v: Record, n: usize, out: &mut [i32; ANSWER_NUMBERS]) -> bool
+// The opposite of a corner by its two arms: the first one if that is in the table, else the second if that is.
+fn opposite_by(t: &[u8], near: Terms, far: Terms, n: usize) -> Spot
+    requires { ⌜ Table (now t) n ⌝ }
+    requires { ⌜ Light near × Light far ⌝ }
+    ensures { λ r. ⌜ r ≡ chosenBy (now (t .entry)) near far ⌝ }
+{
+    let first = added(near);
+    if is_there(t, first, n) {
+        return Spot::At(first);
+    }
+    let second = added(far);
+    if is_there(t, second, n) {
+        return Spot::At(second);
+    }
+    Spot::Nothing
+}
+
+// Puts the chosen opposite of each corner of a regular star, up to the first corner with none.
+fn put_regular_opposites(t: &[u8], v: Record, n: usize, out: &mut [i32; ANSWER_NUMBERS]) -> bool
+    requires { ⌜ Asked (now t) n v ⌝ }
+    requires { ⌜ regularOf (v .d) ≡ true ⌝ }
+    requires { ⌜ now out ≡ answerNumbers (given v) ⌝ }
+    ensures { λ r. ⌜ r ≡ cornersThere (now (t .entry)) v ⌝ }
+    ensures { λ r. ⌜ whenTrue r (now (out .exit) ≡ answerNumbers (facesGiven (now (t .entry)) v)) ⌝ }
+{
+    let mut near = near_arm(v);
+    let mut far = far_arm(v);
+    let mut j: u8 = 0;
+    while j < v.d {
+        match opposite_by(t, near, far, n) {
+            Spot::At(p) => put_point(out, 3 * (j as usize) + 1, p),
+            Spot::Nothing => return false,
+        }
+        near = next_arm(near, v.d);
+        far = next_arm(far, v.d);
+        j += 1;
+    }
+    true
+}
+
+// Puts the chosen opposite of each corner of any star, up to the first corner with none.
+fn put_each_opposite(t: &[u8], v: Record, n: usize, out: &mut [i32; ANSWER_NUMBERS]) -> bool
     requires { ⌜ Asked (now t) n v ⌝ }
     requires { ⌜ now out ≡ answerNumbers (given v) ⌝ }
     ensures { λ r. ⌜ r ≡ cornersThere (now (t .entry)) v ⌝ }
@@ -91,6 +136,19 @@ fn put_opposites(t: &[u8], v: Record, n: usize, out: &mut [i32; ANSWER_NUMBERS])
         j += 1;
     }
     true
+}
+
+// Puts the chosen opposites in the places of the adjacent points, if each corner has one.
+fn put_opposites(t: &[u8], v: Record, n: usize, out: &mut [i32; ANSWER_NUMBERS]) -> bool
+    requires { ⌜ Asked (now t) n v ⌝ }
+    requires { ⌜ now out ≡ answerNumbers (given v) ⌝ }
+    ensures { λ r. ⌜ r ≡ cornersThere (now (t .entry)) v ⌝ }
+    ensures { λ r. ⌜ whenTrue r (now (out .exit) ≡ answerNumbers (facesGiven (now (t .entry)) v)) ⌝ }
+{
+    if regular(v.d) {
+        return put_regular_opposites(t, v, n, out);
+    }
+    put_each_opposite(t, v, n, out)
 }
 
 // What a vertex that has a star is answered: its star, if each adjacent point is in the table; asked for its faces, the chosen opposites in its

@@ -27,13 +27,6 @@ pub range-spec : {M : Type 1} → statement M
 range-spec =
     tie.close
     (tie.spec
-    (λ c. search needs)
-    (λ c. search needs)
-    (λ c. search needs)
-    (λ c. search needs)
-    (λ c. search needs)
-    (λ c. search needs)
-    (λ c. search needs)
     (λ c. sym (ap at-depth (c .match .keys1)))
     (λ c. sym (ap at-depth (c .match .keys2)))
     (λ c. sym (ap at-depth (c .match .keys3)))
