@@ -5,7 +5,6 @@ pub mod Count
 pub mod Earlier
 pub mod Strides
 pub mod Choices
-pub mod Beside
 -- their laws
 pub mod DifferentLaws
 pub mod SetLaws
@@ -21,7 +20,6 @@ pub mod ToldLaws
 pub mod DegreeLaws
 pub mod AloneLaws
 pub mod CaseLaws
-pub mod BesideLaws
 pub mod CountLaws
 -- examples that compute
 pub mod Examples

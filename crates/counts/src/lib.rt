@@ -1,8 +1,8 @@
 // What a census counts of a table: document 01's V, F and the records by degree, and E in document 02's sense, the sides of the faces.
 //
 // `counts_of` gives them all, `count` those of any bytes in a lent row. corners.rt counts each face and each side once, at the first vertex that has it
-// (faces.rt, sides.rt), with no memory but a few words and a bit a slot; what the other vertices of a face have of it is asked of their strides first
-// (fits.rt, strides.rt, beside.rt). The floor above takes each face once in the same way.
+// (faces.rt, sides.rt), with no memory but a few words; what the other vertices of a face have of it is asked of their strides first (fits.rt,
+// strides.rt). The floor above takes each face once in the same way.
 // The promise cites specs/Counts.
 ghost use mathlib.Core.Path.{_≡_};
 ghost use Rattle.table.specs.Slots.{slotsOf};
@@ -10,7 +10,6 @@ ghost use Rattle.table.specs.Order.{InOrder};
 ghost use Rattle.counts.specs.Counts.{countsOf};
 ghost use Rattle.counts.specs.Earlier.{plainOf};
 
-mod beside;
 mod choices;
 mod corners;
 mod degrees;

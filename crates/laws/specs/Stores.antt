@@ -1,5 +1,5 @@
 -- Bytes stored part by part: parts written one after the other are the whole written at once.
--- `Wrote` what a writer did · `wrote-then` the next part · `wrote-byte` one byte · `set-sets` a store past a run of stores may come first.
+-- `Wrote` what a writer did · `wrote-then` the next part · `set-sets` a store past a run of stores may come first.
 -- Assumes nothing.
 use mathlib.Core.Path.{_≡_, refl, _∙_, ap}
 use mathlib.Core.List.{List, [], _∷_, _++_}
@@ -20,9 +20,6 @@ wrote-then {o} {o₁} {o₂} {xs} {ys} {p} {q} {r} u v =
       bytes = v .bytes ∙ (λ i. sets (u .bytes i) (u .past i) ys) ∙ sets-append xs ys o p;
       past = omega (arith, u .past, v .past, length-append xs ys);
     }
-
-pub wrote-byte : (o : List ℕ) (p b : ℕ) → Wrote o p (b ∷ []) (set o p b) (p + 1)
-wrote-byte o p b = record { bytes = refl; past = refl }
 
 pub set-sets : (vs l : List ℕ) (i k x : ℕ) → i + length vs ≤ k → set (sets l i vs) k x ≡ sets (set l k x) i vs
 set-sets [] l i k x h = refl

@@ -4,14 +4,13 @@
 -- `chosen-first`, `chosen-second` the opposite of a corner · `faces-torn`, `faces-cornered` the ways to an answer, `answer-torn` whichever was asked ·
 -- `when-true`. The row of the faces: OppositeLaws.
 -- Assumes nothing.
-use mathlib.Core.Path.{_≡_, refl, sym, ap, _∙_}
+use mathlib.Core.Path.{_≡_, sym, ap, _∙_}
 use mathlib.Core.Bool.{Bool, true, false, cond, _&&_}
 use mathlib.Core.List.{List}
 use Prim.Native.Nat.{ℕ, _<_}
 use native.Mathlib.Decide.{decLt}
 use native.Mathlib.Omega.{arith}
 use borrow.Author.Tests.{le-ltb, lt-ltb}
-use lib.Dec.{ltb}
 use lib.IntN.{ℤ}
 use Rattle.laws.specs.Choices.{unless, of-true}
 use Rattle.lattice.specs.Points.{normalOf}

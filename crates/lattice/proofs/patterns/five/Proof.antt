@@ -1,7 +1,6 @@
 -- `lattice::patterns::five` meets its promise: the row at each number. Assumes nothing.
 use mathlib.Core.Path.{sym, ap}
 use Prim.Native.Nat.{_≤_}
-use borrow.Author.Needs.{needs}
 use Rattle.lattice.specs.Patterns.{three, four, five, six, orient}
 use Rattle.lattice.specs.Rows.{tableRow}
 use Rattle.lattice.specs.RowLaws.{past}

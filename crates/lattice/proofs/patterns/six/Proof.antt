@@ -2,7 +2,6 @@
 use mathlib.Core.Path.{_≡_, sym, ap}
 use Prim.Native.Nat.{_≤_}
 use native.Mathlib.Omega.{arith}
-use borrow.Author.Needs.{needs}
 use Rattle.lattice.specs.Patterns.{three, four, five, six, orient}
 use Rattle.lattice.specs.Rows.{tableRow}
 use Rattle.lattice.specs.RowLaws.{past}

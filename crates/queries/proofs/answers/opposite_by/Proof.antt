@@ -1,6 +1,6 @@
 -- `queries::opposite_by` meets its promise: the first point where it is there, else the second. Assumes nothing.
 use mathlib.Core.Path.{_≡_, sym, ap, _∙_}
-use mathlib.Core.Bool.{Bool, true, false}
+use mathlib.Core.Bool.{true, false}
 use borrow.Author.Needs.{needs}
 use Rattle.lattice.specs.Terms.{addedOf}
 use Rattle.lattice.specs.declared.patterns.Spot.the-variants.{At}

@@ -1,8 +1,8 @@
 -- `queries::put_each_opposite` meets its promise. The invariant: the row filled so far. Assumes nothing.
-use mathlib.Core.Path.{_≡_, sym, subst, _∙_}
+use mathlib.Core.Path.{sym, subst, _∙_}
 use mathlib.Core.List.{List}
 use Prim.{tt}
-use Prim.Native.Nat.{ℕ, _-_, _<_, _+_}
+use Prim.Native.Nat.{_-_, _<_, _+_}
 use native.Mathlib.Omega.{arith}
 use borrow.Author.Needs.{needs}
 use lib.IntN.{ℤ}

@@ -5,7 +5,6 @@ use Prim.{tt}
 use Prim.Native.Nat.{ℕ, _-_, _<_, _+_}
 use native.Mathlib.Omega.{arith}
 use borrow.Author.Needs.{needs}
-use lib.IntN.{ℤ}
 use Rattle.lattice.specs.RecordLaws.{Inner}
 use Rattle.lattice.specs.Terms.{Light}
 use Rattle.lattice.specs.declared.points.Terms.{Terms}
