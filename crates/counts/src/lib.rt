@@ -26,6 +26,7 @@ pub use choices::Choice;
 pub use choices::choose;
 pub use degrees::Degrees;
 pub use degrees::count_degrees;
+pub use degrees::one_if;
 pub use earlier::Placed;
 pub use earlier::inner_before;
 pub use earlier::next_placed;

@@ -18,23 +18,19 @@ ghost use Rattle.counts.specs.Earlier.{slotSum};
 ghost use Rattle.together.specs.Tally.{isCentre, onGround, besidesAt, hexagonsIn, groundIn, pairsIn};
 use counts::Counts;
 use counts::count_degrees;
+use counts::one_if;
+use lattice::Depth;
 use lattice::Point;
 use lattice::class;
 use table::Slot;
+use table::is_there;
 use table::read_slot;
-use table::stands;
 
 // What the slots of a table add up to: hexagons by their centres, vertices of depth 0, pairs of hexagons side by side.
 struct Sums {
     hexagons: u32,
     ground: u32,
     pairs: u32,
-}
-
-fn one_if(b: bool) -> u32
-    ensures { λ r. ⌜ (r ≡ bit b) × (r ≤ 1) ⌝ }
-{
-    if b { 1 } else { 0 }
 }
 
 fn is_centre(p: Point) -> bool
@@ -52,7 +48,12 @@ fn beside(t: &[u8], p: Point, x: i32, y: i32, n: usize) -> u32
     requires { ⌜ (natAbs x ≤ 2) × (natAbs y ≤ 2) ⌝ }
     ensures { λ r. ⌜ (r ≡ bit (holds (now (t .entry)) (pt (p .a +ℤ x) (p .b +ℤ y) 0))) × (r ≤ 1) ⌝ }
 {
-    one_if(stands(t, p.a + x, p.b + y, 0, n))
+    let q = Point {
+        a: p.a + x,
+        b: p.b + y,
+        m: Depth(0),
+    };
+    one_if(is_there(t, q, n))
 }
 
 // How many of three hexagons side by side with that of p the table has: of the two of a pair, one has the other there.
