@@ -1,8 +1,9 @@
 // V, E and F of a grown table, told by its records: three faces, three spokes and six sides a hexagon, but for the sides that two share; six vertices, six
 // faces and twelve sides more a subdivision.
 //
-// `tally` gives what `counts` would, with no look at a star. It is for the proved floors above, and asks that the table is grown.
-// The promises cite together's specs/Tally.
+// `tally` gives what `counts` would, with no look at a star. It is for the proved floors above, and asks that the table is grown. `count`, in rows.rt, is
+// for any bytes: it tallies where the local check passes, and surveys elsewhere.
+// The promises cite specs/Count and together's specs/Tally.
 ghost use mathlib.Core.Path.{_≡_};
 ghost use mathlib.Core.Bool.{cond};
 ghost use Prim.Native.Nat.{_≤_, _<_};
@@ -16,12 +17,17 @@ ghost use Rattle.mesh.specs.Grown.{Grown};
 ghost use Rattle.counts.specs.Counts.{bit, countsOf};
 ghost use Rattle.counts.specs.Earlier.{slotSum};
 ghost use Rattle.together.specs.Tally.{isCentre, onGround, besidesAt, hexagonsIn, groundIn, pairsIn};
+
+mod rows;
+
 use counts::Counts;
 use counts::count_degrees;
 use counts::one_if;
 use lattice::Depth;
 use lattice::Point;
 use lattice::class;
+pub use rows::COUNTS;
+pub use rows::count;
 use table::Slot;
 use table::is_there;
 use table::read_slot;
