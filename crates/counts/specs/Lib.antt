@@ -1,6 +1,5 @@
 -- Document 01, "Census program", and document 02, ticket 2, in antt: what is counted of a table.
 pub mod Counts
-pub mod Count
 -- what the promises of the functions below cite besides
 pub mod Earlier
 pub mod Strides
@@ -20,6 +19,5 @@ pub mod ToldLaws
 pub mod DegreeLaws
 pub mod AloneLaws
 pub mod CaseLaws
-pub mod CountLaws
 -- examples that compute
 pub mod Examples

@@ -9,12 +9,13 @@ ghost use Rattle.lattice.specs.declared.patterns.Spot.the-variants.{At};
 ghost use Rattle.table.specs.Slots.{Table, slotsOf, slotAt};
 ghost use Rattle.table.specs.Order.{InOrder};
 ghost use Rattle.table.specs.declared.slots.Slot.the-variants.{Holds};
-ghost use Rattle.counts.specs.Counts.{bit, nextPlace, edgesIn, facesIn};
+ghost use Rattle.counts.specs.Counts.{nextPlace, edgesIn, facesIn};
 ghost use Rattle.counts.specs.Strides.{oppositeBy};
 ghost use Rattle.counts.specs.Earlier.{innersIn, placedOf, Round, facesAndSides, cornerCount, starFaces, slotFaces, sideCount};
 ghost use Rattle.counts.specs.Earlier.{starSides, slotSides, plainAt, plainStar, plainSlot, plainOf};
 use crate::choices::Choice;
 use crate::choices::choose;
+use crate::degrees::one_if;
 use crate::earlier::Placed;
 use crate::earlier::inners_before;
 use crate::earlier::next_placed;
@@ -38,13 +39,6 @@ pub struct Counted {
     pub faces: u32,
     pub sides: u32,
     pub plain: bool,
-}
-
-// 1 where a face is counted, else 0.
-fn new_face(seen: bool) -> u32
-    ensures { λ r. ⌜ (r ≡ bit (not seen)) × (r ≤ 1) ⌝ }
-{
-    if seen { 0 } else { 1 }
 }
 
 // Whether a face is counted at the first of its vertices that have a star: seen tells whether one of the three others, in these slots, had it before.
@@ -92,7 +86,7 @@ fn count_face(
     let fits = fits_of(t, v, j, second, a, o, b, k, n);
     let near = near_count(t, v, j, a, true, 0 < fits.adjacent, k, n);
     let seen = face_seen(t, face, a.slot, o.slot, b.slot, fits, k, n);
-    let faces = new_face(seen);
+    let faces = one_if(!seen);
     let sides = near + far_count(t, v, j, a, o, b, fits, seen, k, n);
     let plain = (a.slot < n) & is_first(t, a.slot, o.slot, b.slot, seen, k, n);
     Counted {

@@ -1,8 +1,9 @@
 // V, E and F of a grown table, told by its records: three faces, three spokes and six sides a hexagon, but for the sides that two share; six vertices, six
 // faces and twelve sides more a subdivision.
 //
-// `tally` gives what `counts` would, with no look at a star. It is for the proved floors above, and asks that the table is grown.
-// The promises cite together's specs/Tally.
+// `tally` gives what `counts` would, with no look at a star. It is for the proved floors above, and asks that the table is grown. `count`, in rows.rt, is
+// for any bytes: it tallies where the local check passes, and surveys elsewhere.
+// The promises cite specs/Count and together's specs/Tally.
 ghost use mathlib.Core.Path.{_≡_};
 ghost use mathlib.Core.Bool.{cond};
 ghost use Prim.Native.Nat.{_≤_, _<_};
@@ -16,25 +17,26 @@ ghost use Rattle.mesh.specs.Grown.{Grown};
 ghost use Rattle.counts.specs.Counts.{bit, countsOf};
 ghost use Rattle.counts.specs.Earlier.{slotSum};
 ghost use Rattle.together.specs.Tally.{isCentre, onGround, besidesAt, hexagonsIn, groundIn, pairsIn};
+
+mod rows;
+
 use counts::Counts;
 use counts::count_degrees;
+use counts::one_if;
+use lattice::Depth;
 use lattice::Point;
 use lattice::class;
+pub use rows::COUNTS;
+pub use rows::count;
 use table::Slot;
+use table::is_there;
 use table::read_slot;
-use table::stands;
 
 // What the slots of a table add up to: hexagons by their centres, vertices of depth 0, pairs of hexagons side by side.
 struct Sums {
     hexagons: u32,
     ground: u32,
     pairs: u32,
-}
-
-fn one_if(b: bool) -> u32
-    ensures { λ r. ⌜ (r ≡ bit b) × (r ≤ 1) ⌝ }
-{
-    if b { 1 } else { 0 }
 }
 
 fn is_centre(p: Point) -> bool
@@ -52,7 +54,12 @@ fn beside(t: &[u8], p: Point, x: i32, y: i32, n: usize) -> u32
     requires { ⌜ (natAbs x ≤ 2) × (natAbs y ≤ 2) ⌝ }
     ensures { λ r. ⌜ (r ≡ bit (holds (now (t .entry)) (pt (p .a +ℤ x) (p .b +ℤ y) 0))) × (r ≤ 1) ⌝ }
 {
-    one_if(stands(t, p.a + x, p.b + y, 0, n))
+    let q = Point {
+        a: p.a + x,
+        b: p.b + y,
+        m: Depth(0),
+    };
+    one_if(is_there(t, q, n))
 }
 
 // How many of three hexagons side by side with that of p the table has: of the two of a pair, one has the other there.

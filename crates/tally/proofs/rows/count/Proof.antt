@@ -1,12 +1,12 @@
--- `counts::count` meets its promise: by the order test. Assumes nothing.
+-- `tally::count` meets its promise: by the order test. Assumes nothing.
 use mathlib.Core.Path.{sym, ap, _∙_}
 use borrow.Author.Needs.{needs}
 use borrow.Author.Tests.{not-true, not-false}
-use Rattle.table.specs.OrderLaws.{test-order}
-use Rattle.counts.specs.Count.{CountsAfter}
-use Rattle.counts.specs.CountLaws.{count-1, count-0}
-use Rattle.counts.proofs.rows.count.Statement.{statement}
-use Rattle.counts.proofs.rows.count.Tie as tie
+use Rattle.table.specs.MapLaws.{test-order}
+use Rattle.tally.specs.Count.{CountsAfter}
+use Rattle.tally.specs.CountLaws.{count-1, count-0}
+use Rattle.tally.proofs.rows.count.Statement.{statement}
+use Rattle.tally.proofs.rows.count.Tie as tie
 
 returns : tie.Need-returns
 returns c =

@@ -6,9 +6,9 @@ use mathlib.Core.List.{List}
 use Prim.Native.Nat.{ℕ}
 use lib.ListN.{replicate}
 use Rattle.table.specs.Order.{inOrderOf}
 use Rattle.counts.specs.Counts.{countsOf}
-use Rattle.counts.specs.Count.{rowOf, CountsAfter, countsAfter, countOf}
+use Rattle.tally.specs.Count.{rowOf, CountsAfter, countsAfter, countOf}
 use Rattle.counts.specs.declared.Counts.{Counts}
 
 module _ (t : List ℕ) where
   abbrev by : Bool → CountsAfter

@@ -1,25 +1,21 @@
 -- How a reader comes to 0, and to 12: what was read, restored and judged on the way. Each way there and back.
--- `full-ends`, `full-zero` · `reduced-ends`, `reduced-zero`, `reduced-twelve`.
+-- `full-ends`, `full-zero`, `full-grown` what is accepted is grown · `reduced-ends`, `reduced-zero`, `reduced-twelve`.
 -- Assumes nothing.
 use mathlib.Core.Path.{_≡_, refl, ap, _∙_}
-use mathlib.Core.Bool.{Bool, true, false, cond, _&&_}
+use mathlib.Core.Bool.{Bool, true, false, cond}
 use mathlib.Core.List.{List}
 use mathlib.Core.Option.{none}
 use Prim.Native.Nat.{ℕ, _≤_}
 use native.Mathlib.Omega.{arith}
-use borrow.Author.Tests.{eq-eqb}
-use lib.Dec.{eqb}
 use lib.ListN.{length}
-use Rattle.laws.specs.Each.{both-left}
 use Rattle.laws.specs.Some.{someOf}
 use Rattle.lattice.specs.declared.records.Record.{Record}
-use Rattle.table.specs.Slots.{Table, fitsLength, lengthsFit, slotsOf, clearedOf}
-use Rattle.table.specs.SlotLaws.{table-test, test-table}
+use Rattle.table.specs.Slots.{lengthsFit, clearedOf}
 use Rattle.writers.specs.Files.{redundant}
 use Rattle.grown.specs.Grown.{isGrown}
 use Rattle.readers.specs.Readers.{Lines, Read, Fault, readLines, Restored, With, Stopped, restoreAll, TablesAfter, tablesAfter, refused, accepted}
 use Rattle.readers.specs.Readers.{endFull, endRestored, endReduced, readFullOf, readReducedOf}
 use Rattle.readers.specs.FaultLaws.{fault-number, stop-number}
 
 module _ (t s f : List ℕ) where
   -- ---- the full reader
@@ -57,6 +53,10 @@ module _ (t s f : List ℕ) where
       go false fit x e z = absurd (omega arith)
       go true fit (Fault number line) e z = absurd (let l = fault-number f (length f) 0 1 none (clearedOf t) number line e in omega arith)
       go true fit (Read rs u) e z = judged fit rs u e (isGrown u) refl z
+
+  -- "11: not a grown mesh"
+  pub full-grown : readFullOf t s f .number ≡ 0 → isGrown (readFullOf t s f .table) ≡ true
+  full-grown z = let w = full-zero z in ap (λ (o : TablesAfter). isGrown (o .table)) (w .is) ∙ w .grown
 
   -- ---- the reduced reader
   abbrev pub ended : List Record → List ℕ → TablesAfter
