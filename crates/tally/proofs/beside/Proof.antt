@@ -2,6 +2,7 @@
 use borrow.Author.Needs.{needs}
 use mathlib.Core.Path.{ap, _∙_}
 use mir.Syntax.{w32}
+use Rattle.lattice.specs.Bounds.{summable}
 use Rattle.laws.specs.Machine.{Mx, back, need, whole, _+ᵐ_}
 use Rattle.lattice.specs.Points.{pt}
 use Rattle.table.specs.Entries.{holds}
@@ -11,10 +12,10 @@ use Rattle.tally.proofs.beside.Statement.{statement}
 use Rattle.tally.proofs.beside.Tie as tie
 
 abbrev across : tie.Start → Mx w32
-across s = whole (s .args .p .a) 1000000000 (small-size (s .args .p) (s .pre .0 .1 .1) .0) +ᵐ whole (s .args .x) 2 (s .pre .1 .0)
+across s = whole (s .args .p .a) summable (small-size (s .args .p) (s .pre .0 .1 .1) .0) +ᵐ whole (s .args .x) 2 (s .pre .1 .0)
 
 abbrev up : tie.Start → Mx w32
-up s = whole (s .args .p .b) 1000000000 (small-size (s .args .p) (s .pre .0 .1 .1) .1) +ᵐ whole (s .args .y) 2 (s .pre .1 .1)
+up s = whole (s .args .p .b) summable (small-size (s .args .p) (s .pre .0 .1 .1) .1) +ᵐ whole (s .args .y) 2 (s .pre .1 .1)
 
 add-t7 : tie.Need-add-t7
 add-t7 c = need (across (c .before .before .before)) tt
