@@ -5,24 +5,24 @@
 use mathlib.Core.Path.{_≡_, refl, sym, _∙_, ap, subst}
 use mathlib.Core.Bool.{true, false}
 use mathlib.Core.List.{List}
-use Prim.Native.Nat.{ℕ, zero, suc, _+_, _*_, _≤_, _<_, _-_, _^_, max}
+use Prim.Native.Nat.{ℕ, _+_, _*_, _≤_, _<_, _-_, _^_, max}
 use native.Mathlib.Omega.{arith}
 use native.Mathlib.Decide.{ℕ-discrete}
 use borrow.Author.Tests.{ne-eqb}
 use lib.IntN.{ℤ, negℤ, _+ℤ_}
 use lib.Seq.{sets}
 use Rattle.laws.specs.Each.{never}
-use Rattle.laws.specs.Linear.{same, ‵, _⊕_, _⊝_, ⊟, _⊗_}
+use Rattle.laws.specs.Linear.{same, ‵, _⊕_, ⊟}
 use Rattle.laws.specs.Multiples.{add-times, neg-times}
 use Rattle.laws.specs.Rules.{Test, _≤?_, _&_, _⇒_, Means, rule}
 use Rattle.lattice.specs.AnswerRowLaws.{sixNumbers, mixed, mixed-more}
 use Rattle.lattice.specs.AnswerRows.{pointNumbers, answerNumbers}
 use Rattle.lattice.specs.Arms.{regularOf, armBy, armOf, nearArm, farArm, nextArm}
 use Rattle.lattice.specs.Bounds.{Near, near-small}
-use Rattle.lattice.specs.PatternLaws.{orient-split, adjacent-near, first-near, second-near}
+use Rattle.lattice.specs.PatternLaws.{orient-split, adjacent-near, first-near, second-near, orient-turn}
 use Rattle.lattice.specs.Patterns.{Row, three, four, five, six, rowsOf, patternOf, orient, onSpot, adjacentOf, secondOppositeOf}
 use Rattle.lattice.specs.PointLaws.{alike, alike-eq}
-use Rattle.lattice.specs.Points.{pt, turn60Of}
+use Rattle.lattice.specs.Points.{turn60Of}
 use Rattle.lattice.specs.RecordLaws.{Inner, inner-small}
 use Rattle.lattice.specs.Rows.{held, fartherOf}
 use Rattle.lattice.specs.Stars.{scaleOf, stepOf, adjacentAt, secondAt, nowhere, given}
@@ -65,17 +65,6 @@ firsts = record { six = λ j h. alike-eq _ _ (six-turns j h .1 .0); three = λ j
 
 seconds : Turning (λ r. held (r .second))
 seconds = record { six = λ j h. alike-eq _ _ (six-turns j h .1 .1); three = λ j h. alike-eq _ _ (three-turns j h .1 .1) }
-
-orient-turn : (k : ℕ) (p : Point) → orient k (turn60Of p) ≡ turn60Of (orient k p)
-unfolding orient
-orient-turn zero p = refl
-orient-turn (suc zero) p =
-    let a = ‵ (p .a) in
-    let b = ‵ (p .b) in
-    let x = ⊟ b in
-    let y = a ⊕ b in
-    λ i. pt (same (x ⊝ y) (⊟ (a ⊕ 2 ⊗ b)) (omega arith) i) (same (x ⊕ 2 ⊗ y) ((a ⊝ b) ⊕ (a ⊕ 2 ⊗ b)) (omega arith) i) (p .m .0 + 1)
-orient-turn (suc (suc k)) p = ap turn60Of (orient-turn k p)
 
 -- ---- an arm turns with its pattern point
 module _ (v : Record) (q : Point) where

@@ -4,6 +4,7 @@ use mathlib.Core.Path.{_≡_, sym, _∙_}
 use mathlib.Core.Bool.{true, false}
 use borrow.Author.Needs.{needs}
 use borrow.Author.Tests.{not-true, not-false}
+use Rattle.writers.specs.CallLaws.{out-is}
 use Rattle.laws.specs.Each.{never}
 use Rattle.table.specs.Order.{InOrder, inOrderOf}
 use Rattle.table.specs.MapLaws.{test-order}
@@ -14,7 +15,7 @@ use Rattle.grown.specs.Grown.{passes-grown}
 use Rattle.together.specs.Plain.{plain-grown}
 use Rattle.mesh_faces.specs.MeshFaces.{tornOf}
 use Rattle.mesh_faces.specs.Plain.{plain-untorn}
-use Rattle.viewer.specs.CallLaws.{out-is, view-disorder, view-torn, view-whole}
+use Rattle.viewer.specs.CallLaws.{view-disorder, view-torn, view-whole}
 use Rattle.viewer.proofs.write.Statement.{statement}
 use Rattle.viewer.proofs.write.Tie as tie
 
