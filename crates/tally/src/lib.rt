@@ -1,8 +1,8 @@
 // V, E and F of a grown table, told by its records: three faces, three spokes and six sides a hexagon, but for the sides that two share; six vertices, six
 // faces and twelve sides more a subdivision.
 //
-// `tally` gives what `counts` would, with no look at a star. It is for the proved floors above, and asks that the table is grown. `count`, in rows.rt, is
-// for any bytes: it tallies where the local check passes, and surveys elsewhere.
+// `tally` gives what `counts` would, with no look at a star. It is for the proved floors above, and asks that the table is grown. `surveyed` is for any
+// table in order: it tallies where the local check passes, and surveys elsewhere. `count`, in rows.rt, is for any bytes.
 // The promises cite specs/Count and together's specs/Tally.
 ghost use mathlib.Core.Path.{_≡_};
 ghost use mathlib.Core.Bool.{cond};
@@ -15,17 +15,20 @@ ghost use Rattle.table.specs.Order.{InOrder};
 ghost use Rattle.table.specs.Entries.{holds};
 ghost use Rattle.mesh.specs.Grown.{Grown};
 ghost use Rattle.counts.specs.Counts.{bit, countsOf};
-ghost use Rattle.counts.specs.Earlier.{slotSum};
+ghost use Rattle.counts.specs.Earlier.{slotSum, plainOf};
 ghost use Rattle.together.specs.Tally.{isCentre, onGround, besidesAt, hexagonsIn, groundIn, pairsIn};
 
 mod rows;
 
 use counts::Counts;
+use counts::Surveyed;
 use counts::count_degrees;
 use counts::one_if;
+use counts::survey;
 use lattice::Depth;
 use lattice::Point;
 use lattice::class;
+use local::all_pass;
 pub use rows::COUNTS;
 pub use rows::count;
 use table::Slot;
@@ -156,4 +159,19 @@ pub fn tally(t: &[u8], n: usize) -> Counts
         d5,
         d6,
     }
+}
+
+// What `survey` tells of a table in order, of n slots: a grown one is told by its records, and surveyed is only another.
+pub fn surveyed(t: &[u8], n: usize) -> Surveyed
+    requires { ⌜ InOrder (now t) × (n ≡ slotsOf (now t)) ⌝ }
+    ensures { λ r. ⌜ (r .counts ≡ countsOf (now (t .entry))) × (r .plain ≡ plainOf (now (t .entry))) ⌝ }
+{
+    if all_pass(t, n) {
+        let counts = tally(t, n);
+        return Surveyed {
+            counts,
+            plain: true,
+        };
+    }
+    survey(t, n)
 }

@@ -14,16 +14,17 @@ returns c =
     let e = count-1 (k .before .before .args .table .now) (sym (k .in-order .ensures) ∙ not-true _ (c .before .if1 .taken)) in
     (ap (λ (x : CountsAfter). x .number) (sym e), ap (λ (x : CountsAfter). x .counted) (sym e))
 
-counts-of-requires : tie.Need-counts-of-requires
-counts-of-requires c κs =
+surveyed-requires : tie.Need-surveyed-requires
+surveyed-requires c κs =
     let k = c .before .before in (test-order _ (sym (k .in-order .ensures) ∙ not-false _ (c .before .if1 .left)), c .slots-of .ensures)
 
 returns-2 : tie.Need-returns-2
 returns-2 c =
-    let k = c .before .before .before .before in
-    let ordered = sym (k .in-order .ensures) ∙ not-false _ (c .before .before .before .if1 .left) in
-    let e = count-0 (k .before .before .args .table .now) ordered (c .before .counts-of .result) (c .before .counts-of .ensures) in
+    let q = c .before .before in
+    let k = q .before .before .before in
+    let ordered = sym (k .in-order .ensures) ∙ not-false _ (q .before .before .if1 .left) in
+    let e = count-0 (k .before .before .args .table .now) ordered (q .surveyed .result .counts) (q .surveyed .ensures .0) in
     (ap (λ (x : CountsAfter). x .number) (sym e), ap (λ (x : CountsAfter). x .counted) (sym e))
 
 pub count-spec : {M : Type 1} → statement M
-count-spec = tie.close (tie.spec (λ c κs. search needs) returns (λ c κs. search needs) counts-of-requires returns-2)
+count-spec = tie.close (tie.spec (λ c κs. search needs) returns (λ c κs. search needs) surveyed-requires returns-2)
