@@ -1,5 +1,5 @@
 -- The input, read: `input-long`, `long-unfit`, `long-fit`, `input-read` the ways of reading it · `input-line` no line at fault is past the input's
--- bytes · `input-grown` what is read is grown · `census-refused`, `census-counted` the text that follows, `refused-most`, `counted-most` of
+-- bytes · `counted-grown`, `input-grown` what is read is grown · `census-refused`, `census-counted` the text that follows, `refused-most`, `counted-most` of
 -- at most 128 bytes.
 -- Assumes nothing.
 use mathlib.Core.Path.{_≡_, refl, sym, ap, _∙_, subst}
@@ -111,7 +111,7 @@ module _ (t s input : List ℕ) where
       go true true h = omega arith
       go true false h = ended-low (ltb-false mostInput (length input) h) (readLines input (clearedOf t)) refl
 
-  counted-grown : readInputOf t s input .number ≡ 0 → isGrown (readInputOf t s input .table) ≡ true
+  pub counted-grown : readInputOf t s input .number ≡ 0 → isGrown (readInputOf t s input .table) ≡ true
   unfolding readInputOf
   counted-grown = go (lengthsFit t s) (ltb mostInput (length input))
     where

@@ -1,6 +1,6 @@
 -- Demand 2: "One point has one written form", of requests in a row, of tables and of files.
--- `all-spelling` two lists that name the same points in turn, however spelled, get one answer of `subdivide_all` · `one-point` two valid records of one point have one spelling of it · `table-forms` no table in order has one point under two
--- spellings · `full-forms`, `reduced-forms` nor has a file that a reader accepts, full or reduced.
+-- `all-spelling` two lists that name the same points in turn, however spelled, get one answer of `subdivide_all` · `one-point` two valid records of
+-- one point have one spelling of it · `table-forms` no table in order has one point under two spellings · `full-forms`, `reduced-forms` nor has a file that a reader accepts, full or reduced.
 -- Assumes nothing.
 use mathlib.Core.Path.{_≡_, refl, sym, _∙_, ap, subst}
 use mathlib.Core.Bool.{Bool, true, false, cond, _&&_}

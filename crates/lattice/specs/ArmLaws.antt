@@ -1,5 +1,5 @@
 -- `foremost-adjacent` every star's first arm is the same · `arm-next`, `near-next`, `far-next` an arm of a regular star, turned, is the next · `second-by-arm`,
--- `farther-held`, `far-near` its corners have second opposites · `arm-light`, `near-light`, `far-light` an arm's sum can be taken ·
+-- `far-bounded` its corners have second opposites · `arm-light`, `near-light`, `far-light` an arm's sum can be taken ·
 -- `ArmsPut` a star's row as it is filled arm by arm, `arms-start`, `arms-more`, `arms-end`.
 -- Assumes nothing.
 use mathlib.Core.Path.{_≡_, refl, sym, _∙_, ap, subst}
@@ -19,12 +19,12 @@ use Rattle.lattice.specs.AnswerRowLaws.{sixNumbers, mixed, mixed-more}
 use Rattle.lattice.specs.AnswerRows.{pointNumbers, answerNumbers}
 use Rattle.lattice.specs.Arms.{regularOf, armBy, armOf, nearArm, farArm, nextArm}
 use Rattle.lattice.specs.Bounds.{Near, near-small}
-use Rattle.lattice.specs.PatternLaws.{orient-split, adjacent-near, first-near, second-near, orient-turn}
+use Rattle.lattice.specs.PatternLaws.{adjacent-near, first-near, second-near, orient-turn}
 use Rattle.lattice.specs.Patterns.{Row, three, four, five, six, rowsOf, patternOf, orient, onSpot, adjacentOf, secondOppositeOf}
 use Rattle.lattice.specs.PointLaws.{alike, alike-eq}
 use Rattle.lattice.specs.Points.{turn60Of}
 use Rattle.lattice.specs.RecordLaws.{Inner, inner-small}
-use Rattle.lattice.specs.Rows.{held, fartherOf}
+use Rattle.lattice.specs.Rows.{held}
 use Rattle.lattice.specs.Stars.{scaleOf, stepOf, adjacentAt, secondAt, nowhere, given}
 use Rattle.lattice.specs.Terms.{addedOf, Light, terms-light}
 use Rattle.lattice.specs.declared.patterns.Spot.{Spot}
@@ -54,30 +54,30 @@ three-turns j h = rule 2 (λ j. turnsTo (λ p. turn60Of (turn60Of p)) (patternOf
 
 -- a column of the patterns turns so
 record Turning (f : Row → Point) : Type 0 where
-  six : (j : ℕ) → j + 1 < 6 → f (patternOf 6 (j + 1)) ≡ turn60Of (f (patternOf 6 j))
-  three : (j : ℕ) → j + 1 < 3 → f (patternOf 3 (j + 1)) ≡ turn60Of (turn60Of (f (patternOf 3 j)))
+  by-six : (j : ℕ) → j + 1 < 6 → f (patternOf 6 (j + 1)) ≡ turn60Of (f (patternOf 6 j))
+  by-three : (j : ℕ) → j + 1 < 3 → f (patternOf 3 (j + 1)) ≡ turn60Of (turn60Of (f (patternOf 3 j)))
 
 adjacents : Turning (λ r. r .adjacent)
-adjacents = record { six = λ j h. alike-eq _ _ (six-turns j h .0); three = λ j h. alike-eq _ _ (three-turns j h .0) }
+adjacents = record { by-six = λ j h. alike-eq _ _ (six-turns j h .0); by-three = λ j h. alike-eq _ _ (three-turns j h .0) }
 
 firsts : Turning (λ r. r .first)
-firsts = record { six = λ j h. alike-eq _ _ (six-turns j h .1 .0); three = λ j h. alike-eq _ _ (three-turns j h .1 .0) }
+firsts = record { by-six = λ j h. alike-eq _ _ (six-turns j h .1 .0); by-three = λ j h. alike-eq _ _ (three-turns j h .1 .0) }
 
 seconds : Turning (λ r. held (r .second))
-seconds = record { six = λ j h. alike-eq _ _ (six-turns j h .1 .1); three = λ j h. alike-eq _ _ (three-turns j h .1 .1) }
+seconds = record { by-six = λ j h. alike-eq _ _ (six-turns j h .1 .1); by-three = λ j h. alike-eq _ _ (three-turns j h .1 .1) }
 
 -- ---- an arm turns with its pattern point
 module _ (v : Record) (q : Point) where
-  abbrev k : ℕ
-  k = 3 ^ (max (v .at .m .0) (scaleOf (v .n) q .m .0) - scaleOf (v .n) q .m .0)
+  abbrev scale : ℕ
+  scale = 3 ^ (max (v .at .m .0) (scaleOf (v .n) q .m .0) - scaleOf (v .n) q .m .0)
 
   turn-arm : nextArm 6 (armBy v q) ≡ armBy v (turn60Of q)
   turn-arm =
       λ i. record {
         a = armBy v q .a;
         b = armBy v q .b;
-        x = sym (neg-times (q .b) k) i;
-        y = sym (add-times (q .a) (q .b) k) i;
+        x = sym (neg-times (q .b) scale) i;
+        y = sym (add-times (q .a) (q .b) scale) i;
         m = armBy v q .m;
       }
 
@@ -106,7 +106,7 @@ module _ (f : Row → Point) (t : Turning f) (v : Record) (j : ℕ) where
 
   next-six : j + 1 < 6 → nextArm 6 (to 6 j) ≡ to 6 (j + 1)
   next-six h =
-      turn-arm v (orient (v .k) (at 6 j)) ∙ ap (armBy v) (sym (orient-turn (v .k) (at 6 j)) ∙ ap (orient (v .k)) (sym (t .six j h)))
+      turn-arm v (orient (v .k) (at 6 j)) ∙ ap (armBy v) (sym (orient-turn (v .k) (at 6 j)) ∙ ap (orient (v .k)) (sym (t .by-six j h)))
 
   next-three : j + 1 < 3 → nextArm 3 (to 3 j) ≡ to 3 (j + 1)
   next-three h =
@@ -115,7 +115,7 @@ module _ (f : Row → Point) (t : Turning f) (v : Record) (j : ℕ) where
       ∙ ap (nextArm 6) (turn-arm v q)
       ∙ turn-arm v (turn60Of q)
       ∙ ap (armBy v)
-      (ap turn60Of (sym (orient-turn (v .k) (at 3 j))) ∙ sym (orient-turn (v .k) (turn60Of (at 3 j))) ∙ ap (orient (v .k)) (sym (t .three j h)))
+      (ap turn60Of (sym (orient-turn (v .k) (at 3 j))) ∙ sym (orient-turn (v .k) (turn60Of (at 3 j))) ∙ ap (orient (v .k)) (sym (t .by-three j h)))
 
   column-next : regularOf (v .d) ≡ true → j + 1 < v .d → nextArm (v .d) (to (v .d) j) ≡ to (v .d) (j + 1)
   column-next e = regular-by (λ d. j + 1 < d → nextArm d (to d j) ≡ to d (j + 1)) next-three next-six (v .d) e
@@ -126,9 +126,6 @@ module _ (v : Record) (j : ℕ) where
 
   pub near-next : regularOf (v .d) ≡ true → j + 1 < v .d → nextArm (v .d) (nearArm v j) ≡ nearArm v (j + 1)
   near-next = column-next (λ r. r .first) firsts v j
-
-  pub far-next : regularOf (v .d) ≡ true → j + 1 < v .d → nextArm (v .d) (farArm v j) ≡ farArm v (j + 1)
-  far-next = column-next (λ r. held (r .second)) seconds v j
 
 -- ---- each corner of a regular star has a second opposite
 abbrev atTest : Spot → Test
@@ -149,23 +146,24 @@ second-there d e j =
     e
 
 module _ (v : Record) (e : regularOf (v .d) ≡ true) (j : ℕ) (h : j < v .d) where
-  abbrev s : Spot
-  s = patternOf (v .d) j .second
+  abbrev p : Point
+  p = orient (v .k) (held (patternOf (v .d) j .second))
 
-  is-at : s ≡ At (held s)
-  is-at = second-there (v .d) e j h
+  second-held : secondOppositeOf (v .d) (v .k) j ≡ At p
+  second-held = ap (onSpot (orient (v .k))) (second-there (v .d) e j h)
 
-  pub farther-held : fartherOf (v .k) s ≡ orient (v .k) (held s)
-  farther-held = ap (fartherOf (v .k)) is-at ∙ orient-split (v .k) (held s)
-
-  second-held : secondOppositeOf (v .d) (v .k) j ≡ At (orient (v .k) (held s))
-  second-held = ap (onSpot (orient (v .k))) is-at
+  far-is : farArm v j ≡ armBy v p
+  far-is = ap (λ (s : Spot). armBy v (held s)) second-held
 
   pub second-by-arm : secondAt v j ≡ At (addedOf (farArm v j))
-  second-by-arm = ap (onSpot (stepOf (v .at) (v .n))) second-held
+  second-by-arm = ap (onSpot (stepOf (v .at) (v .n))) second-held ∙ ap (λ (w : Terms). At (addedOf w)) (sym far-is)
 
-  pub far-near : Inner v → Near (v .n) (orient (v .k) (held s))
-  far-near i = second-near v i j h _ second-held
+  pub far-bounded : Inner v → Near (v .n) (held (secondOppositeOf (v .d) (v .k) j))
+  far-bounded i = subst (λ (s : Spot). Near (v .n) (held s)) (sym second-held) (second-near v i j h p second-held)
+
+pub far-next : (v : Record) (j : ℕ) (e : regularOf (v .d) ≡ true) → j + 1 < v .d → nextArm (v .d) (farArm v j) ≡ farArm v (j + 1)
+far-next v j e h =
+    ap (nextArm (v .d)) (far-is v e j (omega (arith, h))) ∙ column-next (λ r. held (r .second)) seconds v j e h ∙ sym (far-is v e (j + 1) h)
 
 -- ---- an arm's sum can be taken
 light : (v : Record) → Inner v → (q : Point) → Near (v .n) q → Light (armBy v q)
@@ -179,7 +177,7 @@ module _ (v : Record) (i : Inner v) (j : ℕ) (h : j < v .d) where
   near-light = light v i _ (first-near v i j h)
 
   pub far-light : regularOf (v .d) ≡ true → Light (farArm v j)
-  far-light e = light v i _ (far-near v e j h i)
+  far-light e = light v i _ (far-bounded v e j h i)
 
 -- ---- a star's row, filled arm by arm
 -- the adjacent points below place j, then zeros

@@ -6,7 +6,7 @@ use mathlib.Core.Bool.{Bool, cond, _||_}
 use Prim.Native.Nat.{ℕ}
 use lib.Dec.{eqb}
 use lib.IntN.{negℤ, _+ℤ_}
-use Rattle.lattice.specs.Patterns.{patternOf, orient, adjacentOf, firstOppositeOf}
+use Rattle.lattice.specs.Patterns.{adjacentOf, firstOppositeOf, secondOppositeOf}
 use Rattle.lattice.specs.Rows.{held}
 use Rattle.lattice.specs.Stars.{scaleOf}
 use Rattle.lattice.specs.Terms.{termsOf}
@@ -29,7 +29,7 @@ abbrev pub nearArm : Record → ℕ → Terms
 nearArm v j = armBy v (firstOppositeOf (v .d) (v .k) j)
 
 abbrev pub farArm : Record → ℕ → Terms
-farArm v j = armBy v (orient (v .k) (held (patternOf (v .d) j .second)))
+farArm v j = armBy v (held (secondOppositeOf (v .d) (v .k) j))
 
 -- turned by 60 degrees at degree 6, else by 120
 abbrev pub nextArm : ℕ → Terms → Terms

@@ -1,6 +1,6 @@
 -- The laws of orientations and pattern points, each over degree and orientation, by one test over the table.
--- `orient-split` an orientation by turns, `orient-turn` and a turn through it · `hex-orient`, `orient-depth` how far and how deep · `Zero`, `orient-zero` only 0 is turned to 0 ·
--- `adjacent-close`, `first-close`, `second-close` the bounds of the pattern points ·
+-- `orient-split` an orientation by turns, `orient-turn` and a turn through it · `hex-orient`, `orient-depth` how far and how deep · `Zero`, `orient-zero` only
+-- 0 is turned to 0 · `adjacent-close`, `first-close`, `second-close` the bounds of the pattern points ·
 -- `adjacent-near`, `first-near`, `second-near` the same at any orientation and level.
 -- Assumes nothing.
 use mathlib.Core.Path.{_≡_, refl, ap, subst}

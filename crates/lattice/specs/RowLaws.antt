@@ -1,9 +1,9 @@
 -- What the rows of the constant tables obey.
--- `read` a point in bytes is the same, `read-same`, `read-hex` · `foremost-row` · `past` · `table-row`, `degree-rows` which number a degree, a place and an orientation have ·
--- `held-hex`, `second-none`, `second-at` second opposites.
+-- `read` a point in bytes is the same, `read-same`, `read-hex` · `foremost-row` the first adjacent point · `past` · `table-row`, `degree-rows` which number a
+-- degree, a place and an orientation have · `held-hex`, `held-turned`, `second-none`, `second-at` second opposites.
 -- Assumes nothing.
 use mathlib.Core.Path.{_≡_, refl, sym, ap, subst}
-use Prim.Native.Nat.{ℕ, zero, suc, _+_, _*_, _/_, _≤_, _<_}
+use Prim.Native.Nat.{ℕ, zero, suc, _+_, _*_, _%_, _/_, _≤_, _<_}
 use native.Mathlib.Omega.{arith}
 use lib.Dec.{lit≤}
 use lib.IntN.{pos}
@@ -18,7 +18,7 @@ use Rattle.lattice.specs.PatternLaws.{Close, Zero, orient-split, orient-
 use Rattle.lattice.specs.PointLaws.{alike, alike-eq}
 use Rattle.lattice.specs.Bounds.{Hex}
 use Rattle.lattice.specs.Points.{pt, turn60Of, turns}
-use Rattle.lattice.specs.Rows.{own, held, nine, adjacentIn, firstIn, secondIn, placeOf, orientRow, firstRow, tableRow, fartherOf}
+use Rattle.lattice.specs.Rows.{own, held, nine, adjacentIn, firstIn, secondIn, placeOf, orientRow, firstRow, tableRow}
 use Rattle.lattice.specs.declared.points.Point.{Point}
 use Rattle.lattice.specs.declared.patterns.Place.{Place}
 use Rattle.lattice.specs.declared.patterns.Spot.{Spot}
@@ -81,10 +81,15 @@ unfolding turns
 turns-own zero = refl
 turns-own (suc n) = ap turn60Of (turns-own n)
 
-pub second-none : (k : ℕ) (s : Spot) → ((p : Point) → s ≡ At p → Close p) → Zero (fartherOf k s) → onSpot (orient k) s ≡ Nothing
-second-none k (At p) c z = absurd (c p refl .away (orient-zero k p (subst Zero (orient-split k p) z)))
+-- what the tables have, turned, is the second opposite at any orientation
+pub held-turned : (k : ℕ) (s : Spot) → turns (k / 2) (held (onSpot (orient (k % 2)) s)) ≡ held (onSpot (orient k) s)
+held-turned k (At p) = orient-split k p
+held-turned k Nothing = turns-own (k / 2)
+
+pub second-none : (k : ℕ) (s : Spot) → ((p : Point) → s ≡ At p → Close p) → Zero (held (onSpot (orient k) s)) → onSpot (orient k) s ≡ Nothing
+second-none k (At p) c z = absurd (c p refl .away (orient-zero k p z))
 second-none k Nothing c z = refl
 
-pub second-at : (k : ℕ) (s : Spot) → (Zero (fartherOf k s) → ⊥) → At (fartherOf k s) ≡ onSpot (orient k) s
-second-at k (At p) h = ap At (orient-split k p)
-second-at k Nothing h = absurd (h (subst Zero (sym (turns-own (k / 2))) (refl, refl)))
+pub second-at : (k : ℕ) (s : Spot) → (Zero (held (onSpot (orient k) s)) → ⊥) → At (held (onSpot (orient k) s)) ≡ onSpot (orient k) s
+second-at k (At p) h = refl
+second-at k Nothing h = absurd (h (refl, refl))

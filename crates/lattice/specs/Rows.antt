@@ -1,15 +1,14 @@
 -- The rows of the star patterns as the code's constant tables have them: three bytes a point, in the document's order, at orientations 0 and 1.
 -- `placeOf` a row of a table, `adjacentIn`, `firstIn`, `secondIn` its points · `pointOf` a point in bytes · `orientRow` a row at orientation 0 or 1 ·
--- `firstRow` where a degree begins, `tableRow` the row at a number · `fartherOf` a second opposite turned, the vertex itself where there is none.
--- Their laws: RowLaws.
+-- `firstRow` where a degree begins, `tableRow` the row at a number. Their laws: RowLaws.
 -- Assumes nothing.
 use mathlib.Core.List.{List, [], _∷_, _++_}
-use Prim.Native.Nat.{ℕ, _*_, _-_, _%_, _/_}
+use Prim.Native.Nat.{ℕ, _*_, _-_}
 use lib.IntN.{pos}
 use lib.ListN.{getD}
 use Rattle.lattice.specs.declared.patterns.Spot.the-variants.{At, Nothing}
 use Rattle.lattice.specs.Patterns.{Row, three, four, five, six, orient, onSpot}
-use Rattle.lattice.specs.Points.{pt, turns}
+use Rattle.lattice.specs.Points.{pt}
 use Rattle.lattice.specs.declared.points.Point.{Point}
 use Rattle.lattice.specs.declared.patterns.P.{P}
 use Rattle.lattice.specs.declared.patterns.Place.{Place}
@@ -59,7 +58,3 @@ firstRow d = d * (d - 1)
 unfoldable pub tableRow : ℕ → Place
 unfolding orient three four five six
 tableRow i = getD (bothRows (three ++ four ++ five ++ six)) (i - firstRow 3) (nine own own own)
-
--- a second opposite of orientation 0 at orientation k
-abbrev pub fartherOf : ℕ → Spot → Point
-fartherOf k s = turns (k / 2) (held (onSpot (orient (k % 2)) s))

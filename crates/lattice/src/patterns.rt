@@ -5,7 +5,7 @@ ghost use Prim.Native.Nat.{_+_, _%_, _/_, _≤_, _<_};
 ghost use Rattle.lattice.specs.Points.{turn60Of, turns};
 ghost use Rattle.lattice.specs.Patterns.{patternOf, adjacentOf, firstOppositeOf, secondOppositeOf};
 ghost use Rattle.lattice.specs.Bounds.{Hex};
-ghost use Rattle.lattice.specs.Rows.{placeOf, pointOf, orientRow, firstRow, tableRow, fartherOf};
+ghost use Rattle.lattice.specs.Rows.{held, placeOf, pointOf, orientRow, firstRow, tableRow};
 use crate::points::Depth;
 use crate::points::Point;
 
@@ -170,7 +170,7 @@ pub fn first_opposite(d: u8, k: u8, j: u8) -> Point
 // The second opposite of corner j as the tables have it: the vertex itself where there is none.
 pub fn farther(d: u8, k: u8, j: u8) -> Point
     requires { ⌜ (3 ≤ d) × ((d ≤ 6) × (j < d)) ⌝ }
-    ensures { λ r. ⌜ r ≡ fartherOf k (patternOf d j .second) ⌝ }
+    ensures { λ r. ⌜ r ≡ held (secondOppositeOf d k j) ⌝ }
 {
     let r = pattern(d, k, j);
     point(turned(P(r.6, r.7, r.8), k))

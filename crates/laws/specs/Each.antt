@@ -1,6 +1,6 @@
 -- A test of each number below n, or of one of them, as an equation of truth values: `upto` and `among` of Rules.
--- `upto-more`, `upto-fails` a loop's one step · `upto-each`, `each-upto` what it says · `among-at`, `at-among`, `among-none`, `among-more` the same of `among` ·
--- `both-left`, `both-right`, `and-false` conjunctions · `not-both`, `never` true is not false · `same-test` two tests that pass together are one.
+-- `upto-more`, `upto-fails` a loop's one step · `upto-each`, `each-upto` what it says · `among-more`, `among-at`, `at-among`, `among-none` the same of `among`
+-- · `both-left`, `both-right`, `and-false` conjunctions · `not-both`, `never` true is not false · `same-test` two tests that pass together are one.
 -- Assumes nothing.
 use mathlib.Core.Path.{_≡_, refl, sym, _∙_, ap}
 use mathlib.Core.Bool.{Bool, true, false, _&&_, _||_}

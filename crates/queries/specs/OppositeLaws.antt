@@ -1,6 +1,6 @@
 -- The row of the faces, as it is filled corner by corner: `opposite` the opposite of a corner, `OppositesPut` the row so far, `opposites-start`,
 -- `opposites-more`, `opposites-fail`, `opposites-end` · `by-first`, `by-second` the opposite by two arms · `ArmsAt` the arms of a corner of a regular star,
--- `arms-turned`, `arms-light`, `chosen-arms` its opposite by them.
+-- `arms-turned`, `both-light`, `chosen-arms` its opposite by them.
 -- Assumes nothing.
 use mathlib.Core.Path.{_≡_, refl, sym, ap, _∙_, subst}
 use mathlib.Core.Bool.{Bool, true, false, cond}
@@ -85,10 +85,8 @@ module _ (t : List ℕ) (near far : Terms) where
   pub by-first : holds t (addedOf near) ≡ true → At (addedOf near) ≡ chosenBy t near far
   by-first h = ap (λ (b : Bool). cond b (At (addedOf near)) (there t (At (addedOf far)))) (sym h)
 
-  pub by-second : holds t (addedOf near) ≡ false → (b : Bool) → holds t (addedOf far) ≡ b → cond b (At (addedOf far)) Nothing ≡ chosenBy t near far
-  by-second h b e =
-      ap (λ (b : Bool). cond b (At (addedOf far)) Nothing) (sym e)
-      ∙ ap (λ (b : Bool). cond b (At (addedOf near)) (there t (At (addedOf far)))) (sym h)
+  pub by-second : holds t (addedOf near) ≡ false → there t (At (addedOf far)) ≡ chosenBy t near far
+  by-second h = ap (λ (b : Bool). cond b (At (addedOf near)) (there t (At (addedOf far)))) (sym h)
 
 -- the arms to the opposites of corner j, if there is such a corner
 pub record ArmsAt (v : Record) (j : ℕ) (near far : Terms) : Type 0 where
@@ -105,8 +103,8 @@ module _ (v : Record) (e : regularOf (v .d) ≡ true) (j : ℕ) (near far : Term
       }
 
   module _ (h : j < v .d) (a : ArmsAt v j near far) where
-    pub arms-light : Inner v → Light near × Light far
-    arms-light i = (subst Light (sym (a .first h)) (near-light v i j h), subst Light (sym (a .second h)) (far-light v i j h e))
+    pub both-light : Inner v → Light near × Light far
+    both-light i = (subst Light (sym (a .first h)) (near-light v i j h), subst Light (sym (a .second h)) (far-light v i j h e))
 
     pub chosen-arms : (t : List ℕ) → chosenBy t near far ≡ chosenAt t v j
     unfolding chosenAt

@@ -3,14 +3,14 @@ ghost use mathlib.Core.Path.{_≡_};
 ghost use mathlib.Core.Bool.{true};
 ghost use Rattle.lattice.specs.Arms.{regularOf};
 ghost use Rattle.lattice.specs.Stars.{given};
-ghost use Rattle.lattice.specs.Terms.{Light};
 ghost use Rattle.table.specs.Slots.{Table};
 ghost use Rattle.table.specs.Order.{inOrderOf};
 ghost use Rattle.queries.specs.Queries.{adjacentsThere, cornersThere, facesGiven, queryOf, neighboursOf, facesOf};
-ghost use Rattle.queries.specs.Asked.{Asked, answerAt, slotAnswer, chosenBy, whenTrue};
+ghost use Rattle.queries.specs.Asked.{Asked, answerAt, slotAnswer, whenTrue};
 ghost use Rattle.lattice.specs.AnswerRows.{answerNumbers};
 use crate::opposites::adjacents_there;
 use crate::opposites::chosen;
+use crate::opposites::opposite_by;
 use lattice::ANSWER_NUMBERS;
 use lattice::BOUNDARY;
 use lattice::DONE;
@@ -19,7 +19,6 @@ use lattice::NOT_IN_ORDER;
 use lattice::Record;
 use lattice::Spot;
 use lattice::TORN;
-use lattice::Terms;
 use lattice::added;
 use lattice::far_arm;
 use lattice::first_arm;
@@ -32,7 +31,6 @@ use lattice::ring;
 use table::Looked;
 use table::held_in;
 use table::in_order;
-use table::is_there;
 use table::slot_by_guess;
 use table::slots_of;
 use table::stands;
@@ -77,23 +75,6 @@ fn star_there(t: &[u8], v: Record, n: usize, out: &mut [i32; ANSWER_NUMBERS]) ->
     }
     ring(out, v);
     adjacents_there(t, out, v, n)
-}
-
-// The opposite of a corner by its two arms: the first one if that is in the table, else the second if that is.
-fn opposite_by(t: &[u8], near: Terms, far: Terms, n: usize) -> Spot
-    requires { ⌜ Table (now t) n ⌝ }
-    requires { ⌜ Light near × Light far ⌝ }
-    ensures { λ r. ⌜ r ≡ chosenBy (now (t .entry)) near far ⌝ }
-{
-    let first = added(near);
-    if is_there(t, first, n) {
-        return Spot::At(first);
-    }
-    let second = added(far);
-    if is_there(t, second, n) {
-        return Spot::At(second);
-    }
-    Spot::Nothing
 }
 
 // Puts the chosen opposite of each corner of a regular star, up to the first corner with none.

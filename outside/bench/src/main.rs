@@ -24,6 +24,9 @@ use std::hint::black_box;
 
 const MOST: usize = 65_536;
 
+/// Where a slot has its vertex's degree, before orientation and level.
+const DEGREE: usize = 9;
+
 struct Words {
     rounds: usize,
     bars: bool,
@@ -253,7 +256,7 @@ fn many(bench: &mut Bench, table: &[u8]) {
 /// V, E and F of a sheet, and of the same one with a vertex made a boundary vertex, which no call does.
 fn counts(bench: &mut Bench, table: &[u8]) {
     let mut changed = table.to_vec();
-    let star = (0..changed.len()).step_by(SLOT).map(|slot| slot + 9).rfind(|&d| changed[d] == 3).expect("a vertex of degree 3");
+    let star = (0..changed.len()).step_by(SLOT).map(|slot| slot + DEGREE).rfind(|&d| changed[d] == 3).expect("a vertex of degree 3");
     changed[star..star + 3].fill(0);
     for (name, table) in [("counts", table), ("counts, a table not grown", &changed)] {
         assert_eq!(library::counts(table), plain::counts(table));

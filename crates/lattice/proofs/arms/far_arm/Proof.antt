@@ -3,11 +3,9 @@ use borrow.Author.Needs.{needs}
 use mathlib.Core.Path.{_≡_, sym, _∙_, ap, subst}
 use mathlib.Core.Bool.{true}
 use native.Mathlib.Omega.{arith}
-use Rattle.lattice.specs.ArmLaws.{farther-held, far-near}
+use Rattle.lattice.specs.ArmLaws.{far-bounded}
 use Rattle.lattice.specs.Arms.{regularOf, armBy}
 use Rattle.lattice.specs.Bounds.{Near}
-use Rattle.lattice.specs.Patterns.{patternOf, orient}
-use Rattle.lattice.specs.Rows.{held}
 use Rattle.lattice.specs.RecordLaws.{Inner, inner-small}
 use Rattle.lattice.specs.declared.records.Record.{Record}
 use Rattle.lattice.proofs.arms.far_arm.Statement.{statement}
@@ -23,17 +21,14 @@ module _ (c : tie.After-farther) where
   regular : regularOf (v .d) ≡ true
   regular = c .before .pre .1
 
-  is : c .farther .result ≡ orient (v .k) (held (patternOf (v .d) 0 .second))
-  is = c .farther .ensures ∙ farther-held v regular 0 (omega (arith, i .low))
-
   near : Near (v .n) (c .farther .result)
-  near = subst (Near (v .n)) (sym is) (far-near v regular 0 (omega (arith, i .low)) i)
+  near = subst (Near (v .n)) (sym (c .farther .ensures)) (far-bounded v regular 0 (omega (arith, i .low)) i)
 
 arm-requires : tie.Need-arm-requires
 arm-requires c κs = (inner-small (i c), near c)
 
 returns : tie.Need-returns
-returns c = let k = c .before in c .arm .ensures ∙ ap (armBy (v k)) (is k)
+returns c = let k = c .before in c .arm .ensures ∙ ap (armBy (v k)) (k .farther .ensures)
 
 pub far-arm-spec : {M : Type 1} → statement M
 far-arm-spec = tie.close (tie.spec (λ c κs. search needs) arm-requires returns)

@@ -7,7 +7,7 @@ use Rattle.lattice.specs.PatternLaws.{second-close}
 use Rattle.lattice.specs.Patterns.{onSpot, patternOf, orient}
 use Rattle.lattice.specs.Points.{turns}
 use Rattle.lattice.specs.Rows.{secondIn, held}
-use Rattle.lattice.specs.RowLaws.{read-same, read-hex, held-hex}
+use Rattle.lattice.specs.RowLaws.{read-same, read-hex, held-hex, held-turned}
 use Rattle.lattice.specs.declared.patterns.Spot.{Spot}
 use Rattle.lattice.proofs.patterns.farther.Statement.{statement}
 use Rattle.lattice.proofs.patterns.farther.Tie as tie
@@ -30,7 +30,8 @@ turned-requires c κs = read-hex (hex (c .before))
 returns : tie.Need-returns
 returns c =
     let q = c .before .before .before in
-    c .point .ensures ∙ c .before .turned .ensures ∙ ap (turns (q .before .args .k / 2)) (read-same (hex q) ∙ kept q)
+    let k = q .before .args .k in
+    c .point .ensures ∙ c .before .turned .ensures ∙ ap (turns (k / 2)) (read-same (hex q) ∙ kept q) ∙ held-turned k (there (q .before))
 
 pub farther-spec : {M : Type 1} → statement M
 farther-spec = tie.close (tie.spec (λ c κs. search needs) turned-requires (λ c κs. search needs) returns)

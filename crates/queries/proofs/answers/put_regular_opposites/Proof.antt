@@ -13,7 +13,7 @@ use Rattle.queries.specs.Asked.{chosenBy}
 use Rattle.queries.specs.Queries.{chosenAt}
 use Rattle.queries.specs.QueryLaws.{asked-inner}
 use Rattle.queries.specs.OppositeLaws.{OppositesPut, opposites-start, opposites-more, opposites-fail, opposites-end}
-use Rattle.queries.specs.OppositeLaws.{ArmsAt, arms-turned, arms-light, chosen-arms}
+use Rattle.queries.specs.OppositeLaws.{ArmsAt, arms-turned, both-light, chosen-arms}
 use Rattle.queries.proofs.answers.put_regular_opposites.Statement.{statement}
 use Rattle.queries.proofs.answers.put_regular_opposites.Tie as tie
 
@@ -57,7 +57,7 @@ module _ (a : tie.Then1 Inv-loop μ-loop) where
   inner = asked-inner (start .pre .0)
 
   light : Light near × Light far
-  light = arms-light v (start .pre .1 .0) j near far below (a .before .before .loop .inv .1) inner
+  light = both-light v (start .pre .1 .0) j near far below (a .before .before .loop .inv .1) inner
 
   chosen : chosenBy t near far ≡ chosenAt t v j
   chosen = chosen-arms v (start .pre .1 .0) j near far below (a .before .before .loop .inv .1) t
