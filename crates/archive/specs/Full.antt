@@ -24,7 +24,7 @@ use Rattle.grown.specs.Grown.{is-grown, grown-is, grown-same}
 use Rattle.readers.specs.Readers.{TablesAfter, accepted, refused, readFullOf}
 use Rattle.readers.specs.ReadLaws.{Valid, Lined, read-lines, lines-read, lines-one}
 use Rattle.readers.specs.RestoreLaws.{Within}
-use Rattle.archive.specs.Outcomes.{FullRead, full-ends, full-zero}
+use Rattle.readers.specs.Outcomes.{FullRead, full-ends, full-zero, full-grown}
 use Rattle.archive.specs.Returns.{Returns, accepted-returns, both-within}
 use Rattle.text.specs.LineCount.{linesIn, lines-in}
 
@@ -84,9 +84,10 @@ module _ (table scratch f : List ℕ) (z : readFullOf table scratch f .number �
 
   -- "11: not a grown mesh": what is accepted is grown, and the file is its full file, byte for byte
   pub full-accepted : Grown (readFullOf table scratch f .table) × (f ≡ fullFile (readFullOf table scratch f .table))
-  full-accepted =
-      subst (λ (o : TablesAfter). Grown (o .table) × (f ≡ fullFile (o .table))) (sym (way .is))
-      (is-grown (way .table) (way .grown), lined .text ∙ ap lines records)
+  full-accepted = (
+    is-grown (readFullOf table scratch f .table) (full-grown table scratch f z),
+    lined .text ∙ ap lines records ∙ ap (λ (o : TablesAfter). fullFile (o .table)) (sym (way .is)),
+  )
 
   -- as many records as lines
   pub full-count : length (recordsOf (readFullOf table scratch f .table)) ≡ linesIn f

@@ -40,7 +40,7 @@ use Rattle.readers.specs.Readers.{With, restoreAll, accepted, refused, readRedu
 use Rattle.readers.specs.Additions.{Adds, adds-none, adds-slots, held-absent, held-same}
 use Rattle.readers.specs.ReadLaws.{Valid, Lined, read-lines, lines-read}
 use Rattle.readers.specs.RestoreLaws.{Restores, RestoredOf, restore-all, Within, In, Lacks, in-within, restores-into}
-use Rattle.archive.specs.Outcomes.{ReducedRead, reduced-ends}
+use Rattle.readers.specs.Outcomes.{ReducedRead, reduced-ends}
 use Rattle.archive.specs.Returns.{both-within, rising-apart}
 
 -- ---- records of table t that rise, all of them but redundant ones: of such a file the mesh comes back

@@ -24,7 +24,7 @@ use Rattle.writers.specs.FileLaws.{left-rises, left-holds, holds-left, left-one
 use Rattle.mesh.specs.Grown.{Grown}
 use Rattle.grown.specs.Grown.{is-grown}
 use Rattle.readers.specs.Readers.{TablesAfter, accepted, refused, readReducedOf}
-use Rattle.archive.specs.Outcomes.{ReducedRead, reduced-zero, reduced-twelve}
+use Rattle.readers.specs.Outcomes.{ReducedRead, reduced-zero, reduced-twelve}
 use Rattle.archive.specs.Returns.{Returns, accepted-returns}
 use Rattle.text.specs.LineCount.{linesIn, lines-in}
 use Rattle.archive.specs.Leaves.{Leaves, read-back, lined, read-order, read-slots, read-leaves}

@@ -5,7 +5,7 @@
 -- any number of records the table is in order and holds the vertices of the points so far.
 -- Assumes nothing.
 use mathlib.Core.Path.{_≡_, refl, sym, _∙_, ap, subst}
-use mathlib.Core.Bool.{Bool, true, false, cond, _&&_, _||_}
+use mathlib.Core.Bool.{Bool, true, false, cond, _&&_, _||_, or-assoc}
 use mathlib.Core.List.{List}
 use Prim.Native.Nat.{ℕ, zero, suc, _+_, _%_, _≤_, _<_}
 use native.Mathlib.Omega.{arith}
@@ -189,10 +189,6 @@ module _ (listed : Point → Bool) (slots : ℕ) (u : List ℕ) (laid : Point �
 
 -- ---- a hexagon, and all of them
 
-or-assoc : (a b c : Bool) → a || (b || c) ≡ (a || b) || c
-or-assoc true b c = refl
-or-assoc false b c = refl
-
 module _ (listed : Point → Bool) (slots : ℕ) (c : Point) (g : Good c) (d : c .m .0 ≡ 0)
     (u : List ℕ) (laid : Point → Bool) (n : ℕ) (h : Holding listed slots u laid n) where
   -- as the code goes, one record after the other
@@ -211,7 +207,7 @@ module _ (listed : Point → Bool) (slots : ℕ) (c : Point) (g : Good c) (d : c
       record {
         order = x .order;
         holds = λ p. x .holds p ∙ ap (λ (b : Bool). cond b (Held (baseRecord listed p)) Absent)
-            (ap (λ (y : Point). samePoint y p || (inHexagon c k p || laid p)) q ∙ or-assoc (samePoint (hexagonPoint c k) p) (inHexagon c k p) (laid p));
+            (ap (λ (y : Point). samePoint y p || (inHexagon c k p || laid p)) q ∙ sym (or-assoc (samePoint (hexagonPoint c k) p) (inHexagon c k p) (laid p)));
         count = x .count ∙ at;
         wide = x .wide;
       }

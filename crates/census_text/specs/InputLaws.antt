@@ -1,5 +1,5 @@
 -- The input, read: `input-long`, `long-unfit`, `long-fit`, `input-read` the ways of reading it · `input-line` no line at fault is past the input's
--- bytes · `input-order` what is read is a table in order · `census-refused`, `census-counted` the text that follows, `refused-most`, `counted-most` of
+-- bytes · `counted-grown`, `input-grown` what is read is grown · `census-refused`, `census-counted` the text that follows, `refused-most`, `counted-most` of
 -- at most 128 bytes.
 -- Assumes nothing.
 use mathlib.Core.Path.{_≡_, refl, sym, ap, _∙_, subst}
@@ -9,14 +9,11 @@ use mathlib.Core.Option.{Option, none, some}
 use Prim.Native.Nat.{ℕ, zero, suc, _+_, _≤_, _<_}
 use native.Mathlib.Omega.{arith}
 use borrow.Author.Tests.{ltb-false, lt-ltb, le-ltb, eq-eqb, ne-eqb}
-use lib.Dec.{eqb, ltb}
+use lib.Dec.{ltb}
 use lib.ListN.{length}
 use Rattle.lattice.specs.declared.records.Record.{Record}
-use Rattle.laws.specs.Each.{both-left}
-use Rattle.table.specs.Slots.{fitsLength, lengthsFit, slotsOf, clearedOf}
-use Rattle.table.specs.SlotLaws.{test-table}
+use Rattle.table.specs.Slots.{lengthsFit, clearedOf}
 use Rattle.table.specs.Search.{findOf}
-use Rattle.table.specs.Order.{InOrder}
 use Rattle.table.specs.Entries.{enterOf}
 use Rattle.text.specs.Line.{lineAt}
 use Rattle.text.specs.declared.line.Line.{Line}
@@ -25,8 +22,7 @@ use Rattle.grown.specs.Grown.{isGrown}
 use Rattle.readers.specs.Readers.{Lines, Read, Fault, after, above, noSlot, lineRead, linesFrom, readLines, TablesAfter, tablesAfter, refused, accepted}
 use Rattle.readers.specs.Readers.{endFull, readFullOf}
 use Rattle.readers.specs.BeginLaws.{Prepared, prepared-unfit, prepared-fit, full-unfit}
-use Rattle.readers.specs.FaultLaws.{fault-number}
-use Rattle.readers.specs.ReadLaws.{read-lines}
+use Rattle.readers.specs.Outcomes.{full-grown}
 use Rattle.counts.specs.Counts.{countsOf}
 use Rattle.census_text.specs.Census.{countsText, refusedText, textOf, mostInput, readInputOf, Put, putText, result, resultFrom, censusOf}
 
@@ -94,48 +90,46 @@ line-below f (suc left) p i q t = go (lineAt f p) (λ r next. line-below f left 
     go (Good r next) ih = by (above q r) (noSlot (findOf t (r .at))) r (rest r next) (ih r next)
 
 module _ (t s input : List ℕ) where
-  -- what is known of an outcome: the line is none past the bytes, and a table that is read is in order
-  pub record Sound (r : TablesAfter) : Type 0 where
-    pub line-low : r .line ≤ mostInput
-    pub order : r .number ≡ 0 → InOrder (r .table)
-
-  zero-one : {A : Type 0} {n : ℕ} → n ≡ 0 → 1 ≤ n → A
-  zero-one e h = absurd (omega arith)
-
-  ended-sound : lengthsFit t s ≡ true → length input ≤ mostInput → (x : Lines) → readLines input (clearedOf t) ≡ x → Sound (endFull t s x)
-  ended-sound fit short (Fault number line) e =
+  ended-low : length input ≤ mostInput → (x : Lines) → readLines input (clearedOf t) ≡ x → endFull t s x .line ≤ mostInput
+  ended-low short (Fault number line) e =
       let l : line < 1 + length input = subst (LineBelow (1 + length input)) e (line-below input (length input) 0 1 none (clearedOf t)) in
-      let k = fault-number input (length input) 0 1 none (clearedOf t) number line e in
-      record { line-low = omega arith; order = λ z. zero-one z (omega (arith, k .0)) }
-  ended-sound fit short (Read rs u) e = go (isGrown u)
+      omega arith
+  ended-low short (Read rs u) e = go (isGrown u)
     where
-      order-u : InOrder u
-      order-u = read-lines t (slotsOf t) (test-table t (both-left (fitsLength (length t)) (eqb (length s) (length t)) fit)) input rs u e .order
+      go : (b : Bool) → cond b (accepted u s) (refused 11 0 t s) .line ≤ mostInput
+      go true = omega arith
+      go false = omega arith
 
-      go : (b : Bool) → Sound (cond b (accepted u s) (refused 11 0 t s))
-      go true = record { line-low = omega arith; order = λ z. order-u }
-      go false = record { line-low = omega arith; order = λ z. zero-one z (omega arith) }
-
-  input-sound : Sound (readInputOf t s input)
+  line-low : readInputOf t s input .line ≤ mostInput
   unfolding readInputOf readFullOf
-  input-sound = go (lengthsFit t s) refl (ltb mostInput (length input)) refl
+  line-low = go (lengthsFit t s) (ltb mostInput (length input)) refl
     where
-      go : (a : Bool) → lengthsFit t s ≡ a → (b : Bool) → ltb mostInput (length input) ≡ b
-          → Sound (cond a (cond b (refused 8 0 t s) (cond a (endFull t s (readLines input (clearedOf t))) (tablesAfter 1 0 t s))) (tablesAfter 1 0 t s))
-      go false e b h = record { line-low = omega arith; order = λ z. zero-one z (omega arith) }
-      go true e true h = record { line-low = omega arith; order = λ z. zero-one z (omega arith) }
-      go true e false h = ended-sound e (ltb-false mostInput (length input) h) (readLines input (clearedOf t)) refl
+      go : (a b : Bool) → ltb mostInput (length input) ≡ b
+          → cond a (cond b (refused 8 0 t s) (cond a (endFull t s (readLines input (clearedOf t))) (tablesAfter 1 0 t s))) (tablesAfter 1 0 t s) .line
+          ≤ mostInput
+      go false b h = omega arith
+      go true true h = omega arith
+      go true false h = ended-low (ltb-false mostInput (length input) h) (readLines input (clearedOf t)) refl
+
+  pub counted-grown : readInputOf t s input .number ≡ 0 → isGrown (readInputOf t s input .table) ≡ true
+  unfolding readInputOf
+  counted-grown = go (lengthsFit t s) (ltb mostInput (length input))
+    where
+      read : Bool → Bool → TablesAfter
+      read a b = cond a (cond b (refused 8 0 t s) (readFullOf t s input)) (tablesAfter 1 0 t s)
+
+      go : (a b : Bool) → read a b .number ≡ 0 → isGrown (read a b .table) ≡ true
+      go false b z = absurd (omega arith)
+      go true true z = absurd (omega arith)
+      go true false z = full-grown t s input z
 
   -- the same of what the reader gave back
   module _ (number line : ℕ) (t′ s′ : List ℕ) (e : tablesAfter number line t′ s′ ≡ readInputOf t s input) where
-    sound : Sound (tablesAfter number line t′ s′)
-    sound = subst Sound (sym e) input-sound
-
     pub input-line : line ≤ mostInput
-    input-line = sound .line-low
+    input-line = subst (λ (r : TablesAfter). r .line ≤ mostInput) (sym e) line-low
 
-    pub input-order : number ≡ 0 → InOrder t′
-    input-order z = sound .order z
+    pub input-grown : number ≡ 0 → isGrown t′ ≡ true
+    input-grown = subst (λ (r : TablesAfter). r .number ≡ 0 → isGrown (r .table) ≡ true) (sym e) counted-grown
 
     -- the text that follows
     module _ (ne : number ≡ 0 → ⊥) where

@@ -1,6 +1,7 @@
 // Document 01's census program as a call: the text for an input, over lent bytes.
 //
-// One public call answers every input: `census`. The input is read by `readers::read_full`, counted by `counts::counts_of`, and the text written by texts.rt.
+// One public call answers every input: `census`. The input is read by `readers::read_full`, what that accepts is counted by `tally::tally`, and the text
+// written by texts.rt.
 // The promise cites specs/Census.
 ghost use mathlib.Core.Path.{_≡_};
 ghost use Prim.Native.Nat.{_≤_};
@@ -13,7 +14,6 @@ mod texts;
 
 use crate::texts::put_counts;
 use crate::texts::put_refused;
-use counts::counts_of;
 use lattice::DONE;
 use lattice::NO_ROOM;
 use lattice::NOT_IN_ORDER;
@@ -21,6 +21,7 @@ use readers::ReadBack;
 use readers::prepare;
 use readers::read_full;
 use table::slots_of;
+use tally::tally;
 pub use texts::Census;
 
 // The longest input that is read.
@@ -61,5 +62,5 @@ pub fn census(input: &[u8], table: &mut [u8], scratch: &mut [u8], out: &mut [u8]
         return put_refused(out, number, read.line);
     }
     let n = slots_of(table);
-    put_counts(out, counts_of(table, n))
+    put_counts(out, tally(table, n))
 }

@@ -2,12 +2,13 @@
 -- Assumes nothing.
 use mathlib.Core.Path.{_≡_, refl, ap, _∙_}
 use mathlib.Core.Bool.{Bool, true, false, cond}
-use mathlib.Core.List.{List, [], _∷_, _++_}
+use mathlib.Core.List.{[], _∷_, _++_}
 use Prim.Native.Nat.{ℕ, _+_, _/_, _%_, _≤_}
 use native.Mathlib.Omega.{arith}
 use lib.IntN.{ℤ, pos, natAbs}
 use lib.ListN.{length, length-append}
 use lib.Signed.{ltZ}
+use Rattle.text.specs.LineLengths.{length-three}
 use Rattle.lattice.specs.declared.points.Point.{Point}
 use Rattle.text.specs.Decimal.{minus, digits, ended}
 use Rattle.text.specs.DecimalLaws.{digits-some}
@@ -38,11 +39,8 @@ position-is : (p : Point) → positionText p ≡ textX p ++ (textY p ++ flat)
 unfolding positionText
 position-is p = refl
 
-join-three : (xs ys zs : List ℕ) → length (xs ++ (ys ++ zs)) ≡ length xs + (length ys + length zs)
-join-three xs ys zs = length-append xs (ys ++ zs) ∙ ap (λ (k : ℕ). length xs + k) (length-append ys zs)
-
 pub position-long : (p : Point) → length (positionText p) ≡ length (textX p) + (length (textY p) + 7)
-position-long p = ap length (position-is p) ∙ join-three (textX p) (textY p) flat
+position-long p = ap length (position-is p) ∙ length-three (textX p) (textY p) flat
 
 pub position-least : (p : Point) → 21 ≤ length (positionText p)
 position-least p =

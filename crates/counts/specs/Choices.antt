@@ -1,4 +1,4 @@
--- The opposite of a corner with its slot, the first or the second: `choiceOf`. What it says of `chosenAt`: `choice-is`, `choice-second`, `choice-neither`.
+-- The opposite of a corner with its slot, the first or the second: `choiceOf`. What it says of `chosenAt`: `choice-is`, `choice-neither`.
 -- Assumes nothing.
 use mathlib.Core.Path.{_≡_, refl, sym, ap, _∙_}
 use mathlib.Core.Bool.{Bool, true, false, cond}
@@ -68,14 +68,6 @@ module _ (t : List ℕ) (v : Record) (j : ℕ) where
           (ap (λ (b : Bool). cond b (At (firstAt v j)) (there t (secondAt v j))) h)
           (oppositeBy v j second) (ap (oppositeBy v j) (sym (of-second false second (placedOf t (firstAt v j)) o g)))
       go false h g = kept (secondAt v j) refl h g
-
-  pub choice-second : (o : Placed) → choiceOf t v j ≡ Is true o → holds t (firstAt v j) ≡ false
-  unfolding choiceOf
-  choice-second o e = go (holds t (firstAt v j)) e
-    where
-      go : (b : Bool) → cond b (Is false (placedOf t (firstAt v j))) (keptOf t (secondAt v j)) ≡ Is true o → b ≡ false
-      go true g = sym (of-second false true (placedOf t (firstAt v j)) o g)
-      go false g = refl
 
   pub choice-neither : choiceOf t v j ≡ Neither → chosenAt t v j ≡ Nothing
   unfolding choiceOf chosenAt

@@ -10,6 +10,7 @@ use mathlib.Core.Bool.{Bool, true, false, not, _||_, or-comm, or-false}
 use mathlib.Core.List.{List, [], _∷_, _++_, append-assoc, append-nil, List·Memᴰ, List·Memᴰ·not-nil, List·Memᴰ·append-cases}
 use Prim.Native.Nat.{ℕ, zero, suc, _+_, _<_}
 use native.Mathlib.Omega.{arith}
+use Rattle.laws.specs.Each.{among-none}
 use Rattle.laws.specs.Rules.{among}
 use Rattle.laws.specs.Some.{someOf, some-append}
 use Rattle.lattice.specs.declared.records.Record.{Record}
@@ -52,14 +53,6 @@ sum-each f g zero h = refl
 sum-each f g (suc n) h = let a = sum-each f g n (λ i l. h i (omega arith)) in let b = h n (omega arith) in omega (arith, a, b)
 
 -- ---- lists put together of parts
-
-among-none : (P : ℕ → Bool) (n : ℕ) → ((i : ℕ) → i < n → P i ≡ false) → among n P ≡ false
-among-none P zero h = refl
-among-none P (suc n) h = let l : n < suc n = omega arith in (λ i. h n l i || among n P) ∙ among-none P n (λ i m. h i (omega arith))
-
--- one number more at which the test fails
-pub among-more : (P : ℕ → Bool) (i : ℕ) → among i P ≡ false → P i ≡ false → among (i + 1) P ≡ false
-among-more P i a b = let e : i + 1 ≡ suc i = omega arith in ap (λ (k : ℕ). among k P) e ∙ (λ z. b z || a z)
 
 -- a test of a slot's record
 abbrev pub slotTest : (Record → Bool) → Slot → Bool

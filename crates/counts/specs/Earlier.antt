@@ -2,7 +2,7 @@
 -- is each side (EdgeLaws), first those at their ends, then those that no end has. `sumBelow` a sum · `earlierOf` the record at a point, if it stands
 -- before a slot · `faced`, `hasNear`, `nearBefore`, `nearCount` the sides at a vertex · `hasFar`, `farBefore`, `acrossElse`, `farCount` those across ·
 -- `cornerIs`, `namesFace`, `faceBefore`, `cornerCount` its faces · `slotSides`, `slotFaces`, `slotDegree` what a slot adds · `innersBefore` vertices with a
--- star before a slot, `plainAt`, `plainOf` plain corners.
+-- star before a slot, `plainAt`, `plainOf` plain corners · `degreesOf` records by degree.
 -- Assumes nothing.
 use mathlib.Core.Path.{_≡_}
 use mathlib.Core.Bool.{Bool, true, false, cond, not, _&&_, _||_}
@@ -23,7 +23,7 @@ use Rattle.table.specs.declared.slots.Slot.the-variants.{Free, Holds}
 use Rattle.table.specs.declared.entries.Looked.{Looked}
 use Rattle.table.specs.declared.entries.Looked.the-variants.{Absent, Held}
 use Rattle.queries.specs.Queries.{chosenAt, isPoint}
-use Rattle.counts.specs.Counts.{bit, nextPlace, face, turned}
+use Rattle.counts.specs.Counts.{bit, nextPlace, face, turned, degreeIn}
 use Rattle.across.specs.Across.{factorOf, acrossOf, apexOf}
 use Rattle.counts.specs.declared.earlier.Placed.{Placed}
 use Rattle.counts.specs.declared.faces.Face.{Face}
@@ -259,6 +259,10 @@ slotDegree t d k = bit (eqb (degreeAt (slotAt t k)) d)
 
 abbrev pub degrees : ℕ → ℕ → ℕ → ℕ → ℕ → Degrees
 degrees d0 d3 d4 d5 d6 = record { d0 = d0; d3 = d3; d4 = d4; d5 = d5; d6 = d6 }
+
+-- how many records of a table have each
+abbrev pub degreesOf : List ℕ → Degrees
+degreesOf t = degrees (degreeIn 0 t) (degreeIn 3 t) (degreeIn 4 t) (degreeIn 5 t) (degreeIn 6 t)
 
 -- ---- faces, sides and plainness together
 abbrev pub facesAndSides : ℕ → ℕ → Bool → Counted

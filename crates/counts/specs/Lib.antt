@@ -1,11 +1,9 @@
 -- Document 01, "Census program", and document 02, ticket 2, in antt: what is counted of a table.
 pub mod Counts
-pub mod Count
 -- what the promises of the functions below cite besides
 pub mod Earlier
 pub mod Strides
 pub mod Choices
-pub mod Beside
 -- their laws
 pub mod DifferentLaws
 pub mod SetLaws
@@ -21,7 +19,5 @@ pub mod ToldLaws
 pub mod DegreeLaws
 pub mod AloneLaws
 pub mod CaseLaws
-pub mod BesideLaws
-pub mod CountLaws
 -- examples that compute
 pub mod Examples

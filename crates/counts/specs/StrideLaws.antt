@@ -80,27 +80,6 @@ adjacent-part d j l h k =
     ⇒ (partOf (adjacentRow d) j % 16) ≡? turnOf d j & (partOf (adjacentRow d) j / 16) ≡? (1 + downOf d j) & partOf (adjacentRow d) j ≤? 62)
     tt d (omega arith) j (omega arith) l k
 
--- the strides to a first opposite are some
-first-part : (d j : ℕ) → 3 ≤ d → d ≤ 6 → j < d
-    → Means (1 ≤? (partOf (sideRow d false) j / 16) & partOf (sideRow d false) j ≤? 62 & 1 ≤? (partOf (otherRow d false) j / 16)
-    & partOf (otherRow d false) j ≤? 62)
-first-part d j l h k =
-    rule2 7 6
-    (λ d j. 3 ≤? d ⇒ suc j ≤? d
-    ⇒ 1 ≤? (partOf (sideRow d false) j / 16) & partOf (sideRow d false) j ≤? 62 & 1 ≤? (partOf (otherRow d false) j / 16) & partOf (otherRow d false) j ≤? 62)
-    tt d (omega arith) j (omega arith) l k
-
-some-stride : (p k n : ℕ) → 1 ≤ p / 16 → p ≤ 62 → 16 ≤ strideWith p k n
-some-stride p k n l h =
-    let e = ap (λ (b : Bool). cond b 0 (16 * (n + p / 16) + (k + p % 16) % 12)) (ne-eqb p 63 (λ z. omega (arith, h))) in
-    omega (arith, e, l)
-
-pub first-some : (d j k n : ℕ) → 3 ≤ d → d ≤ 6 → j < d → (16 ≤ strideOf (sideRow d false) j k n) × (16 ≤ strideOf (otherRow d false) j k n)
-unfolding strideOf
-first-some d j k n l h g =
-    let m = first-part d j l h g in
-    (some-stride (partOf (sideRow d false) j) k n (m .0) (m .1 .0), some-stride (partOf (otherRow d false) j) k n (m .1 .1 .0) (m .1 .1 .1))
-
 module _ (v : Record) (i : Inner v) (turn : v .k < 12) where
   abbrev pub toAdjacent : ℕ → ℕ
   toAdjacent j = strideOf (adjacentRow (v .d)) j (v .k) (v .n .0)

@@ -2,19 +2,18 @@
 -- points; one of its opposites being in the table it has a face, so its two sides are in one; and where that is the first opposite it is the one chosen,
 -- and names this face. `near-earlier`, `face-earlier` what holds of all slots holds of those before slot k · `told-nothing` · `told-before` the face was
 -- counted before · `before-ended`, `after-ended` an end has a side across.
--- `both-told` what the two beside a corner tell · `fit-renamed` the same strides by other names.
+-- `fit-renamed` the same strides by other names.
 -- Assumes nothing.
 use mathlib.Core.Path.{_≡_, refl, sym, ap, _∙_, subst}
 use mathlib.Core.Logic.{_⊎_, inl, inr}
-use mathlib.Core.Bool.{Bool, true, false, cond, not, _&&_, _||_}
+use mathlib.Core.Bool.{Bool, true, false, cond, _&&_, _||_}
 use mathlib.Core.List.{List}
 use Prim.Native.Nat.{ℕ, _≤_, _<_}
 use native.Mathlib.Omega.{arith}
 use borrow.Author.Tests.{lt-ltb, ltb-true, eqb-true}
 use lib.Dec.{eqb, ltb}
-use Rattle.laws.specs.Choices.{of-true, is-true}
+use Rattle.laws.specs.Choices.{of-true}
 use Rattle.laws.specs.Each.{both-left, both-right}
-use Rattle.laws.specs.Rules.{upto-at}
 use Rattle.lattice.specs.Places.{normal-low}
 use Rattle.lattice.specs.Stars.{adjacentAt, firstAt, secondAt}
 use Rattle.lattice.specs.Records.{validOf}
@@ -30,7 +29,7 @@ use Rattle.table.specs.Entries.{heldIn, holds}
 use Rattle.table.specs.declared.slots.Slot.the-variants.{Holds}
 use Rattle.table.specs.declared.entries.Looked.the-variants.{Absent, Held}
 use Rattle.queries.specs.Queries.{isPoint, there, chosenAt}
-use Rattle.queries.specs.QueryLaws.{chosen-first, chosen-second}
+use Rattle.queries.specs.QueryLaws.{chosen-first}
 use Rattle.counts.specs.Counts.{nextPlace, face, turned}
 use Rattle.counts.specs.Earlier.{slotIn, earlierIn, heldAnd, prevPlace, faced, hasNear, nearIn, nearBefore, endHas, namesFace, faceIn, faceSeen}
 use Rattle.counts.specs.Earlier.{Round, faceBefore, faceOn}
@@ -38,7 +37,6 @@ use Rattle.counts.specs.EarlierLaws.{holds-slot, earlier-held, valid-inn
 use Rattle.counts.specs.FaceLaws.{makes-names, next-below}
 use Rattle.counts.specs.NearFarLaws.{one-of, left-of, right-of, prev-next, near-has}
 use Rattle.counts.specs.Strides.{walkOf, backOf, oppositeBy, FitIn, FitThere, FitsBy, Told, ToldOf, toldEarlier}
-use Rattle.counts.specs.Beside.{broadAt, broadIn, broadSlot, BothTold}
 use Rattle.counts.specs.StrideLaws.{toAdjacent, adjacent-some, adjacent-walk, back-some, back-walk, toOpposite, fromNext, side-walk, other-walk}
 use Rattle.counts.specs.StrideLaws.{stride-turn, some-opposite}
 use Rattle.counts.specs.declared.earlier.Placed.{Placed}
@@ -90,13 +88,6 @@ module _ (t : List ℕ) where
       go : (b : Bool) → isPoint (cond b (At (firstAt u i)) (At q)) ≡ true
       go true = refl
       go false = refl
-
-  second-chosen : (u : Record) (i : ℕ) (q : Point) → holds t (firstAt u i) ≡ false → secondAt u i ≡ At q → holds t q ≡ true → chosenAt t u i ≡ At q
-  second-chosen u i q n e h = sym (chosen-second t u i n) ∙ ap (there t) e ∙ ap (λ (b : Bool). cond b (At q) Nothing) h
-
-absent : (b : Bool) → not b ≡ true → b ≡ false
-absent false h = refl
-absent true h = sym h
 
 -- ---- a corner with the strides of a face
 
@@ -185,38 +176,6 @@ module _ (t : List ℕ) (o : InOrder t) where
           is = λ a. face (at-it a) (first a) (f .opposite) (last a);
         })
 
-    -- where the vertex is broad, its adjacent points are in the table, and it names the face
-    broad : broadSlot t s ≡ true → (p : ℕ) → p < u .d → broadAt t u p ≡ true
-    unfolding broadSlot
-    broad g p h = is-true (broadAt t u p) (upto-at (u .d) (broadAt t u) (of-true (sym (ap (broadIn t) (w .holds)) ∙ g)) p h)
-
-    broad-first : broadSlot t s ≡ true → holds t (f .adjacent) ≡ true
-    broad-first g = ap (holds t) (sym first) ∙ both-left (holds t (adjacentAt u i)) (not (holds t (firstAt u i))) (broad g i (w .fit .below))
-
-    broad-last : broadSlot t s ≡ true → holds t (f .next) ≡ true
-    broad-last g =
-        ap (holds t) (sym last) ∙ both-left (holds t (adjacentAt u n)) (not (holds t (firstAt u n))) (broad g n (next-below (u .d) i (w .fit .below)))
-
-    broad-named : broadSlot t s ≡ true → faceIn t (slotsOf t) f s ≡ true
-    unfolding faceIn
-    broad-named g = go (w .fit .second) refl
-      where
-        none : holds t (firstAt u i) ≡ false
-        none = absent (holds t (firstAt u i)) (both-right (holds t (adjacentAt u i)) (not (holds t (firstAt u i))) (broad g i (w .fit .below)))
-
-        go : (b : Bool) → w .fit .second ≡ b → heldAnd (namesFace t f) (earlierIn t (slotsOf t) s) ≡ true
-        go false e = named e
-        go true e =
-            ap (heldAnd (namesFace t f)) is-held
-            ∙ makes-names t u f
-            (record {
-              corner = i;
-              below = w .fit .below;
-              opposite = f .opposite;
-              chosen = second-chosen t u i (f .opposite) none (sym (ap (oppositeBy u i) e) ∙ opposite) there;
-              is = λ a. face (at-it a) (first a) (f .opposite) (last a);
-            })
-
   told : (s : ℕ) (f : Face) (x y z r : ℕ) → s ≡ slotIn t (f .at) → walkOf (f .at) x ≡ f .adjacent → walkOf (f .at) y ≡ f .next
       → walkOf (f .adjacent) z ≡ f .opposite → 16 ≤ z → (0 < r → (holds t (f .opposite) ≡ true) × FitIn t s x y z r) → Told t s f r
   told s f x y z r es wx wy wz l g =
@@ -299,42 +258,6 @@ module _ (t : List ℕ) (o : InOrder t) where
 
         held-slot : (p : Point) (s : ℕ) → s ≡ slotIn t p → ltb s (slotsOf t) ≡ true → holds t p ≡ true
         held-slot p s es g = holds-slot t (o .fits) p ∙ ap (λ (u : ℕ). ltb u (slotsOf t)) (sym es) ∙ g
-
-    -- the two beside the corner
-    pub both-told : (x y : ℕ) → x ≡ slotIn t a → y ≡ slotIn t b → (r r′ : ℕ) → (ltb y (slotsOf t) ≡ true) × FitIn t x fromA (backOf toA) (backOf fromB) r
-        → (ltb x (slotsOf t) ≡ true) × FitIn t y (backOf toB) fromB toA r′ → BothTold t v j q x y
-    both-told x y ea eb r r′ g g′ =
-        record {
-          near = after x f₁ fromA (backOf toA) (backOf fromB) r ea there-b a-q a-v q-b long (g .1);
-          before = near x f₁ fromA (backOf toA) (backOf fromB) r ea there-b a-q a-v q-b long (g .1);
-          after = after y f₃ (backOf toB) fromB toA r′ eb there-a b-v b-q v-a some (g′ .1);
-          adjacent = λ h. (
-            broad-first x f₁ fromA (backOf toA) (backOf fromB) r ea there-b a-q a-v q-b long (g .1) h,
-            broad-named x f₁ fromA (backOf toA) (backOf fromB) r ea there-b a-q a-v q-b long (g .1) h,
-          );
-          next = λ h. (
-            broad-last y f₃ (backOf toB) fromB toA r′ eb there-a b-v b-q v-a some (g′ .1) h,
-            broad-named y f₃ (backOf toB) fromB toA r′ eb there-a b-v b-q v-a some (g′ .1) h,
-          );
-        }
-      where
-        f₁ : Face
-        f₁ = turned (faceOn v j q)
-
-        f₃ : Face
-        f₃ = turned (turned (turned (faceOn v j q)))
-
-        there-a : holds t a ≡ true
-        there-a = holds-slot t (o .fits) a ∙ ap (λ (u : ℕ). ltb u (slotsOf t)) (sym ea) ∙ g′ .0
-
-        there-b : holds t b ≡ true
-        there-b = holds-slot t (o .fits) b ∙ ap (λ (u : ℕ). ltb u (slotsOf t)) (sym eb) ∙ g .0
-
-        long : 16 ≤ backOf fromB
-        long = back-some fromB (stride-turn _ _ _ _) l₂
-
-        some : 16 ≤ toA
-        some = adjacent-some v i turn j h
 
 -- ---- what is told of a face
 

@@ -9,16 +9,13 @@ ghost use Rattle.lattice.specs.declared.patterns.Spot.the-variants.{At};
 ghost use Rattle.table.specs.Slots.{Table, slotsOf, slotAt};
 ghost use Rattle.table.specs.Order.{InOrder};
 ghost use Rattle.table.specs.declared.slots.Slot.the-variants.{Holds};
-ghost use Rattle.counts.specs.Counts.{bit, nextPlace, edgesIn, facesIn};
+ghost use Rattle.counts.specs.Counts.{nextPlace, edgesIn, facesIn};
 ghost use Rattle.counts.specs.Strides.{oppositeBy};
-ghost use Rattle.counts.specs.Beside.{broadAt, Broad};
 ghost use Rattle.counts.specs.Earlier.{innersIn, placedOf, Round, facesAndSides, cornerCount, starFaces, slotFaces, sideCount};
 ghost use Rattle.counts.specs.Earlier.{starSides, slotSides, plainAt, plainStar, plainSlot, plainOf};
-use crate::beside::MARK_BYTES;
-use crate::beside::known_beside;
-use crate::beside::mark_broad;
 use crate::choices::Choice;
 use crate::choices::choose;
+use crate::degrees::one_if;
 use crate::earlier::Placed;
 use crate::earlier::inners_before;
 use crate::earlier::next_placed;
@@ -42,32 +39,6 @@ pub struct Counted {
     pub faces: u32,
     pub sides: u32,
     pub plain: bool,
-}
-
-// The same of one corner, and whether it has its adjacent point in the table and not its first opposite.
-pub struct Corner {
-    pub counted: Counted,
-    pub broad: bool,
-}
-
-// A corner of which that is not known.
-fn narrow(faces: u32, sides: u32, plain: bool) -> Corner
-    ensures { λ r. ⌜ (r .counted ≡ facesAndSides faces sides plain) × (r .broad ≡ false) ⌝ }
-{
-    let counted = Counted {
-        faces,
-        sides,
-        plain,
-    };
-    let broad = false;
-    Corner { counted, broad }
-}
-
-// 1 where a face is counted, else 0.
-fn new_face(seen: bool) -> u32
-    ensures { λ r. ⌜ (r ≡ bit (not seen)) × (r ≤ 1) ⌝ }
-{
-    if seen { 0 } else { 1 }
 }
 
 // Whether a face is counted at the first of its vertices that have a star: seen tells whether one of the three others, in these slots, had it before.
@@ -115,7 +86,7 @@ fn count_face(
     let fits = fits_of(t, v, j, second, a, o, b, k, n);
     let near = near_count(t, v, j, a, true, 0 < fits.adjacent, k, n);
     let seen = face_seen(t, face, a.slot, o.slot, b.slot, fits, k, n);
-    let faces = new_face(seen);
+    let faces = one_if(!seen);
     let sides = near + far_count(t, v, j, a, o, b, fits, seen, k, n);
     let plain = (a.slot < n) & is_first(t, a.slot, o.slot, b.slot, seen, k, n);
     Counted {
@@ -126,55 +97,35 @@ fn count_face(
 }
 
 // What is counted at corner j of v, in slot k, between its adjacent points a and b: its face, the side from v to a, and the two sides across from v.
-fn count_corner(
-    t: &[u8],
-    v: Record,
-    j: u8,
-    a: Placed,
-    b: Placed,
-    k: usize,
-    n: usize,
-    marks: &[u8; MARK_BYTES],
-) -> Corner
+fn count_corner(t: &[u8], v: Record, j: u8, a: Placed, b: Placed, k: usize, n: usize) -> Counted
     requires { ⌜ InOrder (now t) × ((n ≡ slotsOf (now t)) × (k < n)) ⌝ }
     requires { ⌜ Inner v × (j < v .d) ⌝ }
     requires { ⌜ slotAt (now t) k ≡ Holds v ⌝ }
     requires { ⌜ (a ≡ placedOf (now t) (adjacentAt v j)) × (b ≡ placedOf (now t) (adjacentAt v (nextPlace (v .d) j))) ⌝ }
-    requires { ⌜ Broad (now t) (now marks) ⌝ }
-    ensures { λ r. ⌜
-        r .counted
-        ≡ facesAndSides (cornerCount (now (t .entry)) k v j) (sideCount (now (t .entry)) k v j) (plainAt (now (t .entry)) k v j)
-        ⌝ }
-    ensures { λ r. ⌜ (r .counted .faces ≤ 1) × (r .counted .sides ≤ 3) ⌝ }
-    ensures { λ r. ⌜ (r .broad ≡ true → broadAt (now (t .entry)) v j ≡ true) ⌝ }
+    ensures { λ r. ⌜ r ≡ facesAndSides (cornerCount (now (t .entry)) k v j) (sideCount (now (t .entry)) k v j) (plainAt (now (t .entry)) k v j) ⌝ }
+    ensures { λ r. ⌜ (r .faces ≤ 1) × (r .sides ≤ 3) ⌝ }
 {
-    if known_beside(t, v, j, a.slot, b.slot, k, n, marks) {
-        let sides = near_count(t, v, j, a, true, true, k, n);
-        return narrow(0, sides, true);
-    }
     match choose(t, v, j, n) {
-        Choice::Is(second, o) => {
-            let counted = count_face(t, v, j, second, a, o, b, k, n);
-            let broad = second & counted.plain;
-            Corner { counted, broad }
-        }
+        Choice::Is(second, o) => count_face(t, v, j, second, a, o, b, k, n),
         Choice::Neither => {
             let has = has_face(t, v, prev_place(v.d, j), n);
             let sides = near_count(t, v, j, a, has, false, k, n);
-            narrow(0, sides, false)
+            Counted {
+                faces: 0,
+                sides,
+                plain: false,
+            }
         }
     }
 }
 
 // What is counted at v, in slot k. Each adjacent point is searched for once.
-fn count_star(t: &[u8], v: Record, k: usize, n: usize, marks: &mut [u8; MARK_BYTES]) -> Counted
+fn count_star(t: &[u8], v: Record, k: usize, n: usize) -> Counted
     requires { ⌜ InOrder (now t) × ((n ≡ slotsOf (now t)) × (k < n)) ⌝ }
     requires { ⌜ validOf v ≡ true ⌝ }
     requires { ⌜ slotAt (now t) k ≡ Holds v ⌝ }
-    requires { ⌜ Broad (now t) (now marks) ⌝ }
     ensures { λ r. ⌜ r ≡ facesAndSides (starFaces (now (t .entry)) k v) (starSides (now (t .entry)) k v) (plainStar (now (t .entry)) k v) ⌝ }
     ensures { λ r. ⌜ (r .faces ≤ 6) × (r .sides ≤ 18) ⌝ }
-    ensures { λ _. ⌜ Broad (now (t .entry)) (now (marks .exit)) ⌝ }
 {
     let d = v.d;
     if d == 0 {
@@ -187,7 +138,6 @@ fn count_star(t: &[u8], v: Record, k: usize, n: usize, marks: &mut [u8; MARK_BYT
     let mut faces = 0;
     let mut sides = 0;
     let mut plain = true;
-    let mut broad = true;
     let mut row = [0; ANSWER_NUMBERS];
     ring(&mut row, v);
     let first = with_slot(t, point_at(&row, v, 0), n);
@@ -195,15 +145,13 @@ fn count_star(t: &[u8], v: Record, k: usize, n: usize, marks: &mut [u8; MARK_BYT
     let mut j = 0;
     while j < d {
         let b = next_placed(t, &row, v, j, first, n);
-        let c = count_corner(t, v, j, a, b, k, n, marks);
-        faces += c.counted.faces;
-        sides += c.counted.sides;
-        plain = c.counted.plain & plain;
-        broad = c.broad & broad;
+        let c = count_corner(t, v, j, a, b, k, n);
+        faces += c.faces;
+        sides += c.sides;
+        plain = c.plain & plain;
         a = b;
         j += 1;
     }
-    mark_broad(marks, k, broad);
     Counted {
         faces,
         sides,
@@ -212,12 +160,10 @@ fn count_star(t: &[u8], v: Record, k: usize, n: usize, marks: &mut [u8; MARK_BYT
 }
 
 // What is counted in slot k.
-fn count_slot(t: &[u8], k: usize, n: usize, marks: &mut [u8; MARK_BYTES]) -> Counted
+fn count_slot(t: &[u8], k: usize, n: usize) -> Counted
     requires { ⌜ InOrder (now t) × ((n ≡ slotsOf (now t)) × (k < n)) ⌝ }
-    requires { ⌜ Broad (now t) (now marks) ⌝ }
     ensures { λ r. ⌜ r ≡ facesAndSides (slotFaces (now (t .entry)) k) (slotSides (now (t .entry)) k) (plainSlot (now (t .entry)) k) ⌝ }
     ensures { λ r. ⌜ (r .faces ≤ 6) × (r .sides ≤ 18) ⌝ }
-    ensures { λ _. ⌜ Broad (now (t .entry)) (now (marks .exit)) ⌝ }
 {
     match read_slot(t, k) {
         Slot::Free => Counted {
@@ -225,7 +171,7 @@ fn count_slot(t: &[u8], k: usize, n: usize, marks: &mut [u8; MARK_BYTES]) -> Cou
             sides: 0,
             plain: true,
         },
-        Slot::Holds(v) => count_star(t, v, k, n, marks),
+        Slot::Holds(v) => count_star(t, v, k, n),
     }
 }
 
@@ -237,10 +183,9 @@ pub fn count_corners(t: &[u8], n: usize) -> Counted
     let mut faces = 0;
     let mut sides = 0;
     let mut plain = true;
-    let mut marks = [0; MARK_BYTES];
     let mut k = 0;
     while k < n {
-        let s = count_slot(t, k, n, &mut marks);
+        let s = count_slot(t, k, n);
         faces += s.faces;
         sides += s.sides;
         plain = s.plain & plain;

@@ -1,8 +1,8 @@
 // What a census counts of a table: document 01's V, F and the records by degree, and E in document 02's sense, the sides of the faces.
 //
-// `counts_of` gives them all, `count` those of any bytes in a lent row. corners.rt counts each face and each side once, at the first vertex that has it
-// (faces.rt, sides.rt), with no memory but a few words and a bit a slot; what the other vertices of a face have of it is asked of their strides first
-// (fits.rt, strides.rt, beside.rt). The floor above takes each face once in the same way.
+// `survey` gives them all. corners.rt counts each face and each side once, at the first vertex that has it (faces.rt, sides.rt), with no memory but a few
+// words; what the other vertices of a face have of it is asked of their strides first (fits.rt, strides.rt). The floor above takes each face once in the
+// same way.
 // The promise cites specs/Counts.
 ghost use mathlib.Core.Path.{_≡_};
 ghost use Rattle.table.specs.Slots.{slotsOf};
@@ -10,14 +10,12 @@ ghost use Rattle.table.specs.Order.{InOrder};
 ghost use Rattle.counts.specs.Counts.{countsOf};
 ghost use Rattle.counts.specs.Earlier.{plainOf};
 
-mod beside;
 mod choices;
 mod corners;
 mod degrees;
 mod earlier;
 mod faces;
 mod fits;
-mod rows;
 mod sides;
 mod strides;
 
@@ -26,6 +24,7 @@ pub use choices::Choice;
 pub use choices::choose;
 pub use degrees::Degrees;
 pub use degrees::count_degrees;
+pub use degrees::one_if;
 pub use earlier::Placed;
 pub use earlier::inner_before;
 pub use earlier::next_placed;
@@ -34,8 +33,6 @@ pub use faces::Face;
 pub use faces::face_seen;
 pub use faces::next_place;
 pub use fits::fits_of;
-pub use rows::COUNTS;
-pub use rows::count;
 
 // The numbers of a census: V, E, F, and the records by degree.
 pub struct Counts {
@@ -82,12 +79,4 @@ pub fn survey(t: &[u8], n: usize) -> Surveyed
         d6,
     };
     Surveyed { counts, plain }
-}
-
-// The numbers alone.
-pub fn counts_of(t: &[u8], n: usize) -> Counts
-    requires { ⌜ InOrder (now t) × (n ≡ slotsOf (now t)) ⌝ }
-    ensures { λ r. ⌜ r ≡ countsOf (now (t .entry)) ⌝ }
-{
-    survey(t, n).counts
 }

@@ -30,7 +30,7 @@ use Rattle.bring.specs.Bring.{BringAfter, bringToSix}
 use Rattle.viewer.specs.Viewer.{writeOffOf, writeObjOf}
 use Rattle.readers.specs.Readers as read
 use Rattle.readers.specs.BeginLaws.{Prepared, unfit, fit}
-use Rattle.counts.specs.Count.{CountsAfter, countOf}
+use Rattle.tally.specs.Count.{CountsAfter, countOf}
 use Rattle.census_text.specs.Census as counted
 
 pub data Call : Type 0 where

@@ -1,23 +1,20 @@
 -- Demand 2: "One point has one written form", of requests in a row, of tables and of files.
--- `all-spelling` two lists that name the same points in turn, however spelled, get one answer of `subdivide_all` · `own-form` a normalised point
--- is its own form, so `one-point` two valid records of one point have one spelling of it · `table-forms` no table in order has one point under two
--- spellings · `full-forms`, `reduced-forms` nor has a file that a reader accepts, full or reduced.
+-- `all-spelling` two lists that name the same points in turn, however spelled, get one answer of `subdivide_all` · `one-point` two valid records of
+-- one point have one spelling of it · `table-forms` no table in order has one point under two spellings · `full-forms`, `reduced-forms` nor has a file that a reader accepts, full or reduced.
 -- Assumes nothing.
 use mathlib.Core.Path.{_≡_, refl, sym, _∙_, ap, subst}
 use mathlib.Core.Bool.{Bool, true, false, cond, _&&_}
 use mathlib.Core.List.{List, [], _∷_, List·Memᴰ, List·Memᴰ·head, List·Memᴰ·tail}
-use Prim.Native.Nat.{ℕ, zero, suc, _+_, _*_, _≤_, _<_}
+use Prim.Native.Nat.{ℕ, zero, suc, _+_, _*_, _<_}
 use native.Mathlib.Omega.{arith}
 use lib.Dec.{T, eqb, leb}
 use lib.IntN.{ℤ, pos, natAbs}
 use lib.ListN.{getD}
+use Rattle.geometry.specs.Forms.{point-own}
 use Rattle.laws.specs.Each.{not-both, both-left}
-use Rattle.lattice.specs.Points.{normalOf, isNormal}
-use Rattle.lattice.specs.Places.{unique, normal-place, normal-low, normal-depth}
+use Rattle.lattice.specs.Points.{isNormal}
 use Rattle.lattice.specs.Records.{validOf, within, suitsOf}
-use Rattle.lattice.specs.declared.points.Point.{Point}
 use Rattle.lattice.specs.declared.records.Record.{Record}
-use Rattle.geometry.specs.GeometryLaws.{low-normal}
 use Rattle.table.specs.Order.{InOrder, inOrderOf}
 use Rattle.table.specs.Entries.{recordsOf}
 use Rattle.table.specs.MapLaws.{Apart, records-looked, records-apart, lookup-valid}
@@ -93,13 +90,6 @@ all-spelling t ps ps′ h =
     ap (λ (x : Many). cond (inOrderOf t) x (record { number = 1; done = 0; bytes = t }))
     (from-spelling ps ps′ (triplesIn ps) t 0 (λ j l. h .each j (omega arith)) ∙ ap (subdivideFrom t ps′ 0) (h .count))
 
--- ---- records: a point that is normalised is its own form
-pub own-form : (p : Point) → T (isNormal p) → normalOf (p .a) (p .b) (p .m .0) ≡ p
-own-form p t =
-    let (w, u) = normal-place (p .a) (p .b) (p .m .0) (p .m .0) (omega arith) in
-    unique (normalOf (p .a) (p .b) (p .m .0)) p (p .m .0) (normal-depth (p .a) (p .b) (p .m .0)) (omega arith)
-    (normal-low (p .a) (p .b) (p .m .0)) (low-normal p t) w u
-
 -- the points of two records are one point, whatever their spellings
 abbrev pub OneSpot : Record → Record → Type 0
 OneSpot r q = OnePoint (r .at .a) (r .at .b) (r .at .m .0) (q .at .a) (q .at .b) (q .at .m .0)
@@ -113,9 +103,9 @@ valid-normal r v =
 
 pub one-point : (r q : Record) → validOf r ≡ true → validOf q ≡ true → OneSpot r q → r .at ≡ q .at
 one-point r q v w h =
-    sym (own-form (r .at) (valid-normal r v))
+    sym (point-own (r .at) (valid-normal r v))
     ∙ one-form (r .at .a) (r .at .b) (r .at .m .0) (q .at .a) (q .at .b) (q .at .m .0) h
-    ∙ own-form (q .at) (valid-normal q w)
+    ∙ point-own (q .at) (valid-normal q w)
 
 -- ---- tables and files: no two of the records are of one point
 abbrev pub OneForms : List Record → Type 0

@@ -17,23 +17,20 @@ pub use Rattle.together.specs.Counted.{records-fit, faces-fit, edges-fit}
 pub use Rattle.together.specs.Making.{centre-held, hexagons-same, hexagons-one, subdivisions-one, CentresOf, centres-from, centres-accepted}
 pub use Rattle.together.specs.Making.{base-told, hexagons-told, subdivisions-told}
 use mathlib.Core.Path.{_≡_}
-use mathlib.Core.Bool.{Bool, true, false, cond}
 use mathlib.Core.List.{List}
 use Prim.Native.Nat.{ℕ, _+_, _*_, _-_, _/_}
 use native.Mathlib.Omega.{arith}
-use lib.Dec.{ltb}
 use lib.IntN.{ℤ}
-use lib.ListN.{length}
-use Rattle.laws.specs.Choices.{unless}
-use Rattle.table.specs.Slots.{lengthsFit}
 use Rattle.base.specs.Base.{baseOf, centresIn}
 use Rattle.base.specs.BaseLaws.{base-list}
 use Rattle.mesh.specs.Grown.{Grown}
 use Rattle.mesh.specs.Subdivide.{subdivideOf}
 use Rattle.counts.specs.Counts.{countsOf}
 use Rattle.counts.specs.declared.Counts.{Counts}
-use Rattle.readers.specs.Readers.{TablesAfter, tablesAfter, refused, readFullOf, readReducedOf}
-use Rattle.census_text.specs.Census.{mostInput, readInputOf}
+use Rattle.readers.specs.Readers.{readFullOf, readReducedOf}
+use Rattle.census_text.specs.Census.{readInputOf}
+use Rattle.census_text.specs.InputLaws.{counted-grown}
+use Rattle.grown.specs.Grown.{is-grown}
 use Rattle.archive.specs.Full.{full-accepted}
 use Rattle.archive.specs.Reduced.{reduced-accepted}
 
@@ -96,16 +93,7 @@ reduced-fits table scratch f z = grown-fits (readReducedOf table scratch f .tabl
 
 -- what a census counts is grown: no corner is left out of its F and E (`corner-faced`), and they fit
 pub census-grown : (table scratch input : List ℕ) → readInputOf table scratch input .number ≡ 0 → Grown (readInputOf table scratch input .table)
-unfolding readInputOf
-census-grown table scratch input = go (lengthsFit table scratch) (ltb mostInput (length input))
-  where
-    read : Bool → Bool → TablesAfter
-    read a b = unless a (tablesAfter 1 0 table scratch) (cond b (refused 8 0 table scratch) (readFullOf table scratch input))
-
-    go : (a b : Bool) → read a b .number ≡ 0 → Grown (read a b .table)
-    go false b z = absurd (omega arith)
-    go true true z = absurd (omega arith)
-    go true false z = full-accepted table scratch input z .0
+census-grown table scratch input z = is-grown (readInputOf table scratch input .table) (counted-grown table scratch input z)
 
 -- ---- a base laid of the centres that the plan has; that it is accepted where there is room for the plan: `centres-accepted`
 module _ (t : List ℕ) (g : Grown t) (cs : List ℤ) (C : CentresOf t cs) (x : List ℕ) (z : baseOf x cs .number ≡ 0) where

@@ -32,7 +32,7 @@ use Rattle.queries.specs.Many.{tripleOf, answerWidth, AnswersAfter, allOf}
 use Rattle.writers.specs.Files.{fullFile, reducedFile}
 use Rattle.viewer.specs.Viewer.{offStyle, objStyle}
 use Rattle.readers.specs.Readers.{TablesAfter}
-use Rattle.counts.specs.Count.{CountsAfter, countOf}
+use Rattle.tally.specs.Count.{CountsAfter, countOf}
 use Rattle.census_text.specs.Census.{readInputOf, mostInput, textOf, Put, putText, censusOf}
 use Rattle.demands.specs.Calls.{Call, Lent, Outcome, does, normalise, star, base, subdivide, subdivideAll, neighbours, faces, neighboursAll, facesAll}
 use Rattle.demands.specs.Calls.{writeFull, writeReduced, readFull, readReduced, census, counts, join, bring, writeOff, writeObj, inOrder, parseLine}

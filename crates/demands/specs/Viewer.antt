@@ -15,6 +15,7 @@ use borrow.Author.Tests.{eqb-true}
 use lib.Dec.{eqb, ltb}
 use lib.IntN.{ℤ, pos, negsuc, natAbs}
 use lib.ListN.{length, drop}
+use Rattle.geometry.specs.Forms.{point-own}
 use Rattle.laws.specs.Each.{not-both}
 use Rattle.laws.specs.Rules.{upto}
 use Rattle.laws.specs.Some.{someOf, some-at, at-some}
@@ -45,7 +46,7 @@ use Rattle.viewer.specs.FaceLaws.{Differ, Least, Rises, mesh-face, face-mesh, m
 use Rattle.viewer.specs.declared.styles.Style.{Style}
 use Rattle.viewer.specs.declared.corners.Corners.{Corners}
 use Rattle.demands.specs.Numbers.{Rule, _⇒_, firstOf, faces-number, queryRules}
-use Rattle.demands.specs.Forms.{own-form, valid-normal}
+use Rattle.demands.specs.Forms.{valid-normal}
 use Rattle.demands.specs.Turning.{LeftFace, face-left}
 pub use Rattle.demands.specs.Turning.{Left, LeftRound, left-round}
 pub use Rattle.viewer.specs.Places.{Placed, number-place}
@@ -250,7 +251,7 @@ module _ (t : List ℕ) (o : InOrder t) where
   torn-query h =
       let (r, m, w) = some-at (tornAt t) (recordsOf t) h in
       let l = records-looked t o r m in
-      let form = own-form (r .at) (valid-normal r (lookup-valid t o (r .at) r l)) in (
+      let form = point-own (r .at) (valid-normal r (lookup-valid t o (r .at) r l)) in (
         r,
         m,
         asked (r .at .a) (r .at .b) (r .at .m .0) r (ap (lookUp t) form ∙ l)

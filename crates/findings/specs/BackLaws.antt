@@ -7,8 +7,8 @@ use mathlib.Core.List.{List, [], _∷_, _++_, map, map-append, append-assoc, app
 use Prim.Native.Nat.{ℕ, zero, suc, _+_, _*_, _≤_}
 use native.Mathlib.Omega.{arith}
 use lib.ListN.{length, take, drop, getD, length-append, length-map}
-use lib.Seq.{sets, sets-eq, length-sets, drop-at, take-at, getD-at, length-take-le}
-use Rattle.laws.specs.Stores.{Wrote}
+use lib.Seq.{length-sets, take-at, getD-at}
+use Rattle.laws.specs.Stores.{Wrote, drop-stored}
 use Rattle.sorting.specs.Sorting.{keyWidth, keyIn, keysIn}
 use Rattle.sorting.specs.Keys.{key-before}
 use Rattle.sorting.specs.KeyLaws.{firsts-length, firsts-same}
@@ -100,11 +100,6 @@ module _ (l : List ℕ) (fs : List Finding) (good : (f : Finding) → List·Mem�
             room = w .room;
           }
 
-stored-here : (o : List ℕ) (at : ℕ) (xs : List ℕ) → at + length xs ≤ length o → drop at (sets o at xs) ≡ xs ++ drop (at + length xs) o
-stored-here o at xs h =
-    ap (drop at) (sets-eq xs o at h ∙ append-assoc (take at o) xs (drop (at + length xs) o))
-    ∙ drop-at (take at o) (xs ++ drop (at + length xs) o) at (length-take-le at o (omega arith))
-
 module _ (l : List ℕ) (fs : List Finding) (good : (f : Finding) → List·Memᴰ f fs → InList l f) (rest o : List ℕ) (k at : ℕ)
     (w : Last l fs good rest o k at) where
   pub left-step : (o′ : List ℕ) (at′ : ℕ) → Wrote o at′ (standsText l (w .last)) o′ at → Left l fs rest o′ k at′
@@ -126,7 +121,7 @@ module _ (l : List ℕ) (fs : List Finding) (good : (f : Finding) → List·Mem�
             ∙ w .keys;
         place = omega arith;
         done =
-            ap (drop at′) (u .bytes) ∙ stored-here o at′ xs (omega arith) ∙ ap (λ (n : ℕ). xs ++ drop n o) (sym e)
+            ap (drop at′) (u .bytes) ∙ drop-stored o at′ xs (omega arith) ∙ ap (λ (n : ℕ). xs ++ drop n o) (sym e)
             ∙ ap (λ (x : List ℕ). xs ++ x) (w .done) ∙ sym (append-assoc xs (texts (standsText l) (w .back)) rest);
         room = let z : length o′ ≡ length o = ap length (u .bytes) ∙ length-sets o at′ xs in omega arith;
       }

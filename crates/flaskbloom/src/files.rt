@@ -4,11 +4,11 @@ ghost use Prim.Native.Nat.{_≤_};
 ghost use lib.ListN.{length};
 ghost use Rattle.writers.specs.Files.{outputAfter, writeFullOf, writeReducedOf};
 ghost use Rattle.readers.specs.Readers as reader;
-ghost use Rattle.counts.specs.Count.{countOf};
+ghost use Rattle.tally.specs.Count.{countOf};
 ghost use Rattle.findings.specs.Findings.{joinAfter, joinOf};
 ghost use Rattle.viewer.specs.Viewer.{writeOffOf, writeObjOf};
 ghost use Rattle.census_text.specs.Census.{put, result, censusOf, textOf, readInputOf};
-use counts::COUNTS;
+use tally::COUNTS;
 
 // Writes the full file, or 1, 13; written: its bytes, 0 if refused.
 #[no_mangle]
@@ -92,7 +92,7 @@ pub extern "C" fn fb_counts(table: &[u8], numbers: &mut [u32; COUNTS]) -> u8
     ensures { λ r. ⌜ r ≡ countOf (now (table .entry)) .number ⌝ }
     ensures { λ _. ⌜ now (numbers .exit) ≡ countOf (now (table .entry)) .counted ⌝ }
 {
-    counts::count(table, numbers)
+    tally::count(table, numbers)
 }
 
 // Writes the findings list joined with the plan, or 1, 15, 13; line: the malformed line, else 0; written: its bytes, 0 if refused.

@@ -20,7 +20,7 @@ use Rattle.lattice.specs.PointLaws.{alike, alike-eq, turns-three}
 use Rattle.lattice.specs.Places.{wide, high, sum-wide, sum-high, sum-depth, sum-assoc, unique, normal-low, Low, turn60-wide, turn60-high, away}
 use Rattle.lattice.specs.Places.{sum-away, lift-lift, pow-over}
 use Rattle.lattice.specs.Patterns.{orient, three, four, five, six, rowsOf, patternOf, adjacentOf}
-use Rattle.lattice.specs.PatternLaws.{orient-depth, adjacent-close}
+use Rattle.lattice.specs.PatternLaws.{orient-depth, adjacent-close, orient-turn}
 use Rattle.lattice.specs.Stars.{scaleOf, stepOf, adjacentAt}
 use Rattle.lattice.specs.Ranks.{moveOf, level}
 use Rattle.lattice.specs.declared.points.Point.{Point}
@@ -37,22 +37,10 @@ low-normal p t = record { low = go (p .m .0) (by3 (p .a) && by3 (p .b)) t }
     go (suc m) false t h = refl
 
 -- ---- directions: a turn of 60 degrees goes two directions on
-turn60-turn30 : (p : Point) → turn30Of (turn60Of p) ≡ turn60Of (turn30Of p)
-turn60-turn30 p =
-    let a = ‵ (p .a) in
-    let b = ‵ (p .b) in
-    λ i. pt (same (⊟ b ⊝ (a ⊕ b)) (⊟ (a ⊕ 2 ⊗ b)) (omega arith) i) (same (⊟ b ⊕ 2 ⊗ (a ⊕ b)) ((a ⊝ b) ⊕ (a ⊕ 2 ⊗ b)) (omega arith) i) (p .m .0 + 1)
-
-orient-turn60 : (k : ℕ) (p : Point) → orient k (turn60Of p) ≡ turn60Of (orient k p)
-unfolding orient
-orient-turn60 zero p = refl
-orient-turn60 (suc zero) p = turn60-turn30 p
-orient-turn60 (suc (suc k)) p = ap turn60Of (orient-turn60 k p)
-
 orient-turns : (j k : ℕ) (p : Point) → orient k (turns j p) ≡ orient (2 * j + k) p
 unfolding turns orient
 orient-turns zero k p = let e : 2 * 0 + k ≡ k = omega arith in rw e
-orient-turns (suc j) k p = let e : 2 * suc j + k ≡ suc (suc (2 * j + k)) = omega arith in rw e (orient-turn60 k (turns j p) ∙ ap turn60Of (orient-turns j k p))
+orient-turns (suc j) k p = let e : 2 * suc j + k ≡ suc (suc (2 * j + k)) = omega arith in rw e (orient-turn k (turns j p) ∙ ap turn60Of (orient-turns j k p))
 
 abbrev unit : Point
 unit = pt (pos 1) (pos 0) 0

@@ -14,9 +14,9 @@ use lib.Dec.{T, eqb}
 use borrow.Author.Tests.{eq-eqb, ne-eqb}
 use lib.IntN.{ℤ, pos, _+ℤ_, _*ℤ_, _-ℤ_, natAbs, *ℤ-comm}
 use Rattle.laws.specs.Linear.{same, ‵, _⊕_, _⊝_, _⊗_}
-use Rattle.laws.specs.Residue.{modZ}
+use Rattle.laws.specs.Residue.{modZ, left3-plus}
 use Rattle.laws.specs.Rules.{_≡?_, _&_, _⇒_, rule}
-use Rattle.laws.specs.Thirds.{three-below, three-add, three-minus, nine-add, zero-three, three-power}
+use Rattle.laws.specs.Thirds.{three-below, three-minus, nine-add, zero-three, three-power}
 use Rattle.lattice.specs.Points.{pt, by3, isNormal, lift}
 use Rattle.lattice.specs.Places.{wide, high, sum-wide, sum-high, sum-depth}
 use Rattle.lattice.specs.Patterns.{orient}
@@ -200,10 +200,10 @@ module _ (q : Point) (e i : ℕ) (d : Dir e i) (h : q .m .0 ≤ deepOf i) where
   step-depth = omega (arith, sum-depth q (vector e i), step-deep e i d)
 
   pub step-a : ra (deepOf i) (moveOf q e i) ≡ (ra (deepOf i) q + modZ (one e .a) 3) % 3
-  step-a = ap (λ (z : ℤ). modZ z 3) sum-a ∙ three-add (wide (deepOf i) q) (one e .a)
+  step-a = ap (λ (z : ℤ). modZ z 3) sum-a ∙ left3-plus (wide (deepOf i) q) (one e .a)
 
   pub step-b : rb (deepOf i) (moveOf q e i) ≡ (rb (deepOf i) q + modZ (one e .b) 3) % 3
-  step-b = ap (λ (z : ℤ). modZ z 3) sum-b ∙ three-add (high (deepOf i) q) (one e .b)
+  step-b = ap (λ (z : ℤ). modZ z 3) sum-b ∙ left3-plus (high (deepOf i) q) (one e .b)
 
   sum-c : wide (deepOf i) (moveOf q e i) -ℤ high (deepOf i) (moveOf q e i) ≡ (wide (deepOf i) q -ℤ high (deepOf i) q) +ℤ (one e .a -ℤ one e .b)
   sum-c =
@@ -212,7 +212,7 @@ module _ (q : Point) (e i : ℕ) (d : Dir e i) (h : q .m .0 ≤ deepOf i) where
       ((‵ (wide (deepOf i) q) ⊝ ‵ (high (deepOf i) q)) ⊕ (‵ (one e .a) ⊝ ‵ (one e .b))) (omega arith)
 
   pub step-c : rc 3 (deepOf i) (moveOf q e i) ≡ (rc 3 (deepOf i) q + modZ (one e .a -ℤ one e .b) 3) % 3
-  step-c = ap (λ (z : ℤ). modZ z 3) sum-c ∙ three-add (wide (deepOf i) q -ℤ high (deepOf i) q) (one e .a -ℤ one e .b)
+  step-c = ap (λ (z : ℤ). modZ z 3) sum-c ∙ left3-plus (wide (deepOf i) q -ℤ high (deepOf i) q) (one e .a -ℤ one e .b)
 
   pub step-9 : rc 9 (deepOf i) (moveOf q e i) ≡ (rc 9 (deepOf i) q + modZ (one e .a -ℤ one e .b) 9) % 9
   step-9 = ap (λ (z : ℤ). modZ z 9) sum-c ∙ nine-add (wide (deepOf i) q -ℤ high (deepOf i) q) (one e .a -ℤ one e .b)

@@ -2,7 +2,7 @@
 -- refusal.
 -- A new point is a third of the sum of v and two of its old adjacent points, so it keeps to their range; and its depth is at most 6 (`new-depth`).
 -- `Sited` what the point of a valid record has · `sited`, `valid-made`, `suits-made` between it and validity ·
--- `update-boundary` .. `update-five` what becomes of an old adjacent vertex, degree by degree ·
+-- `update-boundary` .. `update-five` what becomes of an old adjacent vertex, degree by degree, `update-at` at its point ·
 -- `Rule`, `has-rule`, `accepted` what it is when nothing is torn · `six-place` a star of degree 6 by directions · `sum-normal`.
 -- Assumes nothing.
 use mathlib.Core.Path.{_≡_, refl, sym, _∙_, ap, subst}
@@ -104,6 +104,21 @@ module _ (k′ : ℕ) (u : Record) where
   pub update-five : u .d ≡ 5 → updateOf k′ u ≡ record { at = u .at; d = 6; k = (k′ + 1) % 2; n = record { 0 = u .n .0 + 1 } }
   unfolding updateOf
   update-five e = rw e
+
+-- whatever becomes of it, its point stays
+pub update-at : (k′ : ℕ) (u : Record) → updateOf k′ u .at ≡ u .at
+unfolding updateOf
+update-at k′ u = go (eqb (u .d) 3) (eqb (u .d) 4) (eqb (u .d) 5)
+  where
+    go : (a b c : Bool) →
+        cond a (record { at = u .at; d = 4; k = (k′ + 4) % 12; n = u .n })
+        (cond b (record { at = u .at; d = 5; k = fourTurn k′ (u .k); n = u .n })
+        (cond c (record { at = u .at; d = 6; k = (k′ + 1) % 2; n = record { 0 = u .n .0 + 1 } })
+        u)) .at ≡ u .at
+    go true b c = refl
+    go false true c = refl
+    go false false true = refl
+    go false false false = refl
 
 -- what "no rule" leaves: the degree, and how its orientation stands to k′
 pub data Rule (k′ : ℕ) (u : Record) : Type 0 where

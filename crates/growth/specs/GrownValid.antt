@@ -5,7 +5,7 @@
 use mathlib.Core.Path.{_≡_, refl, sym, _∙_, ap, subst}
 use mathlib.Core.Bool.{Bool, true, false, cond, _&&_}
 use mathlib.Core.Option.{none, some, Option·none-ne-some, Option·some-injective}
-use Prim.Native.Nat.{ℕ, _+_, _*_, _%_, _^_, _≤_, _<_}
+use Prim.Native.Nat.{ℕ, _*_, _^_, _≤_, _<_}
 use native.Mathlib.Omega.{arith}
 use native.Mathlib.Decide.{ℕ-discrete}
 use lib.Dec.{T, eqb, leb, eqb→eq, leb→le}
@@ -20,8 +20,8 @@ use Rattle.lattice.specs.Stars.{adjacentAt}
 use Rattle.lattice.specs.Records.{validOf, suitsOf}
 use Rattle.lattice.specs.Points.{classOf}
 use Rattle.geometry.specs.RankLaws.{one}
-use Rattle.lattice.specs.Subdivision.{centreOf, newOf, backOf, fourTurn, updateOf}
-use Rattle.geometry.specs.SubdivisionLaws.{Sited, sited, valid-made, centre-valid, update-valid, new-valid}
+use Rattle.lattice.specs.Subdivision.{centreOf, newOf, backOf, updateOf}
+use Rattle.geometry.specs.SubdivisionLaws.{Sited, sited, valid-made, centre-valid, update-valid, new-valid, update-at}
 use Rattle.lattice.specs.declared.points.Point.{Point}
 use Rattle.lattice.specs.declared.records.Record.{Record}
 use Rattle.growth.specs.Sheets.{Sheet, vertex, UntornAt, Step, hexagonRound, givenBy, insideBase, baseVertex, baseSheet, centreTest, CentreSet}
@@ -112,18 +112,6 @@ module _ (H : Point → Bool) (b : CentreSet H) where
       )
 
 -- ---- a subdivision
-update-at : (k′ : ℕ) (u : Record) → updateOf k′ u .at ≡ u .at
-unfolding updateOf
-update-at k′ u = go (eqb (u .d) 3) (eqb (u .d) 4) (eqb (u .d) 5)
-  where
-    go : (x y z : Bool)
-        → cond x (vertex (u .at) 4 ((k′ + 4) % 12) (u .n .0))
-        (cond y (vertex (u .at) 5 (fourTurn k′ (u .k)) (u .n .0)) (cond z (vertex (u .at) 6 ((k′ + 1) % 2) (u .n .0 + 1)) u)) .at ≡ u .at
-    go true y z = refl
-    go false true z = refl
-    go false false true = refl
-    go false false false = refl
-
 module _ (R R′ : Sheet) (v : Record) (sound : Sound R) (x : R (v .at) ≡ some v) (six : v .d ≡ 6) (below : v .n .0 < 12) (w : UntornAt R v)
     (s : Step R v R′) where
   valid : T (validOf v)

@@ -17,11 +17,15 @@ use Rattle.lattice.specs.Points.{turn60Of, turn30Of, pt}
 use Rattle.lattice.specs.declared.points.Point.{Point}
 use Rattle.lattice.specs.declared.records.Level.{Level}
 
+-- two numbers of this size add up within 32 bits
+abbrev pub summable : ℕ
+summable = 1000000000
+
 -- a point whose numerators, brought to depth 7, are small enough that a sum of two fits
 pub record Small (p : Point) : Type 0 where
   pub depth : p .m .0 ≤ 7
-  pub wide : natAbs (p .a) * 3 ^ (7 - p .m .0) ≤ 1000000000
-  pub high : natAbs (p .b) * 3 ^ (7 - p .m .0) ≤ 1000000000
+  pub wide : natAbs (p .a) * 3 ^ (7 - p .m .0) ≤ summable
+  pub high : natAbs (p .b) * 3 ^ (7 - p .m .0) ≤ summable
 
 grow : (n k : ℕ) → n ≤ n * 3 ^ k
 grow n k = subst (λ (m : ℕ). m ≤ n * 3 ^ k) (mul-one n) (mul-le-mul-left n (one-le-pow k 3 (lit< tt)))
@@ -30,13 +34,13 @@ pow-grows : {i j : ℕ} → i ≤ j → 3 ^ i ≤ 3 ^ j
 pow-grows h = pow-le-pow-right (lit< tt) h
 
 -- below depth 7 the numerators are smaller
-lifted : (n m d : ℕ) → d ≤ 7 → n * 3 ^ (7 - m) ≤ 1000000000 → n * 3 ^ (d - m) ≤ 1000000000
+lifted : (n m d : ℕ) → d ≤ 7 → n * 3 ^ (7 - m) ≤ summable → n * 3 ^ (d - m) ≤ summable
 lifted n m d h b = le-trans (mul-le-mul-left n (pow-grows {i = d - m} {j = 7 - m} (omega arith))) b
 
-pub small-wide : (p : Point) (d : ℕ) → d ≤ 7 → Small p → natAbs (p .a) * 3 ^ (d - p .m .0) ≤ 1000000000
+pub small-wide : (p : Point) (d : ℕ) → d ≤ 7 → Small p → natAbs (p .a) * 3 ^ (d - p .m .0) ≤ summable
 small-wide p d h s = lifted (natAbs (p .a)) (p .m .0) d h (s .wide)
 
-pub small-high : (p : Point) (d : ℕ) → d ≤ 7 → Small p → natAbs (p .b) * 3 ^ (d - p .m .0) ≤ 1000000000
+pub small-high : (p : Point) (d : ℕ) → d ≤ 7 → Small p → natAbs (p .b) * 3 ^ (d - p .m .0) ≤ summable
 small-high p d h s = lifted (natAbs (p .b)) (p .m .0) d h (s .high)
 
 pub small-a : (p : Point) → Small p → SFits w32 (p .a)
@@ -75,18 +79,18 @@ hex-turn30 {p} h =
     }
 
 -- a point near 0, and one in a record's range
-low-small : (n m : ℕ) → n ≤ 10 → n * 3 ^ (7 - m) ≤ 1000000000
+low-small : (n m : ℕ) → n ≤ 10 → n * 3 ^ (7 - m) ≤ summable
 low-small n m h = le-trans (mul-le-mul h (pow-grows {i = 7 - m} {j = 7} (omega arith))) (lit≤ tt)
 
 pub small-near : (p : Point) → Hex 10 p → p .m .0 ≤ 7 → Small p
 small-near p h d = record { depth = d; wide = low-small (natAbs (p .a)) (p .m .0) (h .a); high = low-small (natAbs (p .b)) (p .m .0) (h .b) }
 
-range-small : (n m : ℕ) → m ≤ 6 → n ≤ 251 * 3 ^ m → n * 3 ^ (7 - m) ≤ 1000000000
+range-small : (n m : ℕ) → m ≤ 6 → n ≤ 251 * 3 ^ m → n * 3 ^ (7 - m) ≤ summable
 range-small n m d h =
     let f : m + (7 - m) ≡ 7 = omega arith in
     let e : 251 * 3 ^ m * 3 ^ (7 - m) ≡ 251 * 3 ^ 7 = mul-assoc 251 (3 ^ m) (3 ^ (7 - m))
     ∙ ap (λ (k : ℕ). 251 * k) (sym (pow-add 3 m (7 - m)) ∙ ap (λ (k : ℕ). 3 ^ k) f) in
-    le-trans (mul-le-mul-right (3 ^ (7 - m)) h) (subst (λ (k : ℕ). k ≤ 1000000000) (sym e) (lit≤ tt))
+    le-trans (mul-le-mul-right (3 ^ (7 - m)) h) (subst (λ (k : ℕ). k ≤ summable) (sym e) (lit≤ tt))
 
 pub small-range : (p : Point) → p .m .0 ≤ 6 → natAbs (p .a) ≤ 251 * 3 ^ p .m .0 → natAbs (p .b) ≤ 251 * 3 ^ p .m .0 → Small p
 small-range p d a b = record { depth = omega arith; wide = range-small (natAbs (p .a)) (p .m .0) d a; high = range-small (natAbs (p .b)) (p .m .0) d b }

@@ -1,6 +1,6 @@
 -- The laws of orientations and pattern points, each over degree and orientation, by one test over the table.
--- `orient-split` an orientation by turns · `hex-orient`, `orient-depth` how far and how deep · `Zero`, `orient-zero` only 0 is turned to 0 ·
--- `adjacent-close`, `first-close`, `second-close` the bounds of the pattern points ·
+-- `orient-split` an orientation by turns, `orient-turn` and a turn through it · `hex-orient`, `orient-depth` how far and how deep · `Zero`, `orient-zero` only
+-- 0 is turned to 0 · `adjacent-close`, `first-close`, `second-close` the bounds of the pattern points ·
 -- `adjacent-near`, `first-near`, `second-near` the same at any orientation and level.
 -- Assumes nothing.
 use mathlib.Core.Path.{_≡_, refl, ap, subst}
@@ -12,7 +12,7 @@ use Rattle.laws.specs.Rules.{Test, _≤?_, _≡?_, _≡ᶻ?_, _&_, Means, _⇒_
 use Rattle.lattice.specs.declared.patterns.Spot.the-variants.{At, Nothing}
 use Rattle.lattice.specs.Patterns.{orient, Row, three, four, five, six, rowsOf, patternOf, onSpot, adjacentOf, firstOppositeOf, secondOppositeOf}
 use Rattle.lattice.specs.Bounds.{Hex, hex-turn60, hex-turn30, Near}
-use Rattle.lattice.specs.Points.{turn60Of, turn30Of, turns}
+use Rattle.lattice.specs.Points.{turn60Of, turn30Of, turns, pt}
 use Rattle.lattice.specs.declared.points.Point.{Point}
 use Rattle.lattice.specs.declared.records.Level.{Level}
 use Rattle.lattice.specs.declared.patterns.Spot.{Spot}
@@ -28,6 +28,18 @@ orient-split (suc (suc k)) p =
     let e : suc (suc k) / 2 ≡ suc (k / 2) = omega arith in
     let f : suc (suc k) % 2 ≡ k % 2 = omega arith in
     rw (e, f) (ap turn60Of (orient-split k p))
+
+-- a turn goes through an orientation
+pub orient-turn : (k : ℕ) (p : Point) → orient k (turn60Of p) ≡ turn60Of (orient k p)
+unfolding orient
+orient-turn zero p = refl
+orient-turn (suc zero) p =
+    let a = ‵ (p .a) in
+    let b = ‵ (p .b) in
+    let x = ⊟ b in
+    let y = a ⊕ b in
+    λ i. pt (same (x ⊝ y) (⊟ (a ⊕ 2 ⊗ b)) (omega arith) i) (same (x ⊕ 2 ⊗ y) ((a ⊝ b) ⊕ (a ⊕ 2 ⊗ b)) (omega arith) i) (p .m .0 + 1)
+orient-turn (suc (suc k)) p = ap turn60Of (orient-turn k p)
 
 pub hex-orient : (k : ℕ) {p : Point} → Hex 4 p → Hex 10 (orient k p)
 unfolding orient

@@ -1,11 +1,12 @@
 -- What the rows of the constant tables obey.
--- `read` a point in bytes is the same, `read-same`, `read-hex` · `past` · `table-row`, `degree-rows` which number a degree, a place and an orientation have ·
--- `held-hex`, `second-none`, `second-at` second opposites.
+-- `read` a point in bytes is the same, `read-same`, `read-hex` · `foremost-row` the first adjacent point · `past` · `table-row`, `degree-rows` which number a
+-- degree, a place and an orientation have · `held-hex`, `held-turned`, `second-none`, `second-at` second opposites.
 -- Assumes nothing.
 use mathlib.Core.Path.{_≡_, refl, sym, ap, subst}
 use Prim.Native.Nat.{ℕ, zero, suc, _+_, _*_, _%_, _/_, _≤_, _<_}
 use native.Mathlib.Omega.{arith}
 use lib.Dec.{lit≤}
+use lib.IntN.{pos}
 use mir.Syntax.{w8}
 use mir.Val.{toZ, ofZ}
 use mir.Facts.{toZ-ofZ}
@@ -31,6 +32,13 @@ read-same {p} h = λ i. pt (toZ-ofZ (fits w8 (p .a) (omega (arith, h .a))) i) (t
 
 pub read-hex : {p : Point} → Hex 10 p → Hex 10 (read p)
 read-hex h = subst (Hex 10) (sym (read-same h)) h
+
+-- the first adjacent point, at orientations 0 and 1
+pub foremost-row : (h : ℕ) → h < 2 → pt (pos 1) (pos h) h ≡ orient h (patternOf 6 0 .adjacent)
+unfolding orient patternOf rowsOf six
+foremost-row zero l = refl
+foremost-row (suc zero) l = refl
+foremost-row (suc (suc h)) l = absurd (omega arith)
 
 -- a number that is none of those so far
 pub past : {n i : ℕ} → n ≤ i → (i ≡ n → ⊥) → suc n ≤ i
@@ -73,13 +81,15 @@ unfolding turns
 turns-own zero = refl
 turns-own (suc n) = ap turn60Of (turns-own n)
 
-abbrev turnedSecond : ℕ → Spot → Point
-turnedSecond k s = turns (k / 2) (held (onSpot (orient (k % 2)) s))
+-- what the tables have, turned, is the second opposite at any orientation
+pub held-turned : (k : ℕ) (s : Spot) → turns (k / 2) (held (onSpot (orient (k % 2)) s)) ≡ held (onSpot (orient k) s)
+held-turned k (At p) = orient-split k p
+held-turned k Nothing = turns-own (k / 2)
 
-pub second-none : (k : ℕ) (s : Spot) → ((p : Point) → s ≡ At p → Close p) → Zero (turnedSecond k s) → onSpot (orient k) s ≡ Nothing
-second-none k (At p) c z = absurd (c p refl .away (orient-zero k p (subst Zero (orient-split k p) z)))
+pub second-none : (k : ℕ) (s : Spot) → ((p : Point) → s ≡ At p → Close p) → Zero (held (onSpot (orient k) s)) → onSpot (orient k) s ≡ Nothing
+second-none k (At p) c z = absurd (c p refl .away (orient-zero k p z))
 second-none k Nothing c z = refl
 
-pub second-at : (k : ℕ) (s : Spot) → (Zero (turnedSecond k s) → ⊥) → At (turnedSecond k s) ≡ onSpot (orient k) s
-second-at k (At p) h = ap At (orient-split k p)
-second-at k Nothing h = absurd (h (subst Zero (sym (turns-own (k / 2))) (refl, refl)))
+pub second-at : (k : ℕ) (s : Spot) → (Zero (held (onSpot (orient k) s)) → ⊥) → At (held (onSpot (orient k) s)) ≡ onSpot (orient k) s
+second-at k (At p) h = refl
+second-at k Nothing h = absurd (h (refl, refl))

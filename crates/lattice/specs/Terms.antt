@@ -7,7 +7,7 @@ use Prim.Native.Nat.{ℕ, _≤_, _-_, _^_, max}
 use native.Mathlib.Omega.{arith}
 use lib.IntN.{_+ℤ_, natAbs}
 use Rattle.laws.specs.Sizes.{abs-mul}
-use Rattle.lattice.specs.Bounds.{Small, small-wide, small-high}
+use Rattle.lattice.specs.Bounds.{Small, small-wide, small-high, summable}
 use Rattle.lattice.specs.Points.{normalOf, lift}
 use Rattle.lattice.specs.declared.points.Point.{Point}
 use Rattle.lattice.specs.declared.points.Terms.{Terms}
@@ -31,10 +31,10 @@ addedOf w = normalOf (w .a +ℤ w .x) (w .b +ℤ w .y) (w .m .0)
 
 -- no sum of two of the numerators is over 32 bits
 pub record Light (w : Terms) : Type 0 where
-  pub a : natAbs (w .a) ≤ 1000000000
-  pub b : natAbs (w .b) ≤ 1000000000
-  pub x : natAbs (w .x) ≤ 1000000000
-  pub y : natAbs (w .y) ≤ 1000000000
+  pub a : natAbs (w .a) ≤ summable
+  pub b : natAbs (w .b) ≤ summable
+  pub x : natAbs (w .x) ≤ summable
+  pub y : natAbs (w .y) ≤ summable
 
 pub terms-light : (p q : Point) → Small p → Small q → Light (termsOf p q)
 terms-light p q s t =
@@ -43,8 +43,8 @@ terms-light p q s t =
     let i = 3 ^ (d - p .m .0) in
     let j = 3 ^ (d - q .m .0) in
     record {
-      a = subst (λ (n : ℕ). n ≤ 1000000000) (sym (abs-mul (p .a) i)) (small-wide p d h s);
-      b = subst (λ (n : ℕ). n ≤ 1000000000) (sym (abs-mul (p .b) i)) (small-high p d h s);
-      x = subst (λ (n : ℕ). n ≤ 1000000000) (sym (abs-mul (q .a) j)) (small-wide q d h t);
-      y = subst (λ (n : ℕ). n ≤ 1000000000) (sym (abs-mul (q .b) j)) (small-high q d h t);
+      a = subst (λ (n : ℕ). n ≤ summable) (sym (abs-mul (p .a) i)) (small-wide p d h s);
+      b = subst (λ (n : ℕ). n ≤ summable) (sym (abs-mul (p .b) i)) (small-high p d h s);
+      x = subst (λ (n : ℕ). n ≤ summable) (sym (abs-mul (q .a) j)) (small-wide q d h t);
+      y = subst (λ (n : ℕ). n ≤ summable) (sym (abs-mul (q .b) j)) (small-high q d h t);
     }

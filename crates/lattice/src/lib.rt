@@ -14,7 +14,9 @@ mod rows;
 mod stars;
 mod updates;
 
+pub use arms::far_arm;
 pub use arms::first_arm;
+pub use arms::near_arm;
 pub use arms::next_arm;
 pub use arms::regular;
 pub use numbers::AT_THE_RIM;

@@ -5,7 +5,7 @@ ghost use Prim.Native.Nat.{_+_, _%_, _/_, _≤_, _<_};
 ghost use Rattle.lattice.specs.Points.{turn60Of, turns};
 ghost use Rattle.lattice.specs.Patterns.{patternOf, adjacentOf, firstOppositeOf, secondOppositeOf};
 ghost use Rattle.lattice.specs.Bounds.{Hex};
-ghost use Rattle.lattice.specs.Rows.{placeOf, pointOf, orientRow, firstRow, tableRow};
+ghost use Rattle.lattice.specs.Rows.{held, placeOf, pointOf, orientRow, firstRow, tableRow};
 use crate::points::Depth;
 use crate::points::Point;
 
@@ -21,70 +21,22 @@ struct P(i8, i8, u8);
 // A row of a table: adjacent | first opposite | second opposite, three numbers each. Where there is no second opposite the vertex itself stands, 0, 0, 0.
 struct Place(i8, i8, u8, i8, i8, u8, i8, i8, u8);
 
-// The places of each degree, in counter-clockwise order, each a row at orientation 0 and below it a row at orientation 1.
-const THREE: [Place; 6] = [
-    Place(1, 0, 0, 0, 1, 0, 0, 2, 0),
-    Place(1, 1, 1, -1, 2, 1, -2, 4, 1),
-    Place(-1, 1, 0, -1, 0, 0, -2, 0, 0),
-    Place(-2, 1, 1, -1, -1, 1, -2, -2, 1),
-    Place(0, -1, 0, 1, -1, 0, 2, -2, 0),
-    Place(1, -2, 1, 2, -1, 1, 4, -2, 1),
-];
+// The constant tables, one a degree, whose rows are numbered on; degree d begins at row d(d - 1). Its places stand in counter-clockwise order, each a row at
+// orientation 0 and below it a row at orientation 1. Each hands what is not its own on to the next: so the four are compiled to one table a column, of which
+// nothing is copied.
 
-const FOUR: [Place; 8] = [
-    Place(1, 0, 0, 0, 1, 0, 0, 2, 0),
-    Place(1, 1, 1, -1, 2, 1, -2, 4, 1),
-    Place(-1, 1, 0, -1, 0, 0, 0, 0, 0),
-    Place(-2, 1, 1, -1, -1, 1, 0, 0, 0),
-    Place(-1, -1, 1, 0, -2, 1, 0, -1, 0),
-    Place(0, -3, 2, 2, -4, 2, 1, -2, 1),
-    Place(1, -2, 1, 1, -1, 0, 0, 0, 0),
-    Place(3, -3, 2, 2, -1, 1, 0, 0, 0),
-];
-
-const FIVE: [Place; 10] = [
-    Place(1, 0, 0, 0, 1, 0, 0, 0, 0),
-    Place(1, 1, 1, -1, 2, 1, 0, 0, 0),
-    Place(-1, 2, 1, -2, 2, 1, -1, 1, 0),
-    Place(-3, 3, 2, -4, 2, 2, -2, 1, 1),
-    Place(-2, 1, 1, -2, 0, 1, -1, 0, 0),
-    Place(-3, 0, 2, -2, -2, 2, -1, -1, 1),
-    Place(-1, -1, 1, 0, -2, 1, 0, -1, 0),
-    Place(0, -3, 2, 2, -4, 2, 1, -2, 1),
-    Place(1, -2, 1, 1, -1, 0, 0, 0, 0),
-    Place(3, -3, 2, 2, -1, 1, 0, 0, 0),
-];
-
-// Each place is the one before it, turned by 60 degrees.
-const SIX: [Place; 12] = [
-    Place(1, 0, 0, 2, 2, 1, 1, 1, 0),
-    Place(1, 1, 1, 0, 6, 2, 0, 3, 1),
-    Place(0, 1, 0, -2, 4, 1, -1, 2, 0),
-    Place(-1, 2, 1, -6, 6, 2, -3, 3, 1),
-    Place(-1, 1, 0, -4, 2, 1, -2, 1, 0),
-    Place(-2, 1, 1, -6, 0, 2, -3, 0, 1),
-    Place(-1, 0, 0, -2, -2, 1, -1, -1, 0),
-    Place(-1, -1, 1, 0, -6, 2, 0, -3, 1),
-    Place(0, -1, 0, 2, -4, 1, 1, -2, 0),
-    Place(1, -2, 1, 6, -6, 2, 3, -3, 1),
-    Place(1, -1, 0, 4, -2, 1, 2, -1, 0),
-    Place(2, -1, 1, 6, 0, 2, 3, 0, 1),
-];
-
-// Row i of the tables, from degree 3 on; degree d begins at row d(d - 1). Each arm reads at a fixed index, so that nothing of a table is copied in the
-// compiled code; handed on over one number, the four are compiled to one table a column.
+// Row i of the tables, from degree 3 on.
 fn three(i: u8) -> Place
     requires { ⌜ (firstRow 3 ≤ i) × (i < firstRow 7) ⌝ }
     ensures { λ r. ⌜ r ≡ tableRow i ⌝ }
 {
-    let rows = THREE;
     match i {
-        6 => rows[0],
-        7 => rows[1],
-        8 => rows[2],
-        9 => rows[3],
-        10 => rows[4],
-        11 => rows[5],
+        6 => Place(1, 0, 0, 0, 1, 0, 0, 2, 0),
+        7 => Place(1, 1, 1, -1, 2, 1, -2, 4, 1),
+        8 => Place(-1, 1, 0, -1, 0, 0, -2, 0, 0),
+        9 => Place(-2, 1, 1, -1, -1, 1, -2, -2, 1),
+        10 => Place(0, -1, 0, 1, -1, 0, 2, -2, 0),
+        11 => Place(1, -2, 1, 2, -1, 1, 4, -2, 1),
         _ => four(i),
     }
 }
@@ -94,16 +46,15 @@ fn four(i: u8) -> Place
     requires { ⌜ (firstRow 4 ≤ i) × (i < firstRow 7) ⌝ }
     ensures { λ r. ⌜ r ≡ tableRow i ⌝ }
 {
-    let rows = FOUR;
     match i {
-        12 => rows[0],
-        13 => rows[1],
-        14 => rows[2],
-        15 => rows[3],
-        16 => rows[4],
-        17 => rows[5],
-        18 => rows[6],
-        19 => rows[7],
+        12 => Place(1, 0, 0, 0, 1, 0, 0, 2, 0),
+        13 => Place(1, 1, 1, -1, 2, 1, -2, 4, 1),
+        14 => Place(-1, 1, 0, -1, 0, 0, 0, 0, 0),
+        15 => Place(-2, 1, 1, -1, -1, 1, 0, 0, 0),
+        16 => Place(-1, -1, 1, 0, -2, 1, 0, -1, 0),
+        17 => Place(0, -3, 2, 2, -4, 2, 1, -2, 1),
+        18 => Place(1, -2, 1, 1, -1, 0, 0, 0, 0),
+        19 => Place(3, -3, 2, 2, -1, 1, 0, 0, 0),
         _ => five(i),
     }
 }
@@ -113,41 +64,39 @@ fn five(i: u8) -> Place
     requires { ⌜ (firstRow 5 ≤ i) × (i < firstRow 7) ⌝ }
     ensures { λ r. ⌜ r ≡ tableRow i ⌝ }
 {
-    let rows = FIVE;
     match i {
-        20 => rows[0],
-        21 => rows[1],
-        22 => rows[2],
-        23 => rows[3],
-        24 => rows[4],
-        25 => rows[5],
-        26 => rows[6],
-        27 => rows[7],
-        28 => rows[8],
-        29 => rows[9],
+        20 => Place(1, 0, 0, 0, 1, 0, 0, 0, 0),
+        21 => Place(1, 1, 1, -1, 2, 1, 0, 0, 0),
+        22 => Place(-1, 2, 1, -2, 2, 1, -1, 1, 0),
+        23 => Place(-3, 3, 2, -4, 2, 2, -2, 1, 1),
+        24 => Place(-2, 1, 1, -2, 0, 1, -1, 0, 0),
+        25 => Place(-3, 0, 2, -2, -2, 2, -1, -1, 1),
+        26 => Place(-1, -1, 1, 0, -2, 1, 0, -1, 0),
+        27 => Place(0, -3, 2, 2, -4, 2, 1, -2, 1),
+        28 => Place(1, -2, 1, 1, -1, 0, 0, 0, 0),
+        29 => Place(3, -3, 2, 2, -1, 1, 0, 0, 0),
         _ => six(i),
     }
 }
 
-// Row i of the last table.
+// Row i of the last table, of degree 6: each place is the one before it, turned by 60 degrees.
 fn six(i: u8) -> Place
     requires { ⌜ (firstRow 6 ≤ i) × (i < firstRow 7) ⌝ }
     ensures { λ r. ⌜ r ≡ tableRow i ⌝ }
 {
-    let rows = SIX;
     match i {
-        30 => rows[0],
-        31 => rows[1],
-        32 => rows[2],
-        33 => rows[3],
-        34 => rows[4],
-        35 => rows[5],
-        36 => rows[6],
-        37 => rows[7],
-        38 => rows[8],
-        39 => rows[9],
-        40 => rows[10],
-        _ => rows[11],
+        30 => Place(1, 0, 0, 2, 2, 1, 1, 1, 0),
+        31 => Place(1, 1, 1, 0, 6, 2, 0, 3, 1),
+        32 => Place(0, 1, 0, -2, 4, 1, -1, 2, 0),
+        33 => Place(-1, 2, 1, -6, 6, 2, -3, 3, 1),
+        34 => Place(-1, 1, 0, -4, 2, 1, -2, 1, 0),
+        35 => Place(-2, 1, 1, -6, 0, 2, -3, 0, 1),
+        36 => Place(-1, 0, 0, -2, -2, 1, -1, -1, 0),
+        37 => Place(-1, -1, 1, 0, -6, 2, 0, -3, 1),
+        38 => Place(0, -1, 0, 2, -4, 1, 1, -2, 0),
+        39 => Place(1, -2, 1, 6, -6, 2, 3, -3, 1),
+        40 => Place(1, -1, 0, 4, -2, 1, 2, -1, 0),
+        _ => Place(2, -1, 1, 6, 0, 2, 3, 0, 1),
     }
 }
 
@@ -201,23 +150,12 @@ pub fn adjacent(d: u8, k: u8, j: u8) -> Point
     point(turned(P(r.0, r.1, r.2), k))
 }
 
-// The first row of the last table, at orientation 1 where k is odd, else at orientation 0.
-fn first_place(k: u8) -> Place
-    ensures { λ r. ⌜ r ≡ tableRow (firstRow 6 + k % 2) ⌝ }
-{
-    let rows = SIX;
-    if k % 2 == 0 {
-        return rows[0];
-    }
-    rows[1]
-}
-
-// The adjacent point at place 0 of orientation k, which is the same at each degree.
+// The adjacent point at place 0 of orientation k, which is the same at each degree: [1, 0, 0], by the 30 degree rule [1, 1, 1], turned.
 pub fn foremost(k: u8) -> Point
     ensures { λ r. ⌜ r ≡ adjacentOf 6 k 0 ⌝ }
 {
-    let r = first_place(k);
-    point(turned(P(r.0, r.1, r.2), k))
+    let h = k % 2;
+    point(turned(P(1, h as i8, h), k))
 }
 
 // The first opposite of corner j.
@@ -229,17 +167,25 @@ pub fn first_opposite(d: u8, k: u8, j: u8) -> Point
     point(turned(P(r.3, r.4, r.5), k))
 }
 
+// The second opposite of corner j as the tables have it: the vertex itself where there is none.
+pub fn farther(d: u8, k: u8, j: u8) -> Point
+    requires { ⌜ (3 ≤ d) × ((d ≤ 6) × (j < d)) ⌝ }
+    ensures { λ r. ⌜ r ≡ held (secondOppositeOf d k j) ⌝ }
+{
+    let r = pattern(d, k, j);
+    point(turned(P(r.6, r.7, r.8), k))
+}
+
 // The second opposite of corner j, or none. Asked past the turns: before them, the compiler would make branches of the table.
 pub fn second_opposite(d: u8, k: u8, j: u8) -> Spot
     requires { ⌜ (3 ≤ d) × ((d ≤ 6) × (j < d)) ⌝ }
     ensures { λ r. ⌜ r ≡ secondOppositeOf d k j ⌝ }
 {
-    let r = pattern(d, k, j);
-    let p = turned(P(r.6, r.7, r.8), k);
-    if p.0 == 0 {
-        if p.1 == 0 {
+    let p = farther(d, k, j);
+    if p.a == 0 {
+        if p.b == 0 {
             return Spot::Nothing;
         }
     }
-    Spot::At(point(p))
+    Spot::At(p)
 }

@@ -63,22 +63,20 @@ pub fn turn60(p: Point) -> Point
     }
 }
 
-const POWERS: [i32; 8] = [1, 3, 9, 27, 81, 243, 729, 2187];
-
-// 3 to the k. Read at fixed indices, as the star patterns are.
+// 3 to the k.
 fn power(k: u8) -> i32
     requires { ⌜ k < 8 ⌝ }
     ensures { λ r. ⌜ r ≡ pos (3 ^ k) ⌝ }
 {
     match k {
-        0 => POWERS[0],
-        1 => POWERS[1],
-        2 => POWERS[2],
-        3 => POWERS[3],
-        4 => POWERS[4],
-        5 => POWERS[5],
-        6 => POWERS[6],
-        _ => POWERS[7],
+        0 => 1,
+        1 => 3,
+        2 => 9,
+        3 => 27,
+        4 => 81,
+        5 => 243,
+        6 => 729,
+        _ => 2187,
     }
 }
 

@@ -44,22 +44,19 @@ pub fn size(x: i32) -> u32
     if w < 0 { (-w) as u32 } else { w as u32 }
 }
 
-// The most that a numerator may be, at each depth: 251 times a power of 3.
-const RANGE: [u32; 7] = [251, 753, 2259, 6777, 20331, 60993, 182979];
-
-// The range at depth m. Read at fixed indices, as the star patterns are.
+// The most that a numerator may be at depth m: 251 times a power of 3.
 fn range(m: u8) -> u32
     requires { ⌜ m ≤ 6 ⌝ }
     ensures { λ r. ⌜ r ≡ 251 * 3 ^ m ⌝ }
 {
     match m {
-        0 => RANGE[0],
-        1 => RANGE[1],
-        2 => RANGE[2],
-        3 => RANGE[3],
-        4 => RANGE[4],
-        5 => RANGE[5],
-        _ => RANGE[6],
+        0 => 251,
+        1 => 753,
+        2 => 2259,
+        3 => 6777,
+        4 => 20331,
+        5 => 60993,
+        _ => 182979,
     }
 }
 

@@ -1,6 +1,6 @@
 -- A test of each number below n, or of one of them, as an equation of truth values: `upto` and `among` of Rules.
--- `upto-more`, `upto-fails` a loop's one step · `upto-each`, `each-upto` what it says · `among-at`, `at-among` the same of `among` ·
--- `both-left`, `both-right`, `and-false` conjunctions · `not-both`, `never` true is not false · `same-test` two tests that pass together are one.
+-- `upto-more`, `upto-fails` a loop's one step · `upto-each`, `each-upto` what it says · `among-more`, `among-at`, `at-among`, `among-none` the same of `among`
+-- · `both-left`, `both-right`, `and-false` conjunctions · `not-both`, `never` true is not false · `same-test` two tests that pass together are one.
 -- Assumes nothing.
 use mathlib.Core.Path.{_≡_, refl, sym, _∙_, ap}
 use mathlib.Core.Bool.{Bool, true, false, _&&_, _||_}
@@ -79,3 +79,11 @@ pub same-test : (a b : Bool) → (a ≡ true → b ≡ true) → (b ≡ true →
 same-test true b f g = sym (f refl)
 same-test false true f g = g refl
 same-test false false f g = refl
+
+-- none of them, and a loop's one step
+pub among-none : (P : ℕ → Bool) (n : ℕ) → ((i : ℕ) → i < n → P i ≡ false) → among n P ≡ false
+among-none P zero h = refl
+among-none P (suc n) h = let l : n < suc n = omega arith in (λ i. h n l i || among n P) ∙ among-none P n (λ i m. h i (omega arith))
+
+pub among-more : (P : ℕ → Bool) (i : ℕ) → among i P ≡ false → P i ≡ false → among (i + 1) P ≡ false
+among-more P i a b = let e : i + 1 ≡ suc i = omega arith in ap (λ (k : ℕ). among k P) e ∙ (λ z. b z || a z)

@@ -2,7 +2,7 @@
 -- `same e f (omega arith)` the values of e and f are equal · `told-≡` what such a fact says of the parts.
 -- Assumes nothing.
 use mathlib.Core.Path.{_≡_, refl, sym, _∙_, ap}
-use Prim.Native.Nat.{ℕ, _+_, _*_, _-_}
+use Prim.Native.Nat.{ℕ, _+_, _*_}
 use native.Mathlib.Omega.{arith}
 use lib.IntN.{ℤ, negℤ, pos, _+ℤ_, _*ℤ_, _-ℤ_}
 use native.Mathlib.Nat.{mul-add}

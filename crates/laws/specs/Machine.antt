@@ -10,12 +10,12 @@ use Prim.Native.Nat.{ℕ, _+_, _*_, _≤_, _<_, _^_}
 use native.Mathlib.Omega.{arith}
 use lib.Dec.{ltb, T, ltb→lt}
 use lib.IntN.{ℤ, pos, negsuc, _+ℤ_, _*ℤ_, natAbs, _-ℤ_}
-use lib.Signed.{quotZ, leZ, remZ, ltZ, nonNeg}
+use lib.Signed.{quotZ, remZ, ltZ, nonNeg}
 use native.Mathlib.Nat.{le-trans, lt-of-le-of-lt, mul-le-mul, add-le-add, div-le-self, mod-le}
 use mir.Val.{SFits, toZ, ofZ, hbits, Fits, bits}
 use mir.ValLaws.{toZ-ofZ, toZ-pos}
 use mir.Syntax.{Width}
-use Rattle.laws.specs.Parts.{lt-true, le-true, lt-false, le-false, up, dn}
+use Rattle.laws.specs.Parts.{lt-true, lt-false, up, dn}
 use Rattle.laws.specs.Sizes.{abs-add, abs-sub, fits, fits-size, abs-times, abs-quot, abs-rem, fits-quot, fits-rem}
 use Rattle.laws.specs.Bools.{and-left, and-right}
 
@@ -204,15 +204,6 @@ module _ {w : Width} (e f : Mx w) (t : T (fine e)) (u : T (fine f)) where
 
   pub lt-left : ltZ (toZ w (run e)) (toZ w (run f)) ≡ false → up (ideal f) + dn (ideal e) ≤ up (ideal e) + dn (ideal f)
   lt-left h = lt-false (ideal e) (ideal f) (sym (λ i. ltZ (back e t i) (back f u i)) ∙ h)
-
-  pub le-taken : leZ (toZ w (run e)) (toZ w (run f)) ≡ true → up (ideal e) + dn (ideal f) ≤ up (ideal f) + dn (ideal e)
-  le-taken h = le-true (ideal e) (ideal f) (sym (λ i. leZ (back e t i) (back f u i)) ∙ h)
-
-  pub le-left : leZ (toZ w (run e)) (toZ w (run f)) ≡ false → up (ideal f) + dn (ideal e) < up (ideal e) + dn (ideal f)
-  le-left h = le-false (ideal e) (ideal f) (sym (λ i. leZ (back e t i) (back f u i)) ∙ h)
-
-  pub eq-taken : run e ≡ run f → ideal e ≡ ideal f
-  eq-taken h = sym (back e t) ∙ ap (toZ w) h ∙ back f u
 
 -- what a callee answers on a signed parameter that is handed on: f of the parameter itself
 pub asked : {w : Width} {X : Type 0} {x : ℤ} {r : X} (f : ℤ → X) → SFits w x → r ≡ f (toZ w (ofZ w x)) → f x ≡ r

@@ -3,15 +3,15 @@
 -- `apart` one part is 0 · `abs-is`, `mag-is` sizes · `eqℤ`, `up-dn-eq` two numbers are equal by their parts ·
 -- `add-is`, `minus-is`, `up-neg`, `dn-neg`, `up-mul`, `dn-mul`,
 -- `up-times`, `dn-times`, `up-quot`, `dn-quot` the operations (a quotient goes part by part, since it rounds toward zero) ·
--- `of-≤`, `of-<`, `to-≤`, `to-<` the order · `lt-true`, `lt-false`, `le-true`, `le-false` what a flag says.
+-- `lt-true`, `lt-false` what a flag says.
 -- Assumes nothing.
 use mathlib.Core.Path.{_≡_, refl, sym, _∙_, subst, ap}
 use mathlib.Core.Bool.{Bool, true, false, cond, not}
 use Prim.Native.Nat.{ℕ, zero, suc, _+_, _*_, _/_, _≤_, _<_, _-_}
 use native.Mathlib.Omega.{arith}
-use lib.Dec.{ltb, T, ltb→lt, leb→le, nltb→le, lt→ltb, le→leb, nleb→lt}
+use lib.Dec.{ltb, T, ltb→lt, nltb→le}
 use lib.IntN.{ℤ, negℤ, pos, negsuc, _+ℤ_, _*ℤ_, subℕ, natAbs, _-ℤ_}
-use lib.Signed.{mag, quotZ, leZ, ltZ, _≤ℤ_, _<ℤ_}
+use lib.Signed.{mag, quotZ, ltZ}
 use native.Mathlib.Nat.{zero-mul, zero-div, mul-zero}
 
 abbrev pub up : ℤ → ℕ
@@ -105,48 +105,15 @@ dn-quot (pos a) k = sym (zero-div k)
 dn-quot (negsuc a) k = dn-negpos (suc a / k)
 
 -- ---- the order
-le-parts : (x y : ℤ) → T (leZ x y) → up x + dn y ≤ up y + dn x
-le-parts (pos a) (pos b) t = let h : a ≤ b = leb→le a b t in omega arith
-le-parts (pos a) (negsuc b) t = absurd t
-le-parts (negsuc a) (pos b) t = omega arith
-le-parts (negsuc a) (negsuc b) t = let h : b ≤ a = leb→le b a t in omega arith
-
 lt-parts : (x y : ℤ) → T (ltZ x y) → up x + dn y < up y + dn x
 lt-parts (pos a) (pos b) t = let h : a < b = ltb→lt a b t in omega arith
 lt-parts (pos a) (negsuc b) t = absurd t
 lt-parts (negsuc a) (pos b) t = omega arith
 lt-parts (negsuc a) (negsuc b) t = let h : b < a = ltb→lt b a t in omega arith
 
-parts-le : (x y : ℤ) → up x + dn y ≤ up y + dn x → T (leZ x y)
-parts-le (pos a) (pos b) h = le→leb a b (omega arith)
-parts-le (pos a) (negsuc b) h = omega arith
-parts-le (negsuc a) (pos b) h = tt
-parts-le (negsuc a) (negsuc b) h = le→leb b a (omega arith)
-
-parts-lt : (x y : ℤ) → up x + dn y < up y + dn x → T (ltZ x y)
-parts-lt (pos a) (pos b) h = lt→ltb a b (omega arith)
-parts-lt (pos a) (negsuc b) h = omega arith
-parts-lt (negsuc a) (pos b) h = tt
-parts-lt (negsuc a) (negsuc b) h = lt→ltb b a (omega arith)
-
-pub of-≤ : {x y : ℤ} → x ≤ℤ y → up x + dn y ≤ up y + dn x
-of-≤ {x} {y} h = le-parts x y (h .le)
-
-pub of-< : {x y : ℤ} → x <ℤ y → up x + dn y < up y + dn x
-of-< {x} {y} h = lt-parts x y (h .lt)
-
-pub to-≤ : (x y : ℤ) → up x + dn y ≤ up y + dn x → x ≤ℤ y
-to-≤ x y h = record { le = parts-le x y h }
-
-pub to-< : (x y : ℤ) → up x + dn y < up y + dn x → x <ℤ y
-to-< x y h = record { lt = parts-lt x y h }
-
--- what a branch on `x < y`, `x <= y` tells: the equation of the flag
+-- what a branch on `x < y` tells: the equation of the flag
 pub lt-true : (x y : ℤ) → ltZ x y ≡ true → up x + dn y < up y + dn x
 lt-true x y e = lt-parts x y (subst T (sym e) tt)
-
-pub le-true : (x y : ℤ) → leZ x y ≡ true → up x + dn y ≤ up y + dn x
-le-true x y e = le-parts x y (subst T (sym e) tt)
 
 nlt-parts : (x y : ℤ) → T (not (ltZ x y)) → up y + dn x ≤ up x + dn y
 nlt-parts (pos a) (pos b) t = let h : b ≤ a = nltb→le a b t in omega arith
@@ -154,14 +121,5 @@ nlt-parts (pos a) (negsuc b) t = omega arith
 nlt-parts (negsuc a) (pos b) t = absurd t
 nlt-parts (negsuc a) (negsuc b) t = let h : a ≤ b = nltb→le b a t in omega arith
 
-nle-parts : (x y : ℤ) → T (not (leZ x y)) → up y + dn x < up x + dn y
-nle-parts (pos a) (pos b) t = let h : b < a = nleb→lt a b t in omega arith
-nle-parts (pos a) (negsuc b) t = omega arith
-nle-parts (negsuc a) (pos b) t = absurd t
-nle-parts (negsuc a) (negsuc b) t = let h : a < b = nleb→lt b a t in omega arith
-
 pub lt-false : (x y : ℤ) → ltZ x y ≡ false → up y + dn x ≤ up x + dn y
 lt-false x y e = nlt-parts x y (subst (λ (b : Bool). T (not b)) (sym e) tt)
-
-pub le-false : (x y : ℤ) → leZ x y ≡ false → up y + dn x < up x + dn y
-le-false x y e = nle-parts x y (subst (λ (b : Bool). T (not b)) (sym e) tt)

@@ -1,5 +1,5 @@
 -- Remainders of whole numbers on division by 3 and by 9 (`modZ`, never negative), for sums and multiples.
--- `three-add`, `three-minus`, `nine-add` sums · `zero-three` a remainder 0 is what normalising asks · `three-power`, `nine-thrice` multiples.
+-- `three-minus`, `nine-add` sums · `zero-three` a remainder 0 is what normalising asks · `three-power`, `nine-thrice` multiples.
 -- Assumes nothing.
 use mathlib.Core.Path.{_≡_, sym, _∙_, ap}
 use Prim.Native.Nat.{ℕ, suc, _+_, _*_, _%_, _/_, _<_, _-_, _^_}
@@ -43,14 +43,6 @@ split3² x y = sym (drop3 (x + 2 * y) (x % 3 + 2 * (y % 3)) (x / 3 + 2 * (y / 3)
 
 split9 : (x y : ℕ) → (x % 9 + y % 9) % 9 ≡ (x + y) % 9
 split9 x y = omega arith
-
-pub three-add : (x y : ℤ) → modZ (x +ℤ y) 3 ≡ (modZ x 3 + modZ y 3) % 3
-three-add x y =
-    three-is (x +ℤ y) ∙ parts (up (x +ℤ y)) (dn (x +ℤ y)) (up x) (dn x) (up y) (dn y) (add-is x y) ∙ sym (split3 (up x + 2 * dn x) (up y + 2 * dn y))
-    ∙ (λ i. (sym (three-is x) i + sym (three-is y) i) % 3)
-  where
-    parts : (s t a b c d : ℕ) → s + (b + d) ≡ a + c + t → (s + 2 * t) % 3 ≡ (a + 2 * b + (c + 2 * d)) % 3
-    parts s t a b c d h = omega arith
 
 pub three-minus : (x y : ℤ) → modZ (x -ℤ y) 3 ≡ (modZ x 3 + 2 * modZ y 3) % 3
 three-minus x y =

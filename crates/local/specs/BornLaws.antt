@@ -11,7 +11,7 @@ use native.Mathlib.Nat.{mul-one}
 use lib.IntN.{natAbs}
 use borrow.Author.Tests.{eq-eqb, ne-eqb, leb-true}
 use Rattle.laws.specs.Each.{both-left, both-right}
-use Rattle.lattice.specs.Bounds.{Small, small-range, small-wide, small-high}
+use Rattle.lattice.specs.Bounds.{Small, small-range, small-wide, small-high, summable}
 use Rattle.lattice.specs.Points.{isNormal, classOf}
 use Rattle.lattice.specs.Ranks.{rankOf, birthOf, moveOf, parentOf}
 use Rattle.lattice.specs.Records.{within, suitsOf, validOf}
@@ -48,13 +48,13 @@ module _ (r : Record) (h : validOf r ≡ true) where
   valid-born l = record { small = valid-small; depth = valid-depth; rank = l }
 
 -- the numerators of a point that can be stepped from
-pub small-size : (p : Point) → Small p → (natAbs (p .a) ≤ 1000000000) × (natAbs (p .b) ≤ 1000000000)
+pub small-size : (p : Point) → Small p → (natAbs (p .a) ≤ summable) × (natAbs (p .b) ≤ summable)
 small-size p s = (plain (natAbs (p .a)) (small-wide p 0 (lit≤ tt) s), plain (natAbs (p .b)) (small-high p 0 (lit≤ tt) s))
   where
-    plain : (n : ℕ) → n * 3 ^ (0 - p .m .0) ≤ 1000000000 → n ≤ 1000000000
+    plain : (n : ℕ) → n * 3 ^ (0 - p .m .0) ≤ summable → n ≤ summable
     plain n h =
         let z : 0 - p .m .0 ≡ 0 = omega arith in
-        subst (λ (k : ℕ). k ≤ 1000000000) (ap (λ (k : ℕ). n * 3 ^ k) z ∙ mul-one n) h
+        subst (λ (k : ℕ). k ≤ summable) (ap (λ (k : ℕ). n * 3 ^ k) z ∙ mul-one n) h
 
 -- ---- ranks by depth
 pub rank-least : (p : Point) → 0 < p .m .0 → 2 * p .m .0 ≤ rankOf p

@@ -2,6 +2,7 @@
 ghost use mathlib.Core.Path.{_≡_};
 ghost use Prim.Native.Nat.{_≤_, _<_};
 ghost use lib.IntN.{natAbs};
+ghost use Rattle.lattice.specs.Bounds.{summable};
 ghost use Rattle.lattice.specs.Ranks.{rankOf};
 ghost use Rattle.table.specs.Slots.{Table};
 ghost use Rattle.local.specs.Steps.{stepEnd};
@@ -60,7 +61,7 @@ pub fn parents_of(t: &[u8], p: Point, n: usize) -> Parents
 // What the step from [a, b, m] in direction e ends at.
 fn deep_parent(t: &[u8], a: i32, b: i32, m: u8, e: u8, n: usize) -> u32
     requires { ⌜ Table (now t) n ⌝ }
-    requires { ⌜ (natAbs a ≤ 1000000000) × (natAbs b ≤ 1000000000) ⌝ }
+    requires { ⌜ (natAbs a ≤ summable) × (natAbs b ≤ summable) ⌝ }
     requires { ⌜ (0 < m) × (e < 12) ⌝ }
     ensures { λ r. ⌜ r ≡ standAt (now (t .entry)) (stepEnd a b m e) ⌝ }
 {

@@ -4,6 +4,7 @@ ghost use mathlib.Core.Bool.{cond};
 ghost use Prim.Native.Nat.{_≤_, _<_};
 ghost use lib.IntN.{pos, natAbs};
 ghost use lib.Signed.{quotZ};
+ghost use Rattle.lattice.specs.Bounds.{summable};
 ghost use Rattle.lattice.specs.Points.{by3, normalOf};
 ghost use Rattle.local.specs.Steps.{wayOf, stepEnd};
 use crate::lookups::bit;
@@ -56,7 +57,7 @@ fn lowest(x: i32, y: i32, m: u8) -> Point
 
 // Where the step from [a, b, m] in direction e ends.
 pub fn stepped(a: i32, b: i32, m: u8, e: u8) -> Point
-    requires { ⌜ (natAbs a ≤ 1000000000) × (natAbs b ≤ 1000000000) ⌝ }
+    requires { ⌜ (natAbs a ≤ summable) × (natAbs b ≤ summable) ⌝ }
     requires { ⌜ (0 < m) × (e < 12) ⌝ }
     ensures { λ r. ⌜ r ≡ stepEnd a b m e ⌝ }
 {

@@ -4,7 +4,7 @@
 -- `marked-none` bytes of 0 mark nothing.
 -- Assumes nothing.
 use mathlib.Core.Path.{_≡_, refl, sym, ap, _∙_, subst}
-use mathlib.Core.Bool.{Bool, true, false, cond, _||_}
+use mathlib.Core.Bool.{Bool, true, false, cond, _||_, or-assoc}
 use mathlib.Core.List.{List, [], _∷_}
 use Prim.Native.Nat.{ℕ, zero, suc, _+_, _/_, _%_, _^_, _<_}
 use native.Mathlib.Omega.{arith}
@@ -37,16 +37,12 @@ marks-false m P h = record { long = refl; reads = λ j. sym (ap (λ (b : Bool). 
 pub marks-same : (m u : List ℕ) (P Q : ℕ → Bool) → ((i : ℕ) → P i ≡ Q i) → Marks m P u → Marks m Q u
 marks-same m u P Q h w = record { long = w .long; reads = λ j. w .reads j ∙ ap (λ (b : Bool). b || markedAt m j) (h j) }
 
-or-assoc : (a b c : Bool) → a || (b || c) ≡ (a || b) || c
-or-assoc true b c = refl
-or-assoc false b c = refl
-
 -- one number more
 pub marks-more : (m u w : List ℕ) (P : ℕ → ℕ → Bool) (k : ℕ) → Marks m (λ i. among k (λ j. P j i)) u → Marks u (P k) w
     → Marks m (λ i. among (k + 1) (λ j. P j i)) w
 marks-more m u w P k a b = record {
   long = b .long ∙ a .long;
-  reads = λ i. b .reads i ∙ ap (λ (x : Bool). P k i || x) (a .reads i) ∙ or-assoc (P k i) (among k (λ j. P j i)) (markedAt m i)
+  reads = λ i. b .reads i ∙ ap (λ (x : Bool). P k i || x) (a .reads i) ∙ sym (or-assoc (P k i) (among k (λ j. P j i)) (markedAt m i))
       ∙ ap (λ (n : ℕ). among n (λ j. P j i) || markedAt m i) next;
 }
   where

@@ -7,18 +7,18 @@
 -- writes.
 -- Assumes nothing.
 use mathlib.Core.Path.{_≡_, refl, sym, _∙_, ap, subst}
-use mathlib.Core.Bool.{Bool, true, false, cond, _&&_}
+use mathlib.Core.Bool.{true, false, _&&_}
 use mathlib.Core.List.{List}
-use Prim.Native.Nat.{ℕ, suc, _+_, _%_, _≤_, _<_, zero}
+use Prim.Native.Nat.{ℕ, suc, _+_, _≤_, _<_, zero}
 use native.Mathlib.Omega.{arith}
 use native.Mathlib.Decide.{ℕ-discrete}
 use lib.Dec.{eqb, T}
 use Rattle.laws.specs.Each.{not-both, and-false}
 use Rattle.lattice.specs.Stars.{adjacentAt}
-use Rattle.lattice.specs.Subdivision.{centreOf, newOf, backOf, fourTurn, updateOf, acceptsOf}
+use Rattle.lattice.specs.Subdivision.{centreOf, newOf, backOf, updateOf, acceptsOf}
 use Rattle.geometry.specs.GeometryLaws.{star-distinct}
 use Rattle.lattice.specs.Records.{validOf}
-use Rattle.geometry.specs.SubdivisionLaws.{Sited, sited, centre-valid, update-valid, new-valid}
+use Rattle.geometry.specs.SubdivisionLaws.{Sited, sited, centre-valid, update-valid, new-valid, update-at}
 use Rattle.table.specs.Entries.{lookUp, replaceOf, enterOf}
 use Rattle.table.specs.MapLaws.{room, lookup-point, lookup-valid, replace-order, replace-finds, replace-keeps, replace-free, enter-order, enter-finds}
 use Rattle.table.specs.MapLaws.{enter-keeps, enter-free, replace-find}
@@ -47,20 +47,6 @@ pub record Intact (t : List ℕ) (v : Record) : Type 0 where
   pub room : 6 ≤ freeSlots t
 
 -- ---- records
-pub update-at : (k′ : ℕ) (u : Record) → updateOf k′ u .at ≡ u .at
-unfolding updateOf
-update-at k′ u = go (eqb (u .d) 3) (eqb (u .d) 4) (eqb (u .d) 5)
-  where
-    go : (a b c : Bool) →
-        cond a (record { at = u .at; d = 4; k = (k′ + 4) % 12; n = u .n })
-        (cond b (record { at = u .at; d = 5; k = fourTurn k′ (u .k); n = u .n })
-        (cond c (record { at = u .at; d = 6; k = (k′ + 1) % 2; n = record { 0 = u .n .0 + 1 } })
-        u)) .at ≡ u .at
-    go true b c = refl
-    go false true c = refl
-    go false false true = refl
-    go false false false = refl
-
 -- no rule takes a vertex of degree 6 on
 six-torn : (k′ n : ℕ) (u : Record) → u .d ≡ 6 → acceptsOf k′ n u ≡ true → ⊥
 unfolding acceptsOf

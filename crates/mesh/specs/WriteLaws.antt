@@ -8,6 +8,7 @@ use mathlib.Core.List.{List}
 use Prim.Native.Nat.{ℕ, zero, suc, _+_, _≤_, _<_}
 use native.Mathlib.Omega.{arith}
 use lib.ListN.{length, getD}
+use Rattle.geometry.specs.SubdivisionLaws.{update-at}
 use Rattle.laws.specs.Choices.{of-true}
 use Rattle.lattice.specs.Stars.{adjacentAt}
 use Rattle.lattice.specs.Subdivision.{centreOf, bornOf, backOf, updateOf}
@@ -25,7 +26,7 @@ use Rattle.table.specs.declared.slots.Slot.{Slot}
 use Rattle.table.specs.declared.entries.Looked.{Looked}
 use Rattle.table.specs.declared.entries.Looked.the-variants.{Absent, Held}
 use Rattle.table.specs.declared.slots.Slot.the-variants.{Free, Holds}
-use Rattle.mesh.specs.SubdivideLaws.{Ready, Intact, update-at, centre-good, renewed}
+use Rattle.mesh.specs.SubdivideLaws.{Ready, Intact, centre-good, renewed}
 use Rattle.mesh.specs.Met.{OldIn, StoppedAt, ComeTo}
 use Rattle.mesh.specs.Subdivide.{renewAt, renewOf, renewedTo, enteredTo, subdivided}
 use Rattle.table.specs.declared.probe.Found.the-variants as found

@@ -4,16 +4,15 @@
 -- `Four` a face whose vertices all stand in the table, `corner-four`, `fresh-four`.
 -- Assumes nothing.
 use mathlib.Core.Path.{_≡_, refl, sym, ap, _∙_, subst}
-use mathlib.Core.Logic.{_⊎_, inl, inr}
 use mathlib.Core.Bool.{Bool, true, false, cond, not, _&&_, _||_, or-false, or-true}
-use mathlib.Core.List.{List, [], _∷_, _++_, append-assoc, append-nil, List·Memᴰ}
+use mathlib.Core.List.{List, [], _∷_, _++_, append-assoc, append-nil}
 use Prim.Native.Nat.{ℕ, zero, suc, _+_, _≤_, _<_}
 use native.Mathlib.Omega.{arith}
 use native.Mathlib.Decide.{decLt}
 use lib.ListN.{length, length-append}
-use Rattle.laws.specs.Each.{not-both, never, both-left, both-right, upto-each}
-use Rattle.laws.specs.Rules.{among, upto}
-use Rattle.laws.specs.Some.{someOf, some-append, at-some, none-at}
+use Rattle.laws.specs.Each.{never, both-left, upto-each, among-none}
+use Rattle.laws.specs.Rules.{upto}
+use Rattle.laws.specs.Some.{someOf, some-append, none-at}
 use Rattle.lattice.specs.Stars.{adjacentAt, firstAt, secondAt}
 use Rattle.lattice.specs.declared.points.Point.{Point}
 use Rattle.lattice.specs.declared.records.Record.{Record}
@@ -21,11 +20,10 @@ use Rattle.lattice.specs.declared.patterns.Spot.{Spot}
 use Rattle.lattice.specs.declared.patterns.Spot.the-variants.{At, Nothing}
 use Rattle.table.specs.Slots.{slotsOf, slotAt}
 use Rattle.table.specs.Order.{InOrder}
-use Rattle.table.specs.Entries.{lookUp, holds, isHeld, listed, recordsBelow, recordsOf}
+use Rattle.table.specs.Entries.{holds, isHeld, listed, recordsBelow, recordsOf}
 use Rattle.table.specs.MapLaws.{slot-looked, looked-records, records-none, records-more}
 use Rattle.table.specs.declared.slots.Slot.{Slot}
 use Rattle.table.specs.declared.slots.Slot.the-variants.{Free, Holds}
-use Rattle.table.specs.declared.entries.Looked.{Looked}
 use Rattle.queries.specs.Queries.{adjacentsThere, there, chosenAt, isPoint, cornersThere}
 use Rattle.counts.specs.Counts.{gather, each, nextPlace, faceWith, facesAt, sameFace}
 use Rattle.counts.specs.Earlier.{faceBefore, faceOn}
@@ -143,9 +141,6 @@ module _ {A : Type 0} (same : A → A → Bool) where
       once-append seen (gather d g) (g d) ∙ (λ i. once-star seen g c d (λ j l. h j (omega arith)) i ++ h d (omega arith) i)
 
 -- no place below n passes
-none-among : (P : ℕ → Bool) (n : ℕ) → ((i : ℕ) → i < n → P i ≡ false) → among n P ≡ false
-none-among P zero h = refl
-none-among P (suc n) h = (λ i. h n (omega arith) i || among n P) ∙ none-among P n (λ i l. h i (omega arith))
 
 each-none : (g : Record → List Face) → each g [] ≡ []
 unfolding each
@@ -178,7 +173,7 @@ module _ (t : List ℕ) (o : InOrder t) where
           some-append (sameFace f) (before k) (gather j (place v))
           ∙ (λ i.
           face-before t o k v l here f refl i
-          || (some-gather (sameFace f) j (place v) ∙ none-among (λ i. someOf (sameFace f) (place v i)) j (λ i h. corner-apart t o k v l here i j h m p e)) i)
+          || (some-gather (sameFace f) j (place v) ∙ among-none (λ i. someOf (sameFace f) (place v i)) j (λ i h. corner-apart t o k v l here i j h m p e)) i)
           ∙ or-false (faceBefore t k f)
 
       go : (j : ℕ) → j < v .d → (s : Spot) → chosenAt t v j ≡ s → onceAfter sameFace (before k ++ gather j (place v)) (faceWith v j s) ≡ freshWith t k v j s

@@ -6,6 +6,7 @@ pub mod Many
 pub mod Asked
 -- their laws
 pub mod QueryLaws
+pub mod OppositeLaws
 pub mod ManyLaws
 -- examples that compute
 pub mod Examples

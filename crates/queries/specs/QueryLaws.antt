@@ -1,22 +1,21 @@
 -- The laws of the queries. For the reader: `neighbours-spelling`, `faces-spelling` two spellings of one point get the same answer.
 -- For the code and the floors above: `query-refused`, `query-looked`, `neighbours-looked` a query is what follows the search for its vertex ·
 -- `vertex-asked`, `asked-inner` what is known of a vertex that it finds, `slot-answer` the answer by its slot · `neighbours-whole`, `neighbours-torn` ·
--- `chosen-first`, `chosen-second` the opposite of a corner · `hasOpposite`,
--- `opposite`, `faces-row` the row of the faces, `faces-torn`, `faces-cornered` the ways to an answer, `answer-torn` whichever was asked · `when-true`.
+-- `chosen-first`, `chosen-second` the opposite of a corner · `faces-torn`, `faces-cornered` the ways to an answer, `answer-torn` whichever was asked ·
+-- `when-true`. The row of the faces: OppositeLaws.
 -- Assumes nothing.
-use mathlib.Core.Path.{_≡_, refl, sym, ap, _∙_}
+use mathlib.Core.Path.{_≡_, sym, ap, _∙_}
 use mathlib.Core.Bool.{Bool, true, false, cond, _&&_}
 use mathlib.Core.List.{List}
 use Prim.Native.Nat.{ℕ, _<_}
 use native.Mathlib.Decide.{decLt}
 use native.Mathlib.Omega.{arith}
 use borrow.Author.Tests.{le-ltb, lt-ltb}
-use lib.Dec.{ltb}
 use lib.IntN.{ℤ}
 use Rattle.laws.specs.Choices.{unless, of-true}
 use Rattle.lattice.specs.Points.{normalOf}
 use Rattle.lattice.specs.RecordLaws.{Inner, inner}
-use Rattle.lattice.specs.Stars.{adjacentAt, cellOf, firstAt, secondAt, nowhere, answer, refused, given}
+use Rattle.lattice.specs.Stars.{firstAt, secondAt, refused, given}
 use Rattle.lattice.specs.declared.points.Point.{Point}
 use Rattle.lattice.specs.declared.records.Record.{Record}
 use Rattle.lattice.specs.declared.stars.Answer.{Answer}
@@ -32,13 +31,11 @@ use Rattle.table.specs.declared.slots.Slot.{Slot}
 use Rattle.table.specs.declared.slots.Slot.the-variants.{Free, Holds}
 use Rattle.table.specs.declared.entries.Looked.{Looked}
 use Rattle.table.specs.declared.entries.Looked.the-variants.{Held}
-use Rattle.queries.specs.Queries.{adjacentsThere, there, chosenAt, isPoint, cornersThere, pointOr0, faceCell, facesGiven, neighboursAt, facesAt}
+use Rattle.queries.specs.Queries.{adjacentsThere, there, chosenAt, cornersThere, facesGiven, neighboursAt, facesAt}
 use Rattle.queries.specs.Queries.{queryLooked, queryOf, neighboursOf, facesOf}
 use Rattle.queries.specs.Asked.{Asked, answerAt, slotAnswer, whenTrue}
 use Rattle.queries.specs.declared.answers.Query.{Query}
 use Rattle.queries.specs.declared.answers.Query.the-variants.{Neighbours, Faces}
-use Rattle.lattice.specs.AnswerRows.{answerNumbers}
-use Rattle.lattice.specs.AnswerRowLaws.{sixNumbers, mixed}
 
 -- "Every point in a request is normalised before it is looked up": two spellings of one point get the same answer
 module _ (t : List ℕ) (a b a′ b′ : ℤ) (m m′ : ℕ) (same : normalOf a b m ≡ normalOf a′ b′ m′) where
@@ -119,24 +116,6 @@ module _ (t : List ℕ) (v : Record) (j : ℕ) where
 -- ---- the faces
 
 module _ (t : List ℕ) (v : Record) where
-  -- corner j has an opposite in the table, and which
-  abbrev pub hasOpposite : ℕ → Bool
-  hasOpposite j = isPoint (chosenAt t v j)
-
-  abbrev pub opposite : ℕ → Point
-  opposite j = pointOr0 (chosenAt t v j)
-
-  -- the opposites in the places of the adjacent points
-  pub faces-row : sixNumbers (v .d) (mixed opposite (cellOf v) (v .d)) ≡ answerNumbers (facesGiven t v)
-  faces-row = λ k. answerNumbers (answer 0 (v .d) (at 0 k) (at 1 k) (at 2 k) (at 3 k) (at 4 k) (at 5 k))
-    where
-      once : (b : Bool) (p q : Point) → cond b p (cond b q nowhere) ≡ cond b p nowhere
-      once true p q = refl
-      once false p q = refl
-
-      at : (i : ℕ) → mixed opposite (cellOf v) (v .d) i ≡ faceCell t v i
-      at i = once (ltb i (v .d)) (opposite i) (adjacentAt v i)
-
   pub faces-torn : adjacentsThere t v ≡ false → refused 7 ≡ facesAt t v
   faces-torn h = ap (λ (b : Bool). unless (b && cornersThere t v) (refused 7) (facesGiven t v)) (sym h)
 

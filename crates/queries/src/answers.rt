@@ -10,6 +10,7 @@ ghost use Rattle.queries.specs.Asked.{Asked, answerAt, slotAnswer, whenT
 ghost use Rattle.lattice.specs.AnswerRows.{answerNumbers};
 use crate::opposites::adjacents_there;
 use crate::opposites::chosen;
+use crate::opposites::opposite_by;
 use lattice::ANSWER_NUMBERS;
 use lattice::BOUNDARY;
 use lattice::DONE;
@@ -19,7 +20,9 @@ use lattice::Record;
 use lattice::Spot;
 use lattice::TORN;
 use lattice::added;
+use lattice::far_arm;
 use lattice::first_arm;
+use lattice::near_arm;
 use lattice::next_arm;
 use lattice::put_point;
 use lattice::refuse_row;
@@ -74,8 +77,31 @@ fn star_there(t: &[u8], v: Record, n: usize, out: &mut [i32; ANSWER_NUMBERS]) ->
     adjacents_there(t, out, v, n)
 }
 
-// Puts the chosen opposite of each corner in the place of the adjacent point before it, up to the first corner with none.
-fn put_opposites(t: &[u8], v: Record, n: usize, out: &mut [i32; ANSWER_NUMBERS]) -> bool
+// Puts the chosen opposite of each corner of a regular star, up to the first corner with none.
+fn put_regular_opposites(t: &[u8], v: Record, n: usize, out: &mut [i32; ANSWER_NUMBERS]) -> bool
+    requires { ⌜ Asked (now t) n v ⌝ }
+    requires { ⌜ regularOf (v .d) ≡ true ⌝ }
+    requires { ⌜ now out ≡ answerNumbers (given v) ⌝ }
+    ensures { λ r. ⌜ r ≡ cornersThere (now (t .entry)) v ⌝ }
+    ensures { λ r. ⌜ whenTrue r (now (out .exit) ≡ answerNumbers (facesGiven (now (t .entry)) v)) ⌝ }
+{
+    let mut near = near_arm(v);
+    let mut far = far_arm(v);
+    let mut j: u8 = 0;
+    while j < v.d {
+        match opposite_by(t, near, far, n) {
+            Spot::At(p) => put_point(out, 3 * (j as usize) + 1, p),
+            Spot::Nothing => return false,
+        }
+        near = next_arm(near, v.d);
+        far = next_arm(far, v.d);
+        j += 1;
+    }
+    true
+}
+
+// Puts the chosen opposite of each corner of any star, up to the first corner with none.
+fn put_each_opposite(t: &[u8], v: Record, n: usize, out: &mut [i32; ANSWER_NUMBERS]) -> bool
     requires { ⌜ Asked (now t) n v ⌝ }
     requires { ⌜ now out ≡ answerNumbers (given v) ⌝ }
     ensures { λ r. ⌜ r ≡ cornersThere (now (t .entry)) v ⌝ }
@@ -91,6 +117,19 @@ fn put_opposites(t: &[u8], v: Record, n: usize, out: &mut [i32; ANSWER_NUMBERS])
         j += 1;
     }
     true
+}
+
+// Puts the chosen opposites in the places of the adjacent points, if each corner has one.
+fn put_opposites(t: &[u8], v: Record, n: usize, out: &mut [i32; ANSWER_NUMBERS]) -> bool
+    requires { ⌜ Asked (now t) n v ⌝ }
+    requires { ⌜ now out ≡ answerNumbers (given v) ⌝ }
+    ensures { λ r. ⌜ r ≡ cornersThere (now (t .entry)) v ⌝ }
+    ensures { λ r. ⌜ whenTrue r (now (out .exit) ≡ answerNumbers (facesGiven (now (t .entry)) v)) ⌝ }
+{
+    if regular(v.d) {
+        return put_regular_opposites(t, v, n, out);
+    }
+    put_each_opposite(t, v, n, out)
 }
 
 // What a vertex that has a star is answered: its star, if each adjacent point is in the table; asked for its faces, the chosen opposites in its

@@ -4,11 +4,15 @@ ghost use Prim.Native.Nat.{_<_};
 ghost use Rattle.lattice.specs.RecordLaws.{Inner};
 ghost use Rattle.lattice.specs.Stars.{given};
 ghost use Rattle.table.specs.Slots.{Table};
+ghost use Rattle.lattice.specs.Terms.{Light};
+ghost use Rattle.queries.specs.Asked.{chosenBy};
 ghost use Rattle.queries.specs.Queries.{adjacentsThere, there, chosenAt};
 ghost use Rattle.lattice.specs.AnswerRows.{answerNumbers};
 use lattice::ANSWER_NUMBERS;
 use lattice::Record;
 use lattice::Spot;
+use lattice::Terms;
+use lattice::added;
 use lattice::first_of;
 use lattice::point_at;
 use lattice::second_of;
@@ -61,4 +65,17 @@ pub fn chosen(t: &[u8], v: Record, j: u8, n: usize) -> Spot
         return Spot::At(first);
     }
     kept(t, second_of(v, j), n)
+}
+
+// The same by the arms to the two, each added up only where it is asked for.
+pub fn opposite_by(t: &[u8], near: Terms, far: Terms, n: usize) -> Spot
+    requires { ⌜ Table (now t) n ⌝ }
+    requires { ⌜ Light near × Light far ⌝ }
+    ensures { λ r. ⌜ r ≡ chosenBy (now (t .entry)) near far ⌝ }
+{
+    let p = added(near);
+    if is_there(t, p, n) {
+        return Spot::At(p);
+    }
+    kept(t, Spot::At(added(far)), n)
 }

@@ -6,9 +6,9 @@
 -- Assumes nothing.
 use mathlib.Core.Path.{_≡_, refl, sym, ap, _∙_}
 use mathlib.Core.Logic.{_⊎_, inl, inr}
-use mathlib.Core.Bool.{Bool, true, false, _&&_, _||_}
+use mathlib.Core.Bool.{Bool, true, false, _&&_}
 use mathlib.Core.List.{List, List·Memᴰ}
-use Prim.Native.Nat.{ℕ, suc, _+_, _<_}
+use Prim.Native.Nat.{ℕ, _<_}
 use native.Mathlib.Omega.{arith}
 use borrow.Author.Tests.{eq-eqb, eqb-true, ne-eqb}
 use lib.Dec.{eqb}
@@ -48,9 +48,6 @@ abbrev pub tableKeeps : List ℕ → ℕ → Bool
 tableKeeps t n = among n (λ i. slotKeeps t (slotAt t i))
 
 -- ---- the code's steps
-
-pub among-more : (P : ℕ → Bool) (i : ℕ) → among i P ≡ false → P i ≡ false → among (i + 1) P ≡ false
-among-more P i a b = let e : i + 1 ≡ suc i = omega arith in ap (λ (k : ℕ). among k P) e ∙ ap (λ (x : Bool). x || among i P) b ∙ a
 
 module _ (t : List ℕ) (s : Slot) (v : Record) (held : s ≡ Holds v) where
   pub six-keeps : v .d ≡ 6 → starKeeps t v 6 ≡ slotKeeps t s

@@ -4,6 +4,7 @@ pub mod Additions
 pub mod ReadLaws
 pub mod RestoreLaws
 pub mod FaultLaws
+pub mod Outcomes
 -- what the code's steps obey
 pub mod LineSteps
 pub mod BeginLaws

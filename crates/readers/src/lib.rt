@@ -1,7 +1,7 @@
 // The readers of files: document 01, "Files".
 //
 // Two public calls answer every input: `read_full` and `read_reduced`. Their promises cite `readFullOf` and `readReducedOf` of specs/Readers; what follows
-// from them, for whoever stands above, is in specs/ReadLaws and specs/RestoreLaws. `prepare` is how both begin, for a call that refuses more than they do
+// from them, for whoever stands above, is in specs/ReadLaws, RestoreLaws and Outcomes. `prepare` is how both begin, for a call that refuses more than they do
 // (the census): the length test, and both tables cleared.
 mod begin;
 mod complete;

@@ -1,8 +1,9 @@
 // V, E and F of a grown table, told by its records: three faces, three spokes and six sides a hexagon, but for the sides that two share; six vertices, six
 // faces and twelve sides more a subdivision.
 //
-// `tally` gives what `counts` would, with no look at a star. It is for the proved floors above, and asks that the table is grown.
-// The promises cite together's specs/Tally.
+// `tally` gives what `counts` would, with no look at a star. It is for the proved floors above, and asks that the table is grown. `surveyed` is for any
+// table in order: it tallies where the local check passes, and surveys elsewhere. `count`, in rows.rt, is for any bytes.
+// The promises cite specs/Count and together's specs/Tally.
 ghost use mathlib.Core.Path.{_≡_};
 ghost use mathlib.Core.Bool.{cond};
 ghost use Prim.Native.Nat.{_≤_, _<_};
@@ -14,27 +15,31 @@ ghost use Rattle.table.specs.Order.{InOrder};
 ghost use Rattle.table.specs.Entries.{holds};
 ghost use Rattle.mesh.specs.Grown.{Grown};
 ghost use Rattle.counts.specs.Counts.{bit, countsOf};
-ghost use Rattle.counts.specs.Earlier.{slotSum};
+ghost use Rattle.counts.specs.Earlier.{slotSum, plainOf};
 ghost use Rattle.together.specs.Tally.{isCentre, onGround, besidesAt, hexagonsIn, groundIn, pairsIn};
+
+mod rows;
+
 use counts::Counts;
+use counts::Surveyed;
 use counts::count_degrees;
+use counts::one_if;
+use counts::survey;
+use lattice::Depth;
 use lattice::Point;
 use lattice::class;
+use local::all_pass;
+pub use rows::COUNTS;
+pub use rows::count;
 use table::Slot;
+use table::is_there;
 use table::read_slot;
-use table::stands;
 
 // What the slots of a table add up to: hexagons by their centres, vertices of depth 0, pairs of hexagons side by side.
 struct Sums {
     hexagons: u32,
     ground: u32,
     pairs: u32,
-}
-
-fn one_if(b: bool) -> u32
-    ensures { λ r. ⌜ (r ≡ bit b) × (r ≤ 1) ⌝ }
-{
-    if b { 1 } else { 0 }
 }
 
 fn is_centre(p: Point) -> bool
@@ -52,7 +57,12 @@ fn beside(t: &[u8], p: Point, x: i32, y: i32, n: usize) -> u32
     requires { ⌜ (natAbs x ≤ 2) × (natAbs y ≤ 2) ⌝ }
     ensures { λ r. ⌜ (r ≡ bit (holds (now (t .entry)) (pt (p .a +ℤ x) (p .b +ℤ y) 0))) × (r ≤ 1) ⌝ }
 {
-    one_if(stands(t, p.a + x, p.b + y, 0, n))
+    let q = Point {
+        a: p.a + x,
+        b: p.b + y,
+        m: Depth(0),
+    };
+    one_if(is_there(t, q, n))
 }
 
 // How many of three hexagons side by side with that of p the table has: of the two of a pair, one has the other there.
@@ -149,4 +159,19 @@ pub fn tally(t: &[u8], n: usize) -> Counts
         d5,
         d6,
     }
+}
+
+// What `survey` tells of a table in order, of n slots: a grown one is told by its records, and surveyed is only another.
+pub fn surveyed(t: &[u8], n: usize) -> Surveyed
+    requires { ⌜ InOrder (now t) × (n ≡ slotsOf (now t)) ⌝ }
+    ensures { λ r. ⌜ (r .counts ≡ countsOf (now (t .entry))) × (r .plain ≡ plainOf (now (t .entry))) ⌝ }
+{
+    if all_pass(t, n) {
+        let counts = tally(t, n);
+        return Surveyed {
+            counts,
+            plain: true,
+        };
+    }
+    survey(t, n)
 }

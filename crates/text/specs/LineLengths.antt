@@ -17,17 +17,17 @@ use Rattle.text.specs.Line.{pointText, starText, lineOf, lines}
 use Rattle.text.specs.DecimalLaws.{digits-some, width-below}
 use Rattle.text.specs.Near.{valid-near}
 
-three : (xs ys zs : List ℕ) → length (xs ++ (ys ++ zs)) ≡ length xs + (length ys + length zs)
-three xs ys zs = omega (arith, length-append xs (ys ++ zs), length-append ys zs)
+pub length-three : (xs ys zs : List ℕ) → length (xs ++ (ys ++ zs)) ≡ length xs + (length ys + length zs)
+length-three xs ys zs = omega (arith, length-append xs (ys ++ zs), length-append ys zs)
 
 pub point-length : (p : Point)
     → length (pointText p) ≡ length (ended (numeral (p .a)) tab) + (length (ended (numeral (p .b)) tab) + length (ended (digits (p .m .0)) tab))
 unfolding pointText
-point-length p = three (ended (numeral (p .a)) tab) (ended (numeral (p .b)) tab) (ended (digits (p .m .0)) tab)
+point-length p = length-three (ended (numeral (p .a)) tab) (ended (numeral (p .b)) tab) (ended (digits (p .m .0)) tab)
 
 pub star-length : (d k n : ℕ) → length (starText d k n) ≡ length (ended (digits d) tab) + (length (ended (digits k) tab) + length (ended (digits n) feed))
 unfolding starText
-star-length d k n = three (ended (digits d) tab) (ended (digits k) tab) (ended (digits n) feed)
+star-length d k n = length-three (ended (digits d) tab) (ended (digits k) tab) (ended (digits n) feed)
 
 pub line-halves : (r : Record) → length (lineOf r) ≡ length (pointText (r .at)) + length (starText (r .d) (r .k) (r .n .0))
 unfolding lineOf

@@ -3,7 +3,7 @@
 -- or at most, w bytes · `firsts-start`, `firsts-more`, `firsts-fewer` the lines of the first keys · `Left` k keys are left,
 -- the lines of the others stand from `at` on: `left-start`, `left-top`, `left-place`, `left-room`, `left-step`, `left-end`.
 -- Assumes nothing.
-use mathlib.Core.Path.{_≡_, refl, sym, ap, _∙_, subst}
+use mathlib.Core.Path.{_≡_, refl, sym, ap, _∙_}
 use mathlib.Core.Bool.{Bool, true, false, cond}
 use mathlib.Core.List.{List, [], _∷_, _++_, map, append-assoc, append-nil, List·Memᴰ, List·Memᴰ·head, List·Memᴰ·tail}
 use Prim.Native.Nat.{ℕ, zero, suc, _+_, _*_, _≤_, _<_}
@@ -11,9 +11,9 @@ use native.Mathlib.Omega.{arith}
 use native.Mathlib.Decide.{decLt}
 use native.Mathlib.Nat.{mul-le-mul-right}
 use lib.ListN.{length, take, drop, length-append}
-use lib.Seq.{sets, sets-eq, drop-at, drop-cons, drop-length, take-suc, take-length, length-take-le, length-sets}
-use Rattle.laws.specs.Stores.{Wrote}
-use Rattle.sorting.specs.Sorting.{insertBy, sortBy, keyWidth, keyIn, firsts}
+use lib.Seq.{drop-cons, drop-length, take-suc, take-length, length-take-le, length-sets}
+use Rattle.laws.specs.Stores.{Wrote, drop-stored}
+use Rattle.sorting.specs.Sorting.{insertBy, sortBy, keyIn, firsts}
 use Rattle.sorting.specs.Tally.{nth}
 use Rattle.sorting.specs.Keys.{key-before}
 use Rattle.viewer.specs.Viewer.{texts}
@@ -136,11 +136,6 @@ module _ (g : ℕ → List ℕ) (from : ℕ) where
         room = r;
         keys = keys;
       }
-
-  drop-stored : (o : List ℕ) (at : ℕ) (xs : List ℕ) → at + length xs ≤ length o → drop at (sets o at xs) ≡ xs ++ drop (at + length xs) o
-  drop-stored o at xs h =
-      ap (drop at) (sets-eq xs o at h ∙ append-assoc (take at o) xs (drop (at + length xs) o))
-      ∙ drop-at (take at o) (xs ++ drop (at + length xs) o) at (length-take-le at o (omega arith))
 
   -- the keys left end before the lines
   pub left-room : (w : ℕ) → ((v : ℕ) → w ≤ length (g v)) → (K rest o : List ℕ) (k at : ℕ) → Left K rest o k at → from + w * k ≤ at

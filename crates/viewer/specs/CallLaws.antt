@@ -2,13 +2,12 @@
 -- `faces-many` how many faces there are, `face-part-most` how long they are at most · `view-long`, `view-done` the file of its three parts ·
 -- `view-disorder`, `view-torn`, `view-whole` refused with 1, with 7, or not · `put-short`, `put-done` with 13, or not.
 -- Assumes nothing.
-use mathlib.Core.Path.{_≡_, refl, sym, ap, _∙_, subst}
+use mathlib.Core.Path.{_≡_, refl, sym, ap, _∙_}
 use mathlib.Core.Bool.{Bool, true, false, cond, not}
 use mathlib.Core.List.{List, [], _∷_, _++_, map, append-assoc}
 use Prim.Native.Nat.{ℕ, zero, suc, _+_, _*_, _≤_, _<_}
 use native.Mathlib.Omega.{arith}
 use borrow.Author.Tests.{lt-ltb, le-ltb}
-use lib.Dec.{ltb}
 use lib.ListN.{length, drop, length-append}
 use Rattle.laws.specs.Choices.{unless}
 use Rattle.laws.specs.Some.{someOf}
@@ -18,8 +17,7 @@ use Rattle.table.specs.Entries.{listed, recordsOf, recordsBelow}
 use Rattle.lattice.specs.declared.records.Record.{Record}
 use Rattle.counts.specs.declared.faces.Face.{Face}
 use Rattle.counts.specs.Counts.{bit, each, facesAt, sameFace, differentAfter, facesIn, countsOf}
-use Rattle.counts.specs.declared.Counts.{Counts}
-use Rattle.writers.specs.Files.{sorted, before, OutputAfter, outputAfter, putOf}
+use Rattle.writers.specs.Files.{sorted, before, outputAfter, putOf}
 use Rattle.writers.specs.Kept.{standing}
 use Rattle.mesh_faces.specs.MeshFaces.{onceAfter, meshFaces, tornOf}
 use Rattle.viewer.specs.Viewer.{rises, leastOf, faceCorners, headText, vertexText, faceText, texts, viewerFile, viewOf}
@@ -123,9 +121,6 @@ module _ (s : Style) (t out : List ℕ) where
   view-whole e h =
       ap (λ (b : Bool). unless (not b) (outputAfter 7 0 out) (putOf (viewerFile s t) out)) (sym h)
       ∙ ap (λ (b : Bool). unless b (outputAfter 1 0 out) (unless (not (tornOf t)) (outputAfter 7 0 out) (putOf (viewerFile s t) out))) (sym e)
-
-pub out-is : {n n′ b b′ : ℕ} (o : List ℕ) → n ≡ n′ → b ≡ b′ → outputAfter n b o ≡ outputAfter n′ b′ o
-out-is o e f = λ i. outputAfter (e i) (f i) o
 
 module _ (file out : List ℕ) (total : ℕ) (long : total ≡ length file) where
   pub put-short : length out < total → outputAfter 13 0 out ≡ putOf file out

@@ -44,17 +44,15 @@ use crate::lines::write_vertices;
 use crate::numbers::widths_of;
 use crate::styles::Style;
 use counts::Counts;
-use counts::survey;
 use lattice::DONE;
 use lattice::NOT_IN_ORDER;
 use lattice::SHORT;
 use lattice::TORN;
-use local::all_pass;
 use mesh_faces::any_torn;
 use sorting::sort;
 use table::in_order;
 use table::slots_of;
-use tally::tally;
+use tally::surveyed;
 
 // The bytes of the longest line of a face.
 const FACE_MOST: usize = 26;
@@ -148,8 +146,7 @@ fn write_file(t: &[u8], n: usize, s: Style, c: Counts, plain: bool, out: &mut [u
     answer(DONE, total as u64)
 }
 
-// Writes the file in a style: 1, 7 or 13, or 0 and its bytes. A grown table is told by its records; of another a survey tells whether all corners are
-// plain, and then nothing is torn either.
+// Writes the file in a style: 1, 7 or 13, or 0 and its bytes. Where all corners are plain nothing is torn.
 fn write(t: &[u8], s: Style, out: &mut [u8]) -> Viewed
     requires { ⌜ s .first ≤ 1 ⌝ }
     ensures { λ r. ⌜ outputAfter (r .number) (r .bytes) (now (out .exit)) ≡ viewOf s (now (t .entry)) (now (out .entry)) ⌝ }
@@ -158,10 +155,7 @@ fn write(t: &[u8], s: Style, out: &mut [u8]) -> Viewed
         return answer(NOT_IN_ORDER, 0);
     }
     let n = slots_of(t);
-    if all_pass(t, n) {
-        return write_file(t, n, s, tally(t, n), true, out);
-    }
-    let found = survey(t, n);
+    let found = surveyed(t, n);
     let c = found.counts;
     if found.plain {
         return write_file(t, n, s, c, true, out);

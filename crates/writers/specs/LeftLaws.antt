@@ -10,8 +10,8 @@ use native.Mathlib.Omega.{arith}
 use borrow.Author.Tests.{lt-ltb, le-ltb}
 use lib.Dec.{ltb}
 use lib.ListN.{length, take, drop, length-append, length-map}
-use lib.Seq.{sets, sets-eq, drop-at, drop-cons, drop-length, take-suc, take-length, length-take-le, length-sets, ext-getD}
-use Rattle.laws.specs.Stores.{Wrote}
+use lib.Seq.{drop-cons, drop-length, take-suc, take-length, length-take-le, length-sets, ext-getD}
+use Rattle.laws.specs.Stores.{Wrote, drop-stored}
 use Rattle.lattice.specs.declared.records.Record.{Record}
 use Rattle.table.specs.Slots.{slotsOf}
 use Rattle.table.specs.Order.{InOrder}
@@ -68,11 +68,6 @@ left-start K o k total r =
       room = r .room;
       keys = λ i h. sym (firsts-at (keyIn o) k i h) ∙ ap (λ (l : List ℕ). nth l i) (r .keys);
     }
-
-drop-stored : (o : List ℕ) (at : ℕ) (xs : List ℕ) → at + length xs ≤ length o → drop at (sets o at xs) ≡ xs ++ drop (at + length xs) o
-drop-stored o at xs h =
-    ap (drop at) (sets-eq xs o at h ∙ append-assoc (take at o) xs (drop (at + length xs) o))
-    ∙ drop-at (take at o) (xs ++ drop (at + length xs) o) at (length-take-le at o (omega arith))
 
 module _ (K rest o : List ℕ) (k at : ℕ) (l : Left K rest o (k + 1) at) where
   -- the next key is the last of those left

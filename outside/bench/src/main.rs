@@ -24,6 +24,9 @@ use std::hint::black_box;
 
 const MOST: usize = 65_536;
 
+/// Where a slot has its vertex's degree, before orientation and level.
+const DEGREE: usize = 9;
+
 struct Words {
     rounds: usize,
     bars: bool,
@@ -250,11 +253,16 @@ fn many(bench: &mut Bench, table: &[u8]) {
     }
 }
 
-/// Edges and faces of a sheet, which here is not known to be grown.
+/// V, E and F of a sheet, and of the same one with a vertex made a boundary vertex, which no call does.
 fn counts(bench: &mut Bench, table: &[u8]) {
-    assert_eq!(library::counts(table), plain::counts(table));
-    let task = Task { name: "counts", unit: "vertex", units: count(table) };
-    bench.run(task, &mut || clock::time(|| library::counts(table)), &mut || clock::time(|| plain::counts(table)), None);
+    let mut changed = table.to_vec();
+    let star = (0..changed.len()).step_by(SLOT).map(|slot| slot + DEGREE).rfind(|&d| changed[d] == 3).expect("a vertex of degree 3");
+    changed[star..star + 3].fill(0);
+    for (name, table) in [("counts", table), ("counts, a table not grown", &changed)] {
+        assert_eq!(library::counts(table), plain::counts(table));
+        let task = Task { name, unit: "vertex", units: count(table) };
+        bench.run(task, &mut || clock::time(|| library::counts(table)), &mut || clock::time(|| plain::counts(table)), None);
+    }
 }
 
 type Write = fn(&[u8], &mut [u8]) -> (u8, u64);

@@ -4,9 +4,10 @@ use mathlib.Core.List.{List}
 use Prim.Native.Nat.{ℕ, _≤_}
 use lib.ListN.{length}
 use borrow.Author.Needs.{needs}
+use Rattle.grown.specs.Grown.{is-grown}
 use Rattle.counts.specs.declared.Counts.{Counts}
 use Rattle.census_text.specs.Census.{countsText, putText}
-use Rattle.census_text.specs.InputLaws.{input-line, input-order, census-refused, refused-most, census-counted, counted-most}
+use Rattle.census_text.specs.InputLaws.{input-line, input-grown, census-refused, refused-most, census-counted, counted-most}
 use Rattle.census_text.proofs.census.Statement.{statement}
 use Rattle.census_text.proofs.census.Tie as tie
 
@@ -51,12 +52,13 @@ returns c =
       refused-most (t r) (u r) (f r) (number r) (line r) (t′ r) (u′ r) (r .read-input .ensures) (i .if1 .taken) (p .put-refused .ensures .1),
     )
 
-counts-of-requires : tie.Need-counts-of-requires
-counts-of-requires c κs =
+tally-requires : tie.Need-tally-requires
+tally-requires c κs =
     let n = c .before .before in
     let i = n .before .before in
     let r = i .before .before .before .before .before in
-    (input-order (t r) (u r) (f r) (number r) (line r) (t′ r) (u′ r) (r .read-input .ensures) (i .if1 .left), n .slots-of .ensures)
+    let g = input-grown (t r) (u r) (f r) (number r) (line r) (t′ r) (u′ r) (r .read-input .ensures) (i .if1 .left) in
+    (is-grown (t′ r) g, n .slots-of .ensures)
 
 returns-2 : tie.Need-returns-2
 returns-2 c =
@@ -64,7 +66,7 @@ returns-2 c =
     let k = p .before in
     let i = k .before .before .before .before .before in
     let r = i .before .before .before .before .before in
-    let e = k .counts-of .ensures in (
+    let e = k .tally .ensures in (
       census-counted (t r) (u r) (f r) (number r) (line r) (t′ r) (u′ r) (r .read-input .ensures) (i .if1 .left) (s r .args .out .now) _
           (p .put-counts .ensures .0 ∙ ap (λ (x : Counts). putText 0 (countsText x) (s r .args .out .now)) e),
       counted-most (t r) (u r) (f r) (number r) (line r) (t′ r) (u′ r) (r .read-input .ensures) (i .if1 .left)
@@ -82,7 +84,7 @@ census-spec =
     (λ c. search needs)
     returns
     (λ c κs. search needs)
-    counts-of-requires
+    tally-requires
     (λ c κs. search needs)
     (λ c. search needs)
     (λ c. search needs)

@@ -1,20 +1,17 @@
--- `viewer::write` meets its promise: 1, then what is written where the table is grown or all corners are plain, else 7, or what is written.
+-- `viewer::write` meets its promise: 1, then what is written where all corners are plain, else 7, or what is written.
 -- Assumes nothing.
 use mathlib.Core.Path.{_≡_, sym, _∙_}
 use mathlib.Core.Bool.{true, false}
 use borrow.Author.Needs.{needs}
 use borrow.Author.Tests.{not-true, not-false}
+use Rattle.writers.specs.CallLaws.{out-is}
 use Rattle.laws.specs.Each.{never}
 use Rattle.table.specs.Order.{InOrder, inOrderOf}
 use Rattle.table.specs.MapLaws.{test-order}
 use Rattle.counts.specs.Earlier.{plainOf}
-use Rattle.laws.specs.Choices.{of-true}
-use Rattle.mesh.specs.Grown.{Grown}
-use Rattle.grown.specs.Grown.{passes-grown}
-use Rattle.together.specs.Plain.{plain-grown}
 use Rattle.mesh_faces.specs.MeshFaces.{tornOf}
 use Rattle.mesh_faces.specs.Plain.{plain-untorn}
-use Rattle.viewer.specs.CallLaws.{out-is, view-disorder, view-torn, view-whole}
+use Rattle.viewer.specs.CallLaws.{view-disorder, view-torn, view-whole}
 use Rattle.viewer.proofs.write.Statement.{statement}
 use Rattle.viewer.proofs.write.Tie as tie
 
@@ -39,97 +36,66 @@ module _ (n : tie.After-slots-of) where
   ordered : InOrder (s .args .t .now)
   ordered = test-order (s .args .t .now) tested
 
-all-pass-requires : tie.Need-all-pass-requires
-all-pass-requires c κs = (ordered c, c .slots-of .ensures)
-
--- the table is grown
-module _ (w : tie.Then2) where
-  abbrev p : tie.After-all-pass
-  p = w .before
-
-  grown : Grown (s (p .before) .args .t .now)
-  grown = passes-grown (s (p .before) .args .t .now) (ordered (p .before)) (of-true (sym (p .all-pass .ensures) ∙ w .if2 .taken))
-
-  grown-plain : plainOf (s (p .before) .args .t .now) ≡ true
-  grown-plain = plain-grown (s (p .before) .args .t .now) grown
-
-tally-requires : tie.Need-tally-requires
-tally-requires c κs = (grown c, c .before .before .slots-of .ensures)
-
-write-file-requires : tie.Need-write-file-requires
-write-file-requires c κs =
-    let w = c .before .before in
-    let n = w .before .before in
-    ((ordered n, n .slots-of .ensures), ((plain-untorn (s n .args .t .now) (grown-plain w), s n .pre), (c .before .tally .ensures, λ e. grown-plain w)))
-
-returns-2 : tie.Need-returns-2
-returns-2 c =
-    let k = c .before .before in
-    let w = k .before .before .before in
-    let n = w .before .before in
-    let a = s n .args in
-    k .write-file .ensures ∙ view-whole (a .s) (a .t .now) (a .out .now) (tested n) (plain-untorn (a .t .now) (grown-plain w))
-
-survey-requires : tie.Need-survey-requires
-survey-requires c κs = let n = c .before .before in (ordered n, n .slots-of .ensures)
+surveyed-requires : tie.Need-surveyed-requires
+surveyed-requires c κs = (ordered c, c .slots-of .ensures)
 
 -- all corners are plain
-module _ (a : tie.After-write-file-arg2) where
-  abbrev f : tie.After-survey
+module _ (a : tie.After-write-file-arg) where
+  abbrev f : tie.After-surveyed
   f = a .before .before .before
 
   abbrev m : tie.After-slots-of
-  m = f .before .before .before
+  m = f .before
 
   plain : plainOf (s m .args .t .now) ≡ true
-  plain = sym (f .survey .ensures .1) ∙ a .before .if3 .taken
+  plain = sym (f .surveyed .ensures .1) ∙ a .before .if2 .taken
 
-write-file-requires-2 : tie.Need-write-file-requires-2
-write-file-requires-2 c κs =
+write-file-requires : tie.Need-write-file-requires
+write-file-requires c κs =
     let g = f c in
     let n = m c in
-    ((ordered n, n .slots-of .ensures), ((plain-untorn (s n .args .t .now) (plain c), s n .pre), (g .survey .ensures .0, λ e. plain c)))
+    ((ordered n, n .slots-of .ensures), ((plain-untorn (s n .args .t .now) (plain c), s n .pre), (g .surveyed .ensures .0, λ e. plain c)))
+
+returns-2 : tie.Need-returns-2
+returns-2 c =
+    let w = c .before .before in
+    let n = m (w .before) in
+    let a = s n .args in
+    w .write-file .ensures ∙ view-whole (a .s) (a .t .now) (a .out .now) (tested n) (plain-untorn (a .t .now) (plain (w .before)))
+
+any-torn-requires : tie.Need-any-torn-requires
+any-torn-requires c κs = let n = c .before .before .before in (ordered n, n .slots-of .ensures)
 
 returns-3 : tie.Need-returns-3
 returns-3 c =
     let w = c .before .before in
-    let n = m (w .before) in
+    let n = w .before .before .before .before in
     let a = s n .args in
-    w .write-file2 .ensures ∙ view-whole (a .s) (a .t .now) (a .out .now) (tested n) (plain-untorn (a .t .now) (plain (w .before)))
+    out-is (a .out .now) (c .answer2 .ensures .0) (c .answer2 .ensures .1)
+    ∙ view-torn (a .s) (a .t .now) (a .out .now) (tested n) (sym (w .any-torn .ensures) ∙ c .before .if3 .taken)
 
-any-torn-requires : tie.Need-any-torn-requires
-any-torn-requires c κs = let n = c .before .before .before .before .before in (ordered n, n .slots-of .ensures)
+-- not all are, but nothing is torn
+module _ (e : tie.Else3) where
+  abbrev g : tie.After-surveyed
+  g = e .before .before .before .before
+
+  abbrev n : tie.After-slots-of
+  n = g .before
+
+  whole : tornOf (s n .args .t .now) ≡ false
+  whole = sym (e .before .any-torn .ensures) ∙ e .if3 .left
+
+write-file-requires-2 : tie.Need-write-file-requires-2
+write-file-requires-2 c κs =
+    let e = c .before in
+    ((ordered (n e), n e .slots-of .ensures), ((whole e, s (n e) .pre), (g e .surveyed .ensures .0, λ q. absurd (never q))))
 
 returns-4 : tie.Need-returns-4
 returns-4 c =
     let w = c .before .before in
-    let n = w .before .before .before .before .before .before in
-    let a = s n .args in
-    out-is (a .out .now) (c .answer2 .ensures .0) (c .answer2 .ensures .1)
-    ∙ view-torn (a .s) (a .t .now) (a .out .now) (tested n) (sym (w .any-torn .ensures) ∙ c .before .if4 .taken)
-
--- not all are, but nothing is torn
-module _ (e : tie.Else4) where
-  abbrev g : tie.After-survey
-  g = e .before .before .before .before
-
-  abbrev n : tie.After-slots-of
-  n = g .before .before .before
-
-  whole : tornOf (s n .args .t .now) ≡ false
-  whole = sym (e .before .any-torn .ensures) ∙ e .if4 .left
-
-write-file-requires-3 : tie.Need-write-file-requires-3
-write-file-requires-3 c κs =
-    let e = c .before in
-    ((ordered (n e), n e .slots-of .ensures), ((whole e, s (n e) .pre), (g e .survey .ensures .0, λ q. absurd (never q))))
-
-returns-5 : tie.Need-returns-5
-returns-5 c =
-    let w = c .before .before in
     let e = w .before .before in
     let a = s (n e) .args in
-    w .write-file3 .ensures ∙ view-whole (a .s) (a .t .now) (a .out .now) (tested (n e)) (whole e)
+    w .write-file2 .ensures ∙ view-whole (a .s) (a .t .now) (a .out .now) (tested (n e)) (whole e)
 
 pub write-spec : {M : Type 1} → statement M
 write-spec =
@@ -139,18 +105,13 @@ write-spec =
     (λ c κs. search needs)
     returns
     (λ c κs. search needs)
-    all-pass-requires
-    tally-requires
+    surveyed-requires
     write-file-requires
     (λ c. search needs)
     returns-2
-    survey-requires
-    write-file-requires-2
-    (λ c. search needs)
-    returns-3
     any-torn-requires
     (λ c κs. search needs)
-    returns-4
-    write-file-requires-3
+    returns-3
+    write-file-requires-2
     (λ c. search needs)
-    returns-5)
+    returns-4)

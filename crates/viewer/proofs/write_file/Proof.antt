@@ -1,15 +1,16 @@
 -- `viewer::write_file` meets its promise: the parts' lengths, 13, then vertices and faces, then the head. Assumes nothing.
 use mathlib.Core.Path.{_≡_, refl, sym, _∙_, ap}
 use mathlib.Core.List.{List}
-use Prim.Native.Nat.{ℕ, _+_, _≤_, _<_}
+use Prim.Native.Nat.{ℕ, _+_, _≤_}
 use native.Mathlib.Omega.{arith}
 use lib.ListN.{length}
 use borrow.Author.Needs.{needs}
 use borrow.Author.Tests.{ltb-true, ltb-false}
+use Rattle.writers.specs.CallLaws.{out-is}
 use Rattle.counts.specs.Counts.{countsOf}
 use Rattle.counts.specs.declared.Counts.{Counts}
 use Rattle.viewer.specs.Viewer.{headText, viewerFile}
-use Rattle.viewer.specs.CallLaws.{vertexPart, facePart, vertex-part, view-long, view-done, out-is, put-short, put-done}
+use Rattle.viewer.specs.CallLaws.{vertexPart, facePart, vertex-part, view-long, view-done, put-short, put-done}
 use Rattle.viewer.specs.declared.styles.Style.{Style}
 use Rattle.viewer.proofs.write_file.Statement.{statement}
 use Rattle.viewer.proofs.write_file.Tie as tie

@@ -110,12 +110,12 @@ returns c =
     let before : innersIn t (a .k) (a .a .slot) (a .o .slot) (a .b .slot) ≡ innersBefore t (a .k) (asked s) =
     λ i. innersIn t (a .k) (placed-slot t _ _ (r .adjacent) i) (r .opposite i) (placed-slot t _ _ (r .next) i) in (
       (λ i. facesAndSides
-          ((w .new-face .ensures .0
+          ((w .one-if .ensures .0
           ∙ corner-counted t (a .k) (a .v) (a .j) (a .o .at) (r .chosen) (asked s) (is s) _ (sym (b .face-seen .ensures))) i)
           (e .0 i + f .0 i)
           ((ap (λ (x : Bool). ltb (a .a .slot) (a .n) && x) (c .is-first .ensures)
           ∙ plain-face t (a .k) (a .v) (a .j) (a .o .at) (r .chosen) (asked s) (is s) _ _ _ there before (b .face-seen .ensures)) i)),
-      (w .new-face .ensures .1, omega (arith, e .1, f .1)),
+      (w .one-if .ensures .1, omega (arith, e .1, f .1)),
     )
 
 pub count-face-spec : {M : Type 1} → statement M

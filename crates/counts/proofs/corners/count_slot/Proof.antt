@@ -9,11 +9,11 @@ use Rattle.counts.proofs.corners.count_slot.Tie as tie
 
 count-star-requires : tie.Need-count-star-requires
 count-star-requires c κs =
-    let v = c .before .before in
+    let v = c .before in
     let r = v .before .before in
     let s = r .before .before in
     let h = sym (r .read-slot .ensures) ∙ v .v .given .1 in
-    (s .pre .0, (s .pre .0 .0 .valid (s .args .k) (v .v .given .0 .0) (omega (arith, s .pre .0 .1 .0, s .pre .0 .1 .1)) h, (h, s .pre .1)))
+    (s .pre, (s .pre .0 .valid (s .args .k) (v .v .given .0 .0) (omega (arith, s .pre .1 .0, s .pre .1 .1)) h, h))
 
 returns : tie.Need-returns
 returns c =
@@ -22,12 +22,12 @@ returns c =
     let a = s .args in
     let h = sym (r .read-slot .ensures) ∙ c .enum-told .given .1 in (
       (λ i. facesAndSides (faces-free (a .t .now) (a .k) h i) (sides-free (a .t .now) (a .k) h i) (plain-free (a .t .now) (a .k) h i)),
-      ((omega arith, omega arith), s .pre .1),
+      (omega arith, omega arith),
     )
 
 returns-2 : tie.Need-returns-2
 returns-2 c =
-    let v = c .before .before .before in
+    let v = c .before .before in
     let r = v .before .before in
     let a = r .before .before .args in
     let h = sym (r .read-slot .ensures) ∙ v .v .given .1 in (

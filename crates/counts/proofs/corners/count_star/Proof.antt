@@ -13,8 +13,6 @@ use Rattle.lattice.specs.RecordLaws.{Inner}
 use Rattle.table.specs.Slots.{Table}
 use Rattle.counts.specs.Counts.{nextPlace}
 use Rattle.counts.specs.Earlier.{sumBelow, placedOf, facesAndSides, cornerCount, sideCount, plainAt}
-use Rattle.counts.specs.Beside.{broadAt}
-use Rattle.counts.specs.BesideLaws.{broad-holds, all-broad}
 use Rattle.counts.specs.DifferentLaws.{sum-none}
 use Rattle.counts.specs.EarlierLaws.{valid-inner, valid-degree}
 use Rattle.counts.specs.CaseLaws.{Summed, summed-start, summed-more, all-more}
@@ -34,14 +32,14 @@ round-first d = go (eqb 0 d)
     go false = refl
 
 abbrev Inv-loop : tie.InvT-loop
-Inv-loop t v k n marks d faces₀ sides₀ plain₀ broad₀ row first a₀ j₀ faces sides plain broad a j =
+Inv-loop t v k n d faces₀ sides₀ plain₀ row first a₀ j₀ faces sides plain a j =
     (j ≤ v .d)
     × (Summed (cornerCount t k v) 1 j faces
     × (Summed (sideCount t k v) 3 j sides
-    × ((a ≡ placedOf t (adjacentAt v (round (v .d) j))) × ((plain ≡ upto j (plainAt t k v)) × (broad ≡ true → upto j (broadAt t v) ≡ true)))))
+    × ((a ≡ placedOf t (adjacentAt v (round (v .d) j))) × (plain ≡ upto j (plainAt t k v)))))
 
 abbrev μ-loop : tie.MeasureT-loop
-μ-loop t v k n marks d faces₀ sides₀ plain₀ broad₀ row first a₀ j₀ faces sides plain broad a j = v .d - j
+μ-loop t v k n d faces₀ sides₀ plain₀ row first a₀ j₀ faces sides plain a j = v .d - j
 
 returns : tie.Need-returns Inv-loop μ-loop
 returns c =
@@ -50,7 +48,7 @@ returns c =
     let none : (f : ℕ → ℕ) → 0 ≡ sumBelow f (a .v .d) = λ f. sym (sum-none f) ∙ ap (sumBelow f) (sym (c .if1 .taken)) in
     let all = ap (λ (d : ℕ). upto d (plainAt (a .t .now) (a .k) (a .v))) (sym (c .if1 .taken)) in (
       (λ i. facesAndSides (none (cornerCount (a .t .now) (a .k) (a .v)) i) (none (sideCount (a .t .now) (a .k) (a .v)) i) (all i)),
-      ((omega arith, omega arith), s .pre .1 .1 .1),
+      (omega arith, omega arith),
     )
 
 ring-requires : tie.Need-ring-requires Inv-loop μ-loop
@@ -74,7 +72,7 @@ loop-holds c =
         summed-start (cornerCount t (a .k) (a .v)) 1,
         (
           summed-start (sideCount t (a .k) (a .v)) 3,
-          (c .with-slot .ensures ∙ ap (placedOf t) (c .before .point-at .ensures ∙ ap (adjacentAt (a .v)) (round-first (a .v .d))), (refl, λ h. refl)),
+          (c .with-slot .ensures ∙ ap (placedOf t) (c .before .point-at .ensures ∙ ap (adjacentAt (a .v)) (round-first (a .v .d))), refl),
         ),
       ),
     )
@@ -112,8 +110,7 @@ module _ (c : tie.After-next-placed Inv-loop μ-loop) where
 
 count-corner-requires : tie.Need-count-corner-requires Inv-loop μ-loop
 count-corner-requires c κs =
-    let x = c .before in
-    let i = loop x in
+    let i = loop c in
     let z = s i in
     let a = z .args in
     let j = i .before .loop .j in
@@ -122,54 +119,46 @@ count-corner-requires c κs =
       (
         (star i, omega (arith, i .loop-test .taken)),
         (
-          z .pre .1 .1 .0,
-          ((i .before .loop .inv .1 .1 .1 .0 ∙ ap (λ (b : Bool). placedOf (a .t .now) (adjacentAt (a .v) (cond b 0 j))) n, next x), z .pre .1 .1 .1),
+          z .pre .1 .1,
+          (i .before .loop .inv .1 .1 .1 .0 ∙ ap (λ (b : Bool). placedOf (a .t .now) (adjacentAt (a .v) (cond b 0 j))) n, next c),
         ),
       ),
     )
 
 add-faces : tie.Need-add-faces Inv-loop μ-loop
 add-faces c =
-    let i = loop (c .before .before .before) in
+    let i = loop (c .before .before) in
     let l = i .before .loop .inv in
-    record { fits = omega (arith, l .1 .0 .most, l .0, star i .top, c .before .count-corner .ensures .1 .0 .0) }
+    record { fits = omega (arith, l .1 .0 .most, l .0, star i .top, c .before .count-corner .ensures .1 .0) }
 
 add-sides : tie.Need-add-sides Inv-loop μ-loop
 add-sides c =
-    let i = loop (c .before .before .before .before) in
+    let i = loop (c .before .before .before) in
     let l = i .before .loop .inv in
-    record { fits = omega (arith, l .1 .1 .0 .most, l .0, star i .top, c .before .before .count-corner .ensures .1 .0 .1) }
+    record { fits = omega (arith, l .1 .1 .0 .most, l .0, star i .top, c .before .before .count-corner .ensures .1 .1) }
 
 add-j : tie.Need-add-j Inv-loop μ-loop
-add-j c = let i = loop (c .before .before .before .before .before .before) in record { fits = omega (arith, i .loop-test .taken, star i .top) }
-
-mark-broad-requires : tie.Need-mark-broad-requires Inv-loop μ-loop
-mark-broad-requires c κs =
-    let s = c .before .before .before .before .before .before .before .before .before .before in
-    omega (arith, s .pre .0 .1 .0, s .pre .0 .1 .1, s .pre .0 .0 .fits .most)
+add-j c = let i = loop (c .before .before .before .before) in record { fits = omega (arith, i .loop-test .taken, star i .top) }
 
 loop-again : tie.Need-loop-again Inv-loop μ-loop
 loop-again c =
-    let r = c .before .before .before .before in
-    let i = loop (r .before .before) in
+    let r = c .before .before .before in
+    let i = loop (r .before) in
     let l = i .before .loop in
     let a = s i .args in
     let t = a .t .now in
     let e = r .count-corner .ensures in (
       omega (arith, i .loop-test .taken),
       (
-        summed-more (cornerCount t (a .k) (a .v)) 1 (l .j) (l .faces) (r .count-corner .result .counted .faces) (l .inv .1 .0)
-            (ap (λ (x : Counted). x .faces) (e .0)) (e .1 .0 .0),
+        summed-more (cornerCount t (a .k) (a .v)) 1 (l .j) (l .faces) (r .count-corner .result .faces) (l .inv .1 .0)
+            (ap (λ (x : Counted). x .faces) (e .0)) (e .1 .0),
         (
-          summed-more (sideCount t (a .k) (a .v)) 3 (l .j) (l .sides) (r .count-corner .result .counted .sides) (l .inv .1 .1 .0)
-              (ap (λ (x : Counted). x .sides) (e .0)) (e .1 .0 .1),
+          summed-more (sideCount t (a .k) (a .v)) 3 (l .j) (l .sides) (r .count-corner .result .sides) (l .inv .1 .1 .0)
+              (ap (λ (x : Counted). x .sides) (e .0)) (e .1 .1),
           (
-            next (r .before .before),
-            (
-              all-more (plainAt t (a .k) (a .v)) (l .j) (l .plain) (r .count-corner .result .counted .plain) (l .inv .1 .1 .1 .1 .0)
-                  (ap (λ (x : Counted). x .plain) (e .0)),
-              all-broad (broadAt t (a .v)) (l .j) (l .broad) (r .count-corner .result .broad) (l .inv .1 .1 .1 .1 .1) (e .1 .1),
-            ),
+            next (r .before),
+            all-more (plainAt t (a .k) (a .v)) (l .j) (l .plain) (r .count-corner .result .plain) (l .inv .1 .1 .1 .1)
+                (ap (λ (x : Counted). x .plain) (e .0)),
           ),
         ),
       ),
@@ -177,21 +166,16 @@ loop-again c =
 
 returns-2 : tie.Need-returns-2 Inv-loop μ-loop
 returns-2 c =
-    let x = c .before .before in
-    let l = x .before .loop in
-    let z = x .before .before .before .before .before .before .before .before .before in
+    let l = c .before .loop in
+    let z = c .before .before .before .before .before .before .before .before .before in
     let a = z .args in
     let t = a .t .now in
-    let e : l .j ≡ a .v .d = omega (arith, l .inv .0, x .loop-test .left) in
+    let e : l .j ≡ a .v .d = omega (arith, l .inv .0, c .loop-test .left) in
     let d = valid-degree (a .v) (z .pre .1 .0) in (
       (λ i. facesAndSides ((l .inv .1 .0 .is ∙ ap (sumBelow (cornerCount t (a .k) (a .v))) e) i)
           ((l .inv .1 .1 .0 .is ∙ ap (sumBelow (sideCount t (a .k) (a .v))) e) i)
-          ((l .inv .1 .1 .1 .1 .0 ∙ ap (λ (j : ℕ). upto j (plainAt t (a .k) (a .v))) e) i)),
-      (
-        (omega (arith, l .inv .1 .0 .most, l .inv .0, d), omega (arith, l .inv .1 .1 .0 .most, l .inv .0, d)),
-        c .mark-broad .ensures t (z .pre .1 .1 .1)
-            (λ h. sym (broad-holds t (a .k) (a .v) (z .pre .1 .1 .0)) ∙ ap (λ (j : ℕ). upto j (broadAt t (a .v))) (sym e) ∙ l .inv .1 .1 .1 .1 .1 h),
-      ),
+          ((l .inv .1 .1 .1 .1 ∙ ap (λ (j : ℕ). upto j (plainAt t (a .k) (a .v))) e) i)),
+      (omega (arith, l .inv .1 .0 .most, l .inv .0, d), omega (arith, l .inv .1 .1 .0 .most, l .inv .0, d)),
     )
 
 pub count-star-spec : {M : Type 1} → statement M
@@ -212,5 +196,4 @@ count-star-spec =
     add-j
     (λ c. search needs)
     loop-again
-    mark-broad-requires
     returns-2)

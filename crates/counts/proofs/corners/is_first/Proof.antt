@@ -1,6 +1,6 @@
 -- `counts::is_first` meets its promise: by whether the face was seen. Assumes nothing.
-use mathlib.Core.Path.{_≡_, ap, sym, _∙_}
-use mathlib.Core.Bool.{Bool, true, false, not, _||_, or-true, or-false}
+use mathlib.Core.Path.{ap, sym, _∙_}
+use mathlib.Core.Bool.{Bool, not, _||_, or-true, or-false}
 use borrow.Author.Needs.{needs}
 use Rattle.counts.specs.Earlier.{innersIn}
 use Rattle.counts.proofs.corners.is_first.Statement.{statement}

@@ -29,27 +29,27 @@ loop-holds c =
 add-d0 : tie.Need-add-d0 Inv-loop μ-loop
 add-d0 c =
     let l = c .before .before .before in
-    record { fits = omega (arith, l .loop .inv .1 .0 .most, l .loop .inv .0, l .before .before .pre .most, c .same-degree .ensures .1) }
+    record { fits = omega (arith, l .loop .inv .1 .0 .most, l .loop .inv .0, l .before .before .pre .most, c .one-if .ensures .1) }
 
 add-d3 : tie.Need-add-d3 Inv-loop μ-loop
 add-d3 c =
     let l = c .before .before .before .before in
-    record { fits = omega (arith, l .loop .inv .1 .1 .0 .most, l .loop .inv .0, l .before .before .pre .most, c .same-degree2 .ensures .1) }
+    record { fits = omega (arith, l .loop .inv .1 .1 .0 .most, l .loop .inv .0, l .before .before .pre .most, c .one-if2 .ensures .1) }
 
 add-d4 : tie.Need-add-d4 Inv-loop μ-loop
 add-d4 c =
     let l = c .before .before .before .before .before in
-    record { fits = omega (arith, l .loop .inv .1 .1 .1 .0 .most, l .loop .inv .0, l .before .before .pre .most, c .same-degree3 .ensures .1) }
+    record { fits = omega (arith, l .loop .inv .1 .1 .1 .0 .most, l .loop .inv .0, l .before .before .pre .most, c .one-if3 .ensures .1) }
 
 add-d5 : tie.Need-add-d5 Inv-loop μ-loop
 add-d5 c =
     let l = c .before .before .before .before .before .before in
-    record { fits = omega (arith, l .loop .inv .1 .1 .1 .1 .0 .most, l .loop .inv .0, l .before .before .pre .most, c .same-degree4 .ensures .1) }
+    record { fits = omega (arith, l .loop .inv .1 .1 .1 .1 .0 .most, l .loop .inv .0, l .before .before .pre .most, c .one-if4 .ensures .1) }
 
 add-d6 : tie.Need-add-d6 Inv-loop μ-loop
 add-d6 c =
     let l = c .before .before .before .before .before .before .before in
-    record { fits = omega (arith, l .loop .inv .1 .1 .1 .1 .1 .most, l .loop .inv .0, l .before .before .pre .most, c .same-degree5 .ensures .1) }
+    record { fits = omega (arith, l .loop .inv .1 .1 .1 .1 .1 .most, l .loop .inv .0, l .before .before .pre .most, c .one-if5 .ensures .1) }
 
 loop-again : tie.Need-loop-again Inv-loop μ-loop
 loop-again c =
@@ -67,14 +67,14 @@ loop-again c =
     (degree-counts t (l .loop .k) (g .degree-in .result) e r (g .degree-in .ensures) (h .0)) (h .1) in (
       omega (arith, g .before .loop-test .taken),
       (
-        more 0 (l .loop .d0) (c0 .same-degree .result) (s .0) (c0 .same-degree .ensures),
+        more 0 (l .loop .d0) (c0 .one-if .result) (s .0) (c0 .one-if .ensures),
         (
-          more 3 (l .loop .d3) (c3 .same-degree2 .result) (s .1 .0) (c3 .same-degree2 .ensures),
+          more 3 (l .loop .d3) (c3 .one-if2 .result) (s .1 .0) (c3 .one-if2 .ensures),
           (
-            more 4 (l .loop .d4) (c4 .same-degree3 .result) (s .1 .1 .0) (c4 .same-degree3 .ensures),
+            more 4 (l .loop .d4) (c4 .one-if3 .result) (s .1 .1 .0) (c4 .one-if3 .ensures),
             (
-              more 5 (l .loop .d5) (c5 .same-degree4 .result) (s .1 .1 .1 .0) (c5 .same-degree4 .ensures),
-              more 6 (l .loop .d6) (c .same-degree5 .result) (s .1 .1 .1 .1) (c .same-degree5 .ensures),
+              more 5 (l .loop .d5) (c5 .one-if4 .result) (s .1 .1 .1 .0) (c5 .one-if4 .ensures),
+              more 6 (l .loop .d6) (c .one-if5 .result) (s .1 .1 .1 .1) (c .one-if5 .ensures),
             ),
           ),
         ),

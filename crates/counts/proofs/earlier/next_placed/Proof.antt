@@ -1,7 +1,6 @@
 -- `counts::next_placed` meets its promise: by whether the next place is the first. Assumes nothing.
-use mathlib.Core.Path.{_≡_, sym, ap, _∙_}
+use mathlib.Core.Path.{sym, ap, _∙_}
 use Prim.Native.Nat.{ℕ}
-use native.Mathlib.Omega.{arith}
 use borrow.Author.Needs.{needs}
 use Rattle.lattice.specs.Stars.{adjacentAt}
 use Rattle.counts.specs.Earlier.{placedOf}

@@ -5,9 +5,8 @@ use Prim.Native.Nat.{ℕ, _≤_, _-_}
 use native.Mathlib.Omega.{arith}
 use borrow.Author.Needs.{needs}
 use Rattle.laws.specs.Rules.{among}
-use Rattle.laws.specs.Each.{at-among}
+use Rattle.laws.specs.Each.{at-among, among-more}
 use Rattle.counts.specs.Earlier.{farIs, hasFar}
-use Rattle.counts.specs.DifferentLaws.{among-more}
 use Rattle.counts.specs.EarlierLaws.{valid-inner}
 use Rattle.counts.proofs.sides.has_far.Statement.{statement}
 use Rattle.counts.proofs.sides.has_far.Tie as tie

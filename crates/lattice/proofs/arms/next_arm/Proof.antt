@@ -4,9 +4,10 @@ use mathlib.Core.Bool.{Bool, cond}
 use native.Mathlib.Omega.{arith}
 use borrow.Author.Tests.{eq-eqb, ne-eqb}
 use lib.Dec.{lit≤}
-use lib.IntN.{ℤ, pos, negℤ, _+ℤ_, +ℤ-idl}
+use lib.IntN.{pos, negℤ, _+ℤ_, +ℤ-idl}
 use mir.Facts.{toZ-ofZ}
 use mir.Syntax.{w32}
+use Rattle.lattice.specs.Bounds.{summable}
 use Rattle.laws.specs.Sizes.{fits}
 use Rattle.laws.specs.Machine.{Mx, back, need, whole, _+ᵐ_, _-ᵐ_}
 use Rattle.lattice.specs.declared.points.Terms.{Terms}
@@ -14,11 +15,11 @@ use Rattle.lattice.proofs.arms.next_arm.Statement.{statement}
 use Rattle.lattice.proofs.arms.next_arm.Tie as tie
 
 abbrev sum : tie.Start → Mx w32
-sum s = whole (s .args .w .x) 1000000000 (s .pre .x) +ᵐ whole (s .args .w .y) 1000000000 (s .pre .y)
+sum s = whole (s .args .w .x) summable (s .pre .x) +ᵐ whole (s .args .w .y) summable (s .pre .y)
 
 -- `-z` is `0 - z` to the machine
 abbrev minus-y : tie.Start → Mx w32
-minus-y s = whole (pos 0) 0 (lit≤ tt) -ᵐ whole (s .args .w .y) 1000000000 (s .pre .y)
+minus-y s = whole (pos 0) 0 (lit≤ tt) -ᵐ whole (s .args .w .y) summable (s .pre .y)
 
 abbrev minus-sum : tie.Start → Mx w32
 minus-sum s = whole (pos 0) 0 (lit≤ tt) -ᵐ sum s

@@ -1,7 +1,6 @@
 -- `lattice::patterns::four` meets its promise: the row at each number. Assumes nothing.
 use mathlib.Core.Path.{sym, ap}
 use Prim.Native.Nat.{_≤_}
-use borrow.Author.Needs.{needs}
 use Rattle.lattice.specs.Patterns.{three, four, five, six, orient}
 use Rattle.lattice.specs.Rows.{tableRow}
 use Rattle.lattice.specs.RowLaws.{past}
@@ -19,48 +18,40 @@ five-requires c κs =
 
 returns : tie.Need-returns
 unfolding tableRow orient three four five six
-returns c = sym (ap tableRow (c .before .match .keys1))
+returns c = sym (ap tableRow (c .match .keys1))
 
 returns-2 : tie.Need-returns-2
 unfolding tableRow orient three four five six
-returns-2 c = sym (ap tableRow (c .before .match .keys2))
+returns-2 c = sym (ap tableRow (c .match .keys2))
 
 returns-3 : tie.Need-returns-3
 unfolding tableRow orient three four five six
-returns-3 c = sym (ap tableRow (c .before .match .keys3))
+returns-3 c = sym (ap tableRow (c .match .keys3))
 
 returns-4 : tie.Need-returns-4
 unfolding tableRow orient three four five six
-returns-4 c = sym (ap tableRow (c .before .match .keys4))
+returns-4 c = sym (ap tableRow (c .match .keys4))
 
 returns-5 : tie.Need-returns-5
 unfolding tableRow orient three four five six
-returns-5 c = sym (ap tableRow (c .before .match .keys5))
+returns-5 c = sym (ap tableRow (c .match .keys5))
 
 returns-6 : tie.Need-returns-6
 unfolding tableRow orient three four five six
-returns-6 c = sym (ap tableRow (c .before .match .keys6))
+returns-6 c = sym (ap tableRow (c .match .keys6))
 
 returns-7 : tie.Need-returns-7
 unfolding tableRow orient three four five six
-returns-7 c = sym (ap tableRow (c .before .match .keys7))
+returns-7 c = sym (ap tableRow (c .match .keys7))
 
 returns-8 : tie.Need-returns-8
 unfolding tableRow orient three four five six
-returns-8 c = sym (ap tableRow (c .before .match .keys8))
+returns-8 c = sym (ap tableRow (c .match .keys8))
 
 pub four-spec : {M : Type 1} → statement M
 four-spec =
     tie.close
     (tie.spec
-    (λ c. search needs)
-    (λ c. search needs)
-    (λ c. search needs)
-    (λ c. search needs)
-    (λ c. search needs)
-    (λ c. search needs)
-    (λ c. search needs)
-    (λ c. search needs)
     five-requires
     returns
     returns-2

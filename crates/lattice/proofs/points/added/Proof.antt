@@ -2,16 +2,17 @@
 use borrow.Author.Needs.{needs}
 use mathlib.Core.Path.{_∙_}
 use mir.Syntax.{w32}
+use Rattle.lattice.specs.Bounds.{summable}
 use Rattle.laws.specs.Machine.{Mx, back, need, whole, _+ᵐ_}
 use Rattle.lattice.specs.Points.{normalOf}
 use Rattle.lattice.proofs.points.added.Statement.{statement}
 use Rattle.lattice.proofs.points.added.Tie as tie
 
 abbrev across : tie.Start → Mx w32
-across s = whole (s .args .w .a) 1000000000 (s .pre .a) +ᵐ whole (s .args .w .x) 1000000000 (s .pre .x)
+across s = whole (s .args .w .a) summable (s .pre .a) +ᵐ whole (s .args .w .x) summable (s .pre .x)
 
 abbrev up : tie.Start → Mx w32
-up s = whole (s .args .w .b) 1000000000 (s .pre .b) +ᵐ whole (s .args .w .y) 1000000000 (s .pre .y)
+up s = whole (s .args .w .b) summable (s .pre .b) +ᵐ whole (s .args .w .y) summable (s .pre .y)
 
 add-normalise : tie.Need-add-normalise
 add-normalise c = need (across (c .before .before)) tt

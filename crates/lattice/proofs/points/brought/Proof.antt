@@ -7,7 +7,7 @@ use lib.IntN.{ℤ, pos, natAbs, _*ℤ_}
 use mir.Syntax.{w32}
 use mir.Val.{SFits, toZ, ofZ}
 use mir.Facts.{toZ-ofZ}
-use Rattle.lattice.specs.Bounds.{small-wide, small-high, pow-fits}
+use Rattle.lattice.specs.Bounds.{small-wide, small-high, pow-fits, summable}
 use Rattle.lattice.specs.Points.{pt}
 use Rattle.lattice.specs.Terms.{termsAt}
 use Rattle.lattice.specs.declared.points.Point.{Point}
@@ -15,7 +15,7 @@ use Rattle.lattice.proofs.points.brought.Statement.{statement}
 use Rattle.lattice.proofs.points.brought.Tie as tie
 
 -- what `times` asks at a power of 3, and what it then gives
-asked : {x s : ℤ} {i : ℕ} → SFits w32 x → s ≡ pos (3 ^ i) → i ≤ 7 → natAbs x * 3 ^ i ≤ 1000000000
+asked : {x s : ℤ} {i : ℕ} → SFits w32 x → s ≡ pos (3 ^ i) → i ≤ 7 → natAbs x * 3 ^ i ≤ summable
     → natAbs (toZ w32 (ofZ w32 x)) * natAbs (toZ w32 (ofZ w32 s)) < 2147483648
 asked {i = i} fx e h b = simp (toZ-ofZ fx, e, toZ-ofZ (pow-fits i h)) (omega arith)
 

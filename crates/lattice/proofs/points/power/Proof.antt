@@ -2,7 +2,6 @@
 use mathlib.Core.Path.{_≡_, sym, ap}
 use Prim.Native.Nat.{ℕ, _^_, _≤_, _<_}
 use native.Mathlib.Omega.{arith}
-use borrow.Author.Needs.{needs}
 use lib.IntN.{ℤ, pos}
 use Rattle.lattice.proofs.points.power.Statement.{statement}
 use Rattle.lattice.proofs.points.power.Tie as tie
@@ -19,8 +18,8 @@ past-six k h l a b c = omega arith
 
 returns-8 : tie.Need-returns-8
 returns-8 c =
-    let s = c .before .before in
-    let r = c .before .match .rest in
+    let s = c .before in
+    let r = c .match .rest in
     let k = s .args .k in
     let l : 4 ≤ k = past-three k (r .0 .0 .0 .0 .0 .0 .1) (r .0 .0 .0 .0 .0 .1) (r .0 .0 .0 .0 .1) (r .0 .0 .0 .1) in
     sym (ap of-three (past-six k (s .pre) l (r .0 .0 .1) (r .0 .1) (r .1)))
@@ -29,19 +28,11 @@ pub power-spec : {M : Type 1} → statement M
 power-spec =
     tie.close
     (tie.spec
-    (λ c. search needs)
-    (λ c. search needs)
-    (λ c. search needs)
-    (λ c. search needs)
-    (λ c. search needs)
-    (λ c. search needs)
-    (λ c. search needs)
-    (λ c. search needs)
-    (λ c. sym (ap of-three (c .before .match .keys1)))
-    (λ c. sym (ap of-three (c .before .match .keys2)))
-    (λ c. sym (ap of-three (c .before .match .keys3)))
-    (λ c. sym (ap of-three (c .before .match .keys4)))
-    (λ c. sym (ap of-three (c .before .match .keys5)))
-    (λ c. sym (ap of-three (c .before .match .keys6)))
-    (λ c. sym (ap of-three (c .before .match .keys7)))
+    (λ c. sym (ap of-three (c .match .keys1)))
+    (λ c. sym (ap of-three (c .match .keys2)))
+    (λ c. sym (ap of-three (c .match .keys3)))
+    (λ c. sym (ap of-three (c .match .keys4)))
+    (λ c. sym (ap of-three (c .match .keys5)))
+    (λ c. sym (ap of-three (c .match .keys6)))
+    (λ c. sym (ap of-three (c .match .keys7)))
     returns-8)

@@ -2,7 +2,6 @@
 use mathlib.Core.Path.{_≡_, sym, ap}
 use Prim.Native.Nat.{ℕ, _*_, _^_, _≤_}
 use native.Mathlib.Omega.{arith}
-use borrow.Author.Needs.{needs}
 use Rattle.lattice.proofs.records.range.Statement.{statement}
 use Rattle.lattice.proofs.records.range.Tie as tie
 
@@ -27,13 +26,6 @@ pub range-spec : {M : Type 1} → statement M
 range-spec =
     tie.close
     (tie.spec
-    (λ c. search needs)
-    (λ c. search needs)
-    (λ c. search needs)
-    (λ c. search needs)
-    (λ c. search needs)
-    (λ c. search needs)
-    (λ c. search needs)
     (λ c. sym (ap at-depth (c .match .keys1)))
     (λ c. sym (ap at-depth (c .match .keys2)))
     (λ c. sym (ap at-depth (c .match .keys3)))

@@ -8,7 +8,7 @@ use lib.IntN.{ℤ, natAbs}
 use mir.Syntax.{w32}
 use mir.Val.{toZ, ofZ}
 use mir.Facts.{toZ-ofZ}
-use Rattle.lattice.specs.Bounds.{small-a, small-b}
+use Rattle.lattice.specs.Bounds.{small-a, small-b, summable}
 use Rattle.lattice.specs.Ranks.{birthOf}
 use Rattle.lattice.specs.RankBounds.{birth-below}
 use Rattle.lattice.specs.declared.points.Point.{Point}
@@ -37,10 +37,10 @@ module _ (s : tie.Start) where
   b-is : b ≡ p .b
   b-is = toZ-ofZ (small-b p (s .pre .1 .0 .small))
 
-  sized : (natAbs a ≤ 1000000000) × (natAbs b ≤ 1000000000)
+  sized : (natAbs a ≤ summable) × (natAbs b ≤ summable)
   sized =
       let (x, y) = small-size p (s .pre .1 .0 .small) in
-      (subst (λ (z : ℤ). natAbs z ≤ 1000000000) (sym a-is) x, subst (λ (z : ℤ). natAbs z ≤ 1000000000) (sym b-is) y)
+      (subst (λ (z : ℤ). natAbs z ≤ summable) (sym a-is) x, subst (λ (z : ℤ). natAbs z ≤ summable) (sym b-is) y)
 
   end : (j e : ℕ) → e ≡ birthOf p + 4 * j → standAt t (stepEnd a b (p .m .0) e) ≡ parentAt t p j
   end j e h = (λ i. standAt t (stepEnd (a-is i) (b-is i) (p .m .0) (h i))) ∙ ap (standAt t) (parent-step p j (s .pre .1 .1))

@@ -3,19 +3,20 @@ use borrow.Author.Needs.{needs}
 use mathlib.Core.Path.{_∙_}
 use lib.IntN.{ℤ, _+ℤ_}
 use mir.Syntax.{w32}
+use Rattle.lattice.specs.Bounds.{summable}
 use Rattle.laws.specs.Machine.{Mx, whole, _+ᵐ_, need, back}
 use Rattle.lattice.specs.Points.{normalOf}
 use Rattle.local.proofs.steps.stepped.Statement.{statement}
 use Rattle.local.proofs.steps.stepped.Tie as tie
 
 abbrev x : tie.After-across → Mx w32
-x c = let s = c .before in whole (s .args .a) 1000000000 (s .pre .0 .0) +ᵐ whole (c .across .result) 2 (c .across .ensures .1)
+x c = let s = c .before in whole (s .args .a) summable (s .pre .0 .0) +ᵐ whole (c .across .result) 2 (c .across .ensures .1)
 
 add-lowest : tie.Need-add-lowest
 add-lowest c = need (x c) tt
 
 abbrev y : tie.After-up → Mx w32
-y c = let s = c .before .before in whole (s .args .b) 1000000000 (s .pre .0 .1) +ᵐ whole (c .up .result) 2 (c .up .ensures .1)
+y c = let s = c .before .before in whole (s .args .b) summable (s .pre .0 .1) +ᵐ whole (c .up .result) 2 (c .up .ensures .1)
 
 add-lowest-2 : tie.Need-add-lowest-2
 add-lowest-2 c = need (y c) tt

@@ -1,7 +1,7 @@
 -- `queries::put_answer` meets its promise. The invariant: so many numbers of the row are copied behind the answer's number. Assumes nothing.
 use mathlib.Core.Path.{_≡_, refl, ap, _∙_}
 use mathlib.Core.List.{List}
-use Prim.Native.Nat.{ℕ, suc, _≤_, _-_, _+_, _*_, _<_}
+use Prim.Native.Nat.{suc, _≤_, _-_, _+_, _*_, _<_}
 use native.Mathlib.Omega.{arith}
 use borrow.Author.Needs.{needs}
 use lib.IntN.{ℤ, pos}

@@ -3,9 +3,9 @@ use mathlib.Core.Path.{_≡_, refl, sym, _∙_, ap}
 use mathlib.Core.Bool.{Bool, false}
 use Prim.Native.Nat.{ℕ, _-_, _≤_}
 use native.Mathlib.Omega.{arith}
-use Rattle.laws.specs.Each.{at-among}
+use Rattle.laws.specs.Each.{at-among, among-more}
 use Rattle.table.specs.Slots.{slotAt}
-use Rattle.readers.specs.Keeps.{slotKeeps, tableKeeps, among-more}
+use Rattle.readers.specs.Keeps.{slotKeeps, tableKeeps}
 use Rattle.readers.proofs.redundant.keeps_redundant.Statement.{statement}
 use Rattle.readers.proofs.redundant.keeps_redundant.Tie as tie
 

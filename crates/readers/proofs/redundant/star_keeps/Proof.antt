@@ -3,10 +3,10 @@ use mathlib.Core.Path.{_≡_, refl, sym, _∙_, ap}
 use mathlib.Core.Bool.{Bool, false}
 use Prim.Native.Nat.{ℕ, _-_, _≤_}
 use native.Mathlib.Omega.{arith}
-use Rattle.laws.specs.Each.{at-among}
+use Rattle.laws.specs.Each.{at-among, among-more}
 use Rattle.lattice.specs.Stars.{adjacentAt}
 use Rattle.table.specs.Entries.{lookUp}
-use Rattle.readers.specs.Keeps.{isThree, starKeeps, among-more}
+use Rattle.readers.specs.Keeps.{isThree, starKeeps}
 use Rattle.readers.proofs.redundant.star_keeps.Statement.{statement}
 use Rattle.readers.proofs.redundant.star_keeps.Tie as tie
 
