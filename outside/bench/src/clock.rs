@@ -24,10 +24,6 @@ pub fn time<T>(f: impl FnOnce() -> T) -> Duration {
     start.elapsed()
 }
 
-pub fn least(rounds: usize, task: Timed) -> Duration {
-    (0..rounds).map(|_| task()).min().expect("a round")
-}
-
 impl Bench {
     pub fn new(rounds: usize) -> Bench {
         Bench { rounds, over: Over::default(), lines: Vec::new() }
