@@ -1,6 +1,6 @@
 -- Slots asked without a search, in a table in order: a slot that reads as a point's record holds it, unless the point's depth is 255, which a free slot
 -- reads as; and no point stands twice, so its search ends there.
--- `read-found`, `read-held` what a slot tells · `none-yet`, `none-more`, `guess-more` a group asked slot by slot.
+-- `read-found`, `read-held` what a slot tells. Of any bytes: `none-first`, `guess-more` a group asked slot by slot.
 -- Assumes nothing.
 use mathlib.Core.Path.{_≡_, refl, sym, ap, _∙_}
 use mathlib.Core.Bool.{Bool, true, false, cond}
@@ -62,10 +62,10 @@ module _ (t : List ℕ) (p : Point) where
 
 -- ---- a group
 
-pub none-yet : (t : List ℕ) (a b : ℤ) (h : ℕ) → NoneIn t a b h 0
-none-yet t a b h m j l = absurd (omega arith)
+pub none-first : (t : List ℕ) (a b : ℤ) (h : ℕ) → NoneIn t a b h 0
+none-first t a b h m j l = absurd (omega arith)
 
-pub none-more : (t : List ℕ) (a b : ℤ) (h k : ℕ) → NoneIn t a b h k → NoneIn t a b (h + k) 1 → NoneIn t a b h (k + 1)
+none-more : (t : List ℕ) (a b : ℤ) (h k : ℕ) → NoneIn t a b h k → NoneIn t a b (h + k) 1 → NoneIn t a b h (k + 1)
 none-more t a b h k f g m j l = go (decLt j k)
   where
     go : Dec (j < k) → readsAs t (pt a b m) (h + j) ≡ false

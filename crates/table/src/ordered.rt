@@ -22,8 +22,7 @@ use lattice::normalise;
 // The depth that a free slot's bytes read as. No record has it.
 const NO_DEPTH: u8 = 255;
 
-// Whether a record stands at [a, b, m]. In the most slots a group is asked first, from the home on, and nothing is divided: whatever slot it guesses is
-// tried.
+// Whether a record stands at [a, b, m]. In the most slots nothing is divided: the slot that a group from the home on guesses is tried first.
 pub fn stands(t: &[u8], a: i32, b: i32, m: u8, n: usize) -> bool
     requires { ⌜ Table (now t) n ⌝ }
     requires { ⌜ inOrderOf (now t) ≡ true ⌝ }

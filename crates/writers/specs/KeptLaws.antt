@@ -173,16 +173,16 @@ standing-length f i =
 
 -- ---- the longest line for each record suffices
 
-free-one : (s : Slot) → isFree s ≤ 1
-free-one Free = omega arith
-free-one (Holds r) = omega arith
+free-most : (s : Slot) → isFree s ≤ 1
+free-most Free = omega arith
+free-most (Holds r) = omega arith
 
 module _ (t : List ℕ) (o : InOrder t) (m : List ℕ) where
   slot-most : (i : ℕ) → i < slotsOf t → length (lines (listed (keptAt t m i))) + longest * isFree (slotAt t i) ≤ longest
   slot-most i l = go (keptAt t m i) refl
     where
       go : (s : Slot) → keptAt t m i ≡ s → length (lines (listed (keptAt t m i))) + longest * isFree (slotAt t i) ≤ longest
-      go Free e = let none = written-none (keptAt t m i) e in omega (arith, free-one (slotAt t i))
+      go Free e = let none = written-none (keptAt t m i) e in omega (arith, free-most (slotAt t i))
       go (Holds r) e =
           let one = written-one (keptAt t m i) r e in
           let taken = ap isFree (kept-part t m i r e) in

@@ -1,6 +1,6 @@
 -- Lines written from the last back, while the keys of those still to come stand sorted at the output's beginning.
 -- `fileOf` the file of what is kept · `Keyed` the keys stand there, no line does · `Left` k keys are left, the lines of the others stand from `at` on:
--- `left-start`, `left-top` the next key is the last of those left, `left-step`, `left-end`.
+-- `left-start`, `left-top` the next key is the last of those left, `left-step`, `left-end` · `file-most` the longest line for each record suffices.
 -- Assumes nothing.
 use mathlib.Core.Path.{_≡_, sym, ap, _∙_, subst}
 use mathlib.Core.Bool.{Bool, cond}

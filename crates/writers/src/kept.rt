@@ -60,7 +60,7 @@ pub fn file_length(table: &[u8], marks: &[u8; MARK_BYTES], n: usize) -> usize
 }
 
 // How many keys were stored, and the bytes of their lines.
-pub struct Laid {
+pub struct Amount {
     pub keys: usize,
     pub bytes: usize,
 }
@@ -73,20 +73,20 @@ fn put_kept(
     out: &mut [u8],
     k: usize,
     total: usize,
-) -> Laid
+) -> Amount
     requires { ⌜ InOrder (now table) × ((i < slotsOf (now table)) × (total ≤ longest * i)) ⌝ }
     requires { ⌜ keyWidth * (k + length (listed (keptAt (now table) (now marks) i))) ≤ length (now out) ⌝ }
     ensures { λ r. ⌜ Added (now (out .entry)) k (map keyFor (listed (keptAt (now (table .entry)) (now (marks .entry)) i))) (now (out .exit)) (r .keys) ⌝ }
     ensures { λ r. ⌜ r .bytes ≡ total + length (lines (listed (keptAt (now (table .entry)) (now (marks .entry)) i))) ⌝ }
 {
     match kept(table, marks, i) {
-        Slot::Free => Laid {
+        Slot::Free => Amount {
             keys: k,
             bytes: total,
         },
         Slot::Holds(r) => {
             put_key(out, k, pack(r));
-            Laid {
+            Amount {
                 keys: k + 1,
                 bytes: total + line_length(r),
             }
@@ -95,7 +95,7 @@ fn put_kept(
 }
 
 // Stores the keys of all that is written, and counts them and their lines.
-pub fn put_keys(table: &[u8], marks: &[u8; MARK_BYTES], n: usize, out: &mut [u8]) -> Laid
+pub fn put_keys(table: &[u8], marks: &[u8; MARK_BYTES], n: usize, out: &mut [u8]) -> Amount
     requires { ⌜ InOrder (now table) × (n ≡ slotsOf (now table)) ⌝ }
     requires { ⌜ keyWidth * length (standing (keptAt (now table) (now marks)) n) ≤ length (now out) ⌝ }
     ensures { λ r. ⌜ Filled (now (out .entry)) (map keyFor (standing (keptAt (now (table .entry)) (now (marks .entry))) n)) (now (out .exit)) (r .keys) ⌝ }
@@ -105,12 +105,12 @@ pub fn put_keys(table: &[u8], marks: &[u8; MARK_BYTES], n: usize, out: &mut [u8]
     let mut k = 0;
     let mut total = 0;
     while i < n {
-        let laid = put_kept(table, marks, i, out, k, total);
-        k = laid.keys;
-        total = laid.bytes;
+        let put = put_kept(table, marks, i, out, k, total);
+        k = put.keys;
+        total = put.bytes;
         i += 1;
     }
-    Laid {
+    Amount {
         keys: k,
         bytes: total,
     }

@@ -3,7 +3,7 @@
 // Two public calls answer every table and output: `write_full` and `write_reduced`. kept.rt goes through the slots, named.rt says which records
 // are left out, keys.rt has what they are sorted by, lines.rt writes. The promises cite specs/Files.
 ghost use mathlib.Core.Path.{_≡_};
-ghost use lib.Dec.{leb};
+ghost use lib.Dec.{ltb};
 ghost use lib.ListN.{length};
 ghost use Rattle.table.specs.Order.{InOrder};
 ghost use Rattle.table.specs.Slots.{slotsOf, freeSlots};
@@ -42,17 +42,16 @@ fn answer(number: u8, bytes: u64) -> Written
     Written { number, bytes }
 }
 
-// The file of the records that are not marked has at most so many bytes. The longest line for each record suffices; where there is less, the lines are
-// measured.
-fn fits(table: &[u8], marks: &[u8; MARK_BYTES], n: usize, free: usize, room: usize) -> bool
+// The file of the records that are not marked has more bytes than there is room for. With room for the longest lines nothing is measured.
+fn is_short(table: &[u8], marks: &[u8; MARK_BYTES], n: usize, free: usize, room: usize) -> bool
     requires { ⌜ InOrder (now table) × (n ≡ slotsOf (now table)) ⌝ }
     requires { ⌜ free ≡ freeSlots (now table) ⌝ }
-    ensures { λ v. ⌜ v ≡ leb (length (fileOf (now (table .entry)) (now (marks .entry)))) room ⌝ }
+    ensures { λ v. ⌜ v ≡ ltb room (length (fileOf (now (table .entry)) (now (marks .entry)))) ⌝ }
 {
     if LONGEST * (n - free) <= room {
-        return true;
+        return false;
     }
-    file_length(table, marks, n) <= room
+    room < file_length(table, marks, n)
 }
 
 // Writes that file, in a table with so many free slots.
@@ -67,13 +66,13 @@ fn write_kept(
     requires { ⌜ free ≡ freeSlots (now table) ⌝ }
     ensures { λ r. ⌜ outputAfter (r .number) (r .bytes) (now (out .exit)) ≡ putOf (fileOf (now (table .entry)) (now (marks .entry))) (now (out .entry)) ⌝ }
 {
-    if !fits(table, marks, n, free, out.len()) {
+    if is_short(table, marks, n, free, out.len()) {
         return answer(SHORT, 0);
     }
-    let laid = put_keys(table, marks, n, out);
-    sort(out, laid.keys);
-    write_lines(out, laid.keys, laid.bytes);
-    answer(DONE, laid.bytes as u64)
+    let put = put_keys(table, marks, n, out);
+    sort(out, put.keys);
+    write_lines(out, put.keys, put.bytes);
+    answer(DONE, put.bytes as u64)
 }
 
 // Writes the full file of a table: every record, in the order of lines. Refused with 1 or 13, no byte is changed; bytes past the file never are.

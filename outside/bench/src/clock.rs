@@ -24,6 +24,11 @@ pub fn time<T>(f: impl FnOnce() -> T) -> Duration {
     start.elapsed()
 }
 
+/// The lesser of each two times.
+pub fn lesser<const N: usize>(times: &mut [Duration; N], round: [Duration; N]) {
+    times.iter_mut().zip(round).for_each(|(least, time)| *least = time.min(*least));
+}
+
 impl Bench {
     pub fn new(rounds: usize) -> Bench {
         Bench { rounds, over: Over::default(), lines: Vec::new() }

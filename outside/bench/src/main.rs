@@ -33,7 +33,7 @@ const DEGREE: usize = 9;
 struct Words {
     rounds: usize,
     bars: bool,
-    openmesh: Option<OpenMesh>,
+    openmesh: Option<[String; 2]>,
 }
 
 fn words() -> Words {
@@ -43,8 +43,7 @@ fn words() -> Words {
         match &word[..] {
             "--bars" => words.bars = true,
             "--openmesh" => {
-                let (program, file) = (given.next().expect("a program"), given.next().expect("a file"));
-                words.openmesh = Some(OpenMesh::start(&program, &file));
+                words.openmesh = Some([given.next().expect("a program"), given.next().expect("a file")]);
             }
             "--sheet" => {
                 std::fs::write(given.next().expect("a file"), off(&published())).expect("the file is written");
@@ -76,8 +75,8 @@ fn main() {
     findings(&mut bench, table);
     bench.print();
     growth(&levels, &mut bench);
-    if let Some(openmesh) = words.openmesh {
-        beside(openmesh, &mut bench);
+    if let Some([program, file]) = words.openmesh {
+        beside(OpenMesh::start(&program, &file), &mut bench);
     }
     sizes(table);
     let over = &bench.over.0;
@@ -372,10 +371,10 @@ fn findings(bench: &mut Bench, table: &[u8]) {
 fn growth(levels: &[(Vec<u8>, Vec<i32>)], bench: &mut Bench) {
     let steps: Vec<Grown> = levels.windows(2).filter(|step| count(&step[1].0) >= 400).map(grown).collect();
     let mut rows = vec![[Duration::MAX; 5]; steps.len()];
+    let mut out = vec![1; 26 * MOST];
     for _ in 0..bench.rounds {
         for (step, row) in steps.iter().zip(&mut rows) {
-            let round = step.round();
-            *row = std::array::from_fn(|i| row[i].min(round[i]));
+            clock::lesser(row, step.round(&mut out));
         }
     }
     println!(
@@ -422,12 +421,12 @@ fn grown(step: &[(Vec<u8>, Vec<i32>)]) -> Grown {
 
 impl Grown {
     /// How long the five calls take.
-    fn round(&self) -> [Duration; 5] {
-        let (mut table, mut scratch, mut out) = (self.before.clone(), self.before.clone(), vec![0; 26 * self.vertices]);
+    fn round(&self, out: &mut [u8]) -> [Duration; 5] {
+        let (mut table, mut scratch) = (self.before.clone(), self.before.clone());
         [
             clock::time(|| assert_eq!(library::subdivide_all(&mut table, &self.list).0, 0)),
-            clock::time(|| assert_eq!(library::write_full(&self.after, &mut out).0, 0)),
-            clock::time(|| assert_eq!(library::write_reduced(&self.after, &mut out).0, 0)),
+            clock::time(|| assert_eq!(library::write_full(&self.after, out).0, 0)),
+            clock::time(|| assert_eq!(library::write_reduced(&self.after, out).0, 0)),
             clock::time(|| assert_eq!(library::read_full(&mut table, &mut scratch, &self.full).0, 0)),
             clock::time(|| assert_eq!(library::read_reduced(&mut table, &mut scratch, &self.reduced).0, 0)),
         ]
@@ -451,7 +450,7 @@ fn beside(mut openmesh: OpenMesh, bench: &mut Bench) {
             read,
             written,
         ];
-        times = std::array::from_fn(|i| times[i].min(round[i]));
+        clock::lesser(&mut times, round);
     }
     println!(
         "\nbeside OpenMesh, {vertices} vertices, nanoseconds a vertex\n  {:12} {:>8} {:>8} {:>14} {:>9}",

@@ -5,7 +5,7 @@ use Prim.Native.Nat.{ℕ, _≤_}
 use native.Mathlib.Omega.{arith}
 use lib.ListN.{length, length-map}
 use borrow.Author.Needs.{needs}
-use borrow.Author.Tests.{not-true, not-false, leb-true, leb-false}
+use borrow.Author.Tests.{ltb-true, ltb-false}
 use Rattle.table.specs.Slots.{slotsOf}
 use Rattle.writers.specs.Kept.{keptAt, standing, keyFor}
 use Rattle.writers.specs.KeptLaws.{Filled}
@@ -32,7 +32,7 @@ returns : tie.Need-returns
 returns c =
     let f = c .before .before in
     let s = f .before .before .before in
-    let short = leb-false (length (file s)) (length (o s)) (sym (f .fits2 .ensures) ∙ not-true (f .fits2 .result) (c .before .if1 .taken)) in
+    let short = ltb-true (length (o s)) (length (file s)) (sym (f .is-short .ensures) ∙ c .before .if1 .taken) in
     out-is (o s) (c .answer .ensures .0) (c .answer .ensures .1) ∙ put-short (t s) (m s) (o s) (length (file s)) refl (omega arith)
 
 -- the file has room
@@ -40,7 +40,7 @@ enough : (e : tie.Else1) → let s = e .before .before .before .before in length
 enough e =
     let f = e .before in
     let s = f .before .before .before in
-    leb-true (length (file s)) (length (o s)) (sym (f .fits2 .ensures) ∙ not-false (f .fits2 .result) (e .if1 .left))
+    ltb-false (length (o s)) (length (file s)) (sym (f .is-short .ensures) ∙ e .if1 .left)
 
 put-keys-requires : tie.Need-put-keys-requires
 put-keys-requires c κs =

@@ -32,7 +32,9 @@ mark-all-requires : tie.Need-mark-all-requires
 mark-all-requires c κs = let n = c .before in (ordered n, n .slots-of .ensures)
 
 write-kept-requires : tie.Need-write-kept-requires
-write-kept-requires c κs = let n = c .before .before .before .before in ((ordered n, n .slots-of .ensures), n .before .before .before .check-order .ensures .1 (found n))
+write-kept-requires c κs =
+    let n = c .before .before .before .before in
+    ((ordered n, n .slots-of .ensures), n .before .before .before .check-order .ensures .1 (found n))
 
 returns-2 : tie.Need-returns-2
 returns-2 c =

@@ -1,6 +1,6 @@
 -- `table::guess_in_group` meets its promise. The invariant: the guess, after the slots so far. Assumes nothing.
 use mathlib.Core.Path.{_≡_, sym, ap₂, _∙_}
-use Prim.Native.Nat.{ℕ, _+_, _-_, _≤_}
+use Prim.Native.Nat.{_+_, _-_, _≤_}
 use native.Mathlib.Omega.{arith}
 use borrow.Author.Needs.{needs}
 use lib.IntN.{ℤ}
@@ -9,7 +9,7 @@ use mir.Val.{toZ}
 use mir.ValLaws.{toZ-ofZ}
 use Rattle.lattice.specs.Points.{pt}
 use Rattle.table.specs.Reading.{group, readsAs, NoneIn}
-use Rattle.table.specs.GroupLaws.{none-yet, guess-more}
+use Rattle.table.specs.GroupLaws.{none-first, guess-more}
 use Rattle.table.proofs.groups.guess_in_group.Statement.{statement}
 use Rattle.table.proofs.groups.guess_in_group.Tie as tie
 
@@ -21,12 +21,12 @@ abbrev μ-loop : tie.MeasureT-loop
 μ-loop t a b h guess₀ k₀ guess k = group - k
 
 loop-holds : tie.Need-loop-holds Inv-loop μ-loop
-loop-holds c = ((omega arith, omega arith), λ e. none-yet _ _ _ _, omega arith)
+loop-holds c = ((omega arith, omega arith), λ e. none-first _ _ _ _, omega arith)
 
 loop-again : tie.Need-loop-again Inv-loop μ-loop
 loop-again c =
     let l = c .before .before in
-    let q = guess-more _ _ _ _ (l .loop .k) (l .loop .guess) (c .slot-if-begins .result) (omega arith) (l .loop .inv .0) (l .loop .inv .1) (c .slot-if-begins .ensures) in
+    let q = guess-more _ _ _ _ (l .loop .k) (l .loop .guess) _ (omega arith) (l .loop .inv .0) (l .loop .inv .1) (c .slot-if-begins .ensures) in
     (q .0, q .1, omega arith)
 
 returns : tie.Need-returns Inv-loop μ-loop

@@ -43,7 +43,7 @@ add-t16 c =
     let s = h .before .before .before .before .before in
     let t = s .args .table .now in
     let r = h .r .given .0 .0 in
-    let least = line-most r (kept-valid t (s .pre .0 .0) (s .args .marks .now) (s .args .i) r (s .pre .0 .1 .0) (holds h)) in
+    let most = line-most r (kept-valid t (s .pre .0 .0) (s .args .marks .now) (s .args .i) r (s .pre .0 .1 .0) (holds h)) in
     record { fits = omega (arith, c .line-length .ensures, s .pre .0 .1 .0, s .pre .0 .1 .1, s .pre .0 .0 .fits .most) }
 
 returns : tie.Need-returns
