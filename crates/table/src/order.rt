@@ -116,7 +116,7 @@ fn free_placed(t: &[u8], n: usize) -> Ordered
     Ordered { ok: true, free }
 }
 
-// `in_order` and `free_slots` together.
+// The same of any bytes.
 pub fn check_order(t: &[u8]) -> Ordered
     ensures { λ v. ⌜ v .ok ≡ inOrderOf (now (t .entry)) ⌝ }
     ensures { λ v. ⌜ (v .ok ≡ true → v .free ≡ freeSlots (now (t .entry))) ⌝ }
