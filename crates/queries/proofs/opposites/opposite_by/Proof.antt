@@ -1,5 +1,6 @@
 -- `queries::opposite_by` meets its promise: the first point where it is there, else the second if that is. Assumes nothing.
 use mathlib.Core.Path.{ap, sym, _∙_}
+use mathlib.Core.Bool.{true, false}
 use borrow.Author.Needs.{needs}
 use Rattle.lattice.specs.declared.patterns.Spot.the-variants.{At}
 use Rattle.lattice.specs.declared.points.Point.{Point}
