@@ -27,10 +27,11 @@ use Rattle.table.specs.MapLaws.{test-order, order-test, records-looked, looked-
 use Rattle.table.specs.declared.entries.Looked.{Looked}
 use Rattle.table.specs.declared.entries.Looked.the-variants.{Absent, Held}
 use Rattle.queries.specs.Queries.{facesOf}
-use Rattle.counts.specs.Counts.{facesAt, sameFace, countsOf}
-use Rattle.counts.specs.FaceLaws.{SameRound}
+use Rattle.firsts.specs.Faces.{facesAt, sameFace}
+use Rattle.firsts.specs.FaceLaws.{SameRound}
+use Rattle.firsts.specs.declared.faces.Face.{Face}
+use Rattle.counts.specs.Counts.{countsOf}
 use Rattle.counts.specs.declared.Counts.{Counts}
-use Rattle.counts.specs.declared.faces.Face.{Face}
 use Rattle.text.specs.Decimal.{digits, ended, feed}
 use Rattle.text.specs.LineOrder.{close}
 use Rattle.sorting.specs.SortLaws.{Rising, sort-length}

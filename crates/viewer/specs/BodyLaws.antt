@@ -15,8 +15,8 @@ use Rattle.laws.specs.Words.{wordAt}
 use Rattle.lattice.specs.declared.records.Record.{Record}
 use Rattle.table.specs.Slots.{slotsOf}
 use Rattle.table.specs.Order.{InOrder}
-use Rattle.counts.specs.Counts.{facesIn}
-use Rattle.counts.specs.declared.faces.Face.{Face}
+use Rattle.firsts.specs.Faces.{facesIn}
+use Rattle.firsts.specs.declared.faces.Face.{Face}
 use Rattle.sorting.specs.Sorting.{sortBy, keyWidth, keyIn, keysIn, Sorts}
 use Rattle.sorting.specs.SortLaws.{sort-length}
 use Rattle.sorting.specs.Tally.{nth}

@@ -15,8 +15,9 @@ use Rattle.table.specs.Slots.{slotsOf, slotAt}
 use Rattle.table.specs.Order.{InOrder, inOrderOf}
 use Rattle.table.specs.Entries.{listed, recordsOf, recordsBelow}
 use Rattle.lattice.specs.declared.records.Record.{Record}
-use Rattle.counts.specs.declared.faces.Face.{Face}
-use Rattle.counts.specs.Counts.{bit, each, facesAt, sameFace, differentAfter, facesIn, countsOf}
+use Rattle.firsts.specs.declared.faces.Face.{Face}
+use Rattle.firsts.specs.Faces.{bit, each, facesAt, sameFace, differentAfter, facesIn}
+use Rattle.counts.specs.Counts.{countsOf}
 use Rattle.writers.specs.Files.{sorted, before, outputAfter, putOf}
 use Rattle.writers.specs.Kept.{standing}
 use Rattle.mesh_faces.specs.MeshFaces.{onceAfter, meshFaces, tornOf}

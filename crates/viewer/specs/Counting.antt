@@ -11,7 +11,7 @@ use borrow.Author.Tests.{lt-ltb, le-ltb}
 use lib.Dec.{ltb}
 use lib.ListN.{length}
 use Rattle.laws.specs.Each.{never}
-use Rattle.counts.specs.Counts.{bit}
+use Rattle.firsts.specs.Faces.{bit}
 use Rattle.sorting.specs.Sorting.{insertBy, sortBy}
 use Rattle.sorting.specs.Tally.{nth}
 use Rattle.viewer.specs.Viewer.{howMany}

@@ -16,7 +16,8 @@ use Rattle.table.specs.Search.{homeOf, samePoint, searchFrom, findOf}
 use Rattle.table.specs.Order.{placedAt, allPlaced, inOrderOf}
 use Rattle.table.specs.Entries.{lookUp, enterOf, recordsBelow, recordsOf}
 use Rattle.queries.specs.Queries.{adjacentsThere, chosenAt, cornersThere}
-use Rattle.counts.specs.Counts.{differentAfter, gather, each, fits, sameFace, sameSide, ofDegree, numbers, countsOf}
+use Rattle.firsts.specs.Faces.{differentAfter, gather, each, fits, sameFace, sameSide}
+use Rattle.counts.specs.Counts.{ofDegree, numbers, countsOf}
 use Rattle.text.specs.Decimal.{digitsBy, digits}
 use Rattle.text.specs.LineOrder.{earlier}
 use Rattle.writers.specs.Files.{sorted, outputAfter, putOf}

@@ -19,8 +19,8 @@ use Rattle.table.specs.Order.{InOrder}
 use Rattle.table.specs.declared.slots.Slot.{Slot}
 use Rattle.table.specs.declared.slots.Slot.the-variants.{Free, Holds}
 use Rattle.table.specs.Entries.{listed, recordsOf}
+use Rattle.firsts.specs.declared.faces.Face.{Face}
 use Rattle.counts.specs.declared.Counts.{Counts}
-use Rattle.counts.specs.declared.faces.Face.{Face}
 use Rattle.text.specs.Decimal.{digits, ended, feed}
 use Rattle.text.specs.DecimalLaws.{digits-some, width-below}
 use Rattle.text.specs.LineOrder.{Close, close}
@@ -38,7 +38,7 @@ use Rattle.viewer.specs.Viewer.{letterV, headText, vertexMark, vertexTex
 use Rattle.viewer.specs.Packed.{packed, unpacked, Small, pack-rises, unpack-all}
 use Rattle.viewer.specs.Keyed.{recordIn, recordKeyed, keys-inside, keys-sorted}
 use Rattle.viewer.specs.Ranks.{keysOf, ordered, held-number}
-use Rattle.counts.specs.Counts.{gather}
+use Rattle.firsts.specs.Faces.{gather}
 use Rattle.mesh_faces.specs.Once.{Four, freshAt, freshStar, freshIn, freshSlot, freshBelow, fresh-more, gather-more}
 use Rattle.viewer.specs.Backward.{texts-map, texts-none, texts-one, texts-long}
 use Rattle.viewer.specs.declared.styles.Style.{Style}

@@ -17,7 +17,7 @@ use Rattle.table.specs.Entries.{lookUp, isHeld, holds, recordsOf}
 use Rattle.table.specs.MapLaws.{records-looked, looked-records, lookup-valid, lookup-point}
 use Rattle.table.specs.declared.entries.Looked.{Looked}
 use Rattle.table.specs.declared.entries.Looked.the-variants.{Absent, Held}
-use Rattle.counts.specs.Counts.{bit}
+use Rattle.firsts.specs.Faces.{bit}
 use Rattle.text.specs.LineOrder.{orderOf, Close, close, earlier, order-earlier}
 use Rattle.sorting.specs.SortLaws.{Rising}
 use Rattle.writers.specs.Files.{before, sorted}

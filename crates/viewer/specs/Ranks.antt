@@ -23,7 +23,7 @@ use Rattle.table.specs.declared.slots.Slot.{Slot}
 use Rattle.table.specs.declared.slots.Slot.the-variants.{Free, Holds}
 use Rattle.table.specs.declared.entries.Looked.{Looked}
 use Rattle.table.specs.declared.entries.Looked.the-variants.{Absent, Held}
-use Rattle.counts.specs.Counts.{bit}
+use Rattle.firsts.specs.Faces.{bit}
 use Rattle.text.specs.Decimal.{digits}
 use Rattle.text.specs.DecimalLaws.{digits-some, width-above, width-below}
 use Rattle.text.specs.LineOrder.{orders, orderOf, Close, close, earlier, order-earlier}

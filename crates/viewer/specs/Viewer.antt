@@ -13,10 +13,11 @@ use Rattle.lattice.specs.declared.points.Point.{Point}
 use Rattle.lattice.specs.declared.records.Record.{Record}
 use Rattle.table.specs.Order.{inOrderOf}
 use Rattle.table.specs.Entries.{recordsOf}
-use Rattle.counts.specs.Counts.{bit, countsOf}
+use Rattle.firsts.specs.Faces.{bit}
+use Rattle.counts.specs.Counts.{countsOf}
 use Rattle.mesh_faces.specs.MeshFaces.{meshFaces, tornOf}
+use Rattle.firsts.specs.declared.faces.Face.{Face}
 use Rattle.counts.specs.declared.Counts.{Counts}
-use Rattle.counts.specs.declared.faces.Face.{Face}
 use Rattle.text.specs.Decimal.{digits, ended, feed}
 use Rattle.text.specs.LineOrder.{earlier}
 use Rattle.sorting.specs.Sorting.{sortBy}

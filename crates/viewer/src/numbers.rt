@@ -5,7 +5,7 @@ ghost use mathlib.Core.List.{List};
 ghost use Prim.Native.Nat.{ℕ, _+_, _*_, _≤_, _<_};
 ghost use lib.Dec.{ltb, leb};
 ghost use lib.ListN.{length};
-ghost use Rattle.counts.specs.Counts.{bit};
+ghost use Rattle.firsts.specs.Faces.{bit};
 ghost use Rattle.table.specs.Slots.{slotsOf};
 ghost use Rattle.table.specs.Order.{InOrder};
 ghost use Rattle.text.specs.Decimal.{digits};

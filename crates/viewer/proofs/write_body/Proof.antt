@@ -7,7 +7,7 @@ use borrow.Author.Needs.{needs}
 use lib.Dec.{ltb}
 use lib.ListN.{length, take, drop}
 use Rattle.table.specs.Slots.{slotAt}
-use Rattle.counts.specs.declared.faces.Face.{Face}
+use Rattle.firsts.specs.declared.faces.Face.{Face}
 use Rattle.sorting.specs.Sorting.{sortBy, keyWidth}
 use Rattle.writers.specs.Kept.{places}
 use Rattle.writers.specs.KeptLaws.{Filled}

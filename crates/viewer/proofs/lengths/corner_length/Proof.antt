@@ -4,7 +4,7 @@ use mathlib.Core.List.{List, [], _∷_}
 use native.Mathlib.Omega.{arith}
 use borrow.Author.Needs.{needs}
 use lib.ListN.{length}
-use Rattle.counts.specs.declared.faces.Face.{Face}
+use Rattle.firsts.specs.declared.faces.Face.{Face}
 use Rattle.viewer.specs.Viewer.{texts}
 use Rattle.mesh_faces.specs.Once.{Four, freshOf, freshAt, fresh-four}
 use Rattle.viewer.specs.Lines.{faceLine, long-none, long-one}

@@ -5,8 +5,8 @@ use native.Mathlib.Omega.{arith}
 use borrow.Author.Needs.{needs}
 use lib.ListN.{length}
 use Rattle.lattice.specs.RecordLaws.{Inner}
-use Rattle.counts.specs.Counts.{gather}
-use Rattle.counts.specs.EarlierLaws.{star-inner, valid-degree}
+use Rattle.firsts.specs.Faces.{gather}
+use Rattle.firsts.specs.EarlierLaws.{star-inner, valid-degree}
 use Rattle.viewer.specs.Viewer.{texts}
 use Rattle.mesh_faces.specs.Once.{freshAt}
 use Rattle.viewer.specs.Lines.{faceLine, faceMost, star-start, star-more}

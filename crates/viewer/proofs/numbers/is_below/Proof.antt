@@ -4,7 +4,7 @@ use Prim.Native.Nat.{ℕ, _≤_}
 use native.Mathlib.Omega.{arith}
 use borrow.Author.Needs.{needs}
 use lib.Dec.{ltb}
-use Rattle.counts.specs.Counts.{bit}
+use Rattle.firsts.specs.Faces.{bit}
 use Rattle.text.specs.LineOrder.{Close, close}
 use Rattle.viewer.specs.Ranks.{slotBelow, belowAt}
 use Rattle.viewer.proofs.numbers.is_below.Statement.{statement}

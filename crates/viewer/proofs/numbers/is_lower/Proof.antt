@@ -6,7 +6,7 @@ use Prim.Native.Nat.{_≤_}
 use native.Mathlib.Omega.{arith}
 use lib.Dec.{ltb, leb}
 use mir.Val.{boolByte}
-use Rattle.counts.specs.Counts.{bit}
+use Rattle.firsts.specs.Faces.{bit}
 use Rattle.viewer.proofs.numbers.is_lower.Statement.{statement}
 use Rattle.viewer.proofs.numbers.is_lower.Tie as tie
 

@@ -4,7 +4,7 @@ use Prim.Native.Nat.{ℕ, _+_, _≤_, _<_}
 use native.Mathlib.Omega.{arith}
 use borrow.Author.Needs.{needs}
 use lib.Dec.{leb}
-use Rattle.counts.specs.Counts.{bit}
+use Rattle.firsts.specs.Faces.{bit}
 use Rattle.text.specs.LineOrder.{orders}
 use Rattle.viewer.specs.Ranks.{cuts-width}
 use Rattle.viewer.proofs.numbers.number_width.Statement.{statement}
