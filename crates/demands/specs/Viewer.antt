@@ -38,7 +38,8 @@ use Rattle.writers.specs.Files.{before, sorted, OutputAfter, outputAfter, putOf
 use Rattle.coordinates.specs.Coordinates.{acrossOf, nearX, nearY, coordinate, decimals, flat, blank, positionText}
 use Rattle.coordinates.specs.NearLaws.{InsideX, InsideY, x-inside, y-inside, x-one, y-one, x-zero, y-zero}
 use Rattle.mesh_faces.specs.MeshFaces.{meshFaces}
-use Rattle.viewer.specs.Viewer.{offStyle, objStyle, howMany, cornersOf, leastOf, faceCorners, headText, vertexMark, vertexText, faceText, texts}
+use Rattle.numbering.specs.Numbering.{howMany}
+use Rattle.viewer.specs.Viewer.{offStyle, objStyle, cornersOf, leastOf, faceCorners, headText, vertexMark, vertexText, faceText, texts}
 use Rattle.mesh_faces.specs.MeshFaces.{tornAt, tornOf}
 use Rattle.viewer.specs.Viewer.{viewerFile, viewOf, writeOffOf, writeObjOf}
 use Rattle.mesh_faces.specs.Once.{wholeCorner, torn-star}

@@ -22,7 +22,8 @@ use Rattle.text.specs.LineOrder.{earlier}
 use Rattle.writers.specs.Files.{sorted, outputAfter, putOf}
 use Rattle.mesh_faces.specs.MeshFaces.{onceAfter, tornOf}
 use Rattle.coordinates.specs.Coordinates.{rootFrom, rootOf, nearX, nearY, decimals, coordinate, positionText}
-use Rattle.viewer.specs.Viewer.{howMany, leastFirst, rises, headText, vertexText, faceText, texts, viewerFile, viewOf}
+use Rattle.numbering.specs.Numbering.{howMany}
+use Rattle.viewer.specs.Viewer.{leastFirst, rises, headText, vertexText, faceText, texts, viewerFile, viewOf}
 use Rattle.viewer.specs.Viewer.{offStyle, objStyle, corners, faceCorners, writeOffOf, writeObjOf}
 use Rattle.viewer.specs.CallLaws.{view-whole}
 use Rattle.viewer.specs.declared.styles.Style.{Style}

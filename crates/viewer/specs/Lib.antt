@@ -3,10 +3,6 @@ pub mod Viewer
 pub mod Examples
 -- a face's four numbers in one
 pub mod Packed
--- the vertices' keys, and their numbers
-pub mod Keyed
-pub mod Counting
-pub mod Ranks
 -- keys stored, and lines written from the last back
 pub mod Stored
 pub mod Backward

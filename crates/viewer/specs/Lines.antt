@@ -33,11 +33,13 @@ use Rattle.writers.specs.KeptLaws.{standing-more}
 use Rattle.coordinates.specs.Coordinates.{blank, positionText}
 use Rattle.coordinates.specs.TextLaws.{position-least}
 use Rattle.mesh_faces.specs.MeshFaces.{meshFaces}
-use Rattle.viewer.specs.Viewer.{cornersOf, nextFirst, isLeast, leastFirst, leastOf, rises, faceCorners, numberOf}
+use Rattle.numbering.specs.Numbering.{numberOf}
+use Rattle.viewer.specs.Viewer.{cornersOf, nextFirst, isLeast, leastFirst, leastOf, rises, faceCorners}
 use Rattle.viewer.specs.Viewer.{letterV, headText, vertexMark, vertexText, faceText, texts}
 use Rattle.viewer.specs.Packed.{packed, unpacked, Small, pack-rises, unpack-all}
-use Rattle.viewer.specs.Keyed.{recordIn, recordKeyed, keys-inside, keys-sorted}
-use Rattle.viewer.specs.Ranks.{keysOf, ordered, held-number}
+use Rattle.numbering.specs.Keyed.{recordIn, recordKeyed, keys-inside, keys-sorted}
+use Rattle.numbering.specs.Ranks.{keysOf, ordered, held-number}
+use Rattle.numbering.specs.Guesses.{faceLeast, vertexLeast}
 use Rattle.counts.specs.Counts.{gather}
 use Rattle.mesh_faces.specs.Once.{Four, freshAt, freshStar, freshIn, freshSlot, freshBelow, fresh-more, gather-more}
 use Rattle.viewer.specs.Backward.{texts-map, texts-none, texts-one, texts-long}
@@ -71,10 +73,7 @@ pub record Queue (s : Style) (ks o : List ℕ) (k end : ℕ) : Type 0 where
 
 -- ---- how long
 
--- the bytes of a face's shortest line, and of the longest: four numbers of five digits
-abbrev pub faceLeast : ℕ
-faceLeast = 10
-
+-- the bytes of a face's longest line: four numbers of five digits
 abbrev pub faceMost : ℕ
 faceMost = 26
 
@@ -82,10 +81,7 @@ faceMost = 26
 abbrev pub starMost : ℕ
 starMost = 6 * faceMost
 
--- the bytes of a vertex's shortest line; no line of a vertex is longer, and no head
-abbrev pub vertexLeast : ℕ
-vertexLeast = 21
-
+-- no line of a vertex is longer, and no head
 abbrev pub vertexMost : ℕ
 vertexMost = 43
 

@@ -1,27 +1,27 @@
 -- Document 02, ticket 5: "OFF files for the viewer", and OBJ files. What the promises cite: `writeOffOf`, `writeObjOf`, which
 -- are `viewOf` at `offStyle` and at `objStyle`.
 -- What the two formats share is said once, over a `Style`: a head or none, `v` before a vertex or nothing, what stands before a face, the first number.
--- `numberOf` a vertex's number · `cornersOf` the four numbers of a face, `leastFirst` turned, `faceCorners` all in their order · `headText`, `vertexText`,
--- `faceText` the lines · `viewerFile` the file · `viewOf` what the call does. Each face once, and which vertex is torn: `mesh_faces`' MeshFaces.
+-- `cornersOf` the four numbers of a face, `leastFirst` turned, `faceCorners` all in their order · `headText`, `vertexText`, `faceText` the lines ·
+-- `viewerFile` the file · `viewOf` what the call does. A vertex's number: `numbering`'s Numbering. Each face once, and which vertex is torn: `mesh_faces`'
+-- MeshFaces.
 -- Assumes nothing.
 use mathlib.Core.Bool.{Bool, true, false, cond, not, _&&_, _||_}
 use mathlib.Core.List.{List, [], _∷_, _++_, map}
 use Prim.Native.Nat.{ℕ, _+_}
 use lib.Dec.{eqb, ltb, leb}
 use Rattle.laws.specs.Choices.{unless}
-use Rattle.lattice.specs.declared.points.Point.{Point}
 use Rattle.lattice.specs.declared.records.Record.{Record}
 use Rattle.table.specs.Order.{inOrderOf}
 use Rattle.table.specs.Entries.{recordsOf}
-use Rattle.counts.specs.Counts.{bit, countsOf}
+use Rattle.counts.specs.Counts.{countsOf}
 use Rattle.mesh_faces.specs.MeshFaces.{meshFaces, tornOf}
 use Rattle.counts.specs.declared.Counts.{Counts}
 use Rattle.counts.specs.declared.faces.Face.{Face}
 use Rattle.text.specs.Decimal.{digits, ended, feed}
-use Rattle.text.specs.LineOrder.{earlier}
 use Rattle.sorting.specs.Sorting.{sortBy}
 use Rattle.writers.specs.Files.{sorted, OutputAfter, outputAfter, putOf}
 use Rattle.coordinates.specs.Coordinates.{blank, positionText}
+use Rattle.numbering.specs.Numbering.{numberOf}
 use Rattle.viewer.specs.declared.styles.Style.{Style}
 use Rattle.viewer.specs.declared.corners.Corners.{Corners}
 
@@ -47,17 +47,6 @@ offStyle = record { head = true; marked = false; face = digit4; first = 0 }
 -- "OBJ has the same lines with `v` before the coordinates and `f` for the 4, no head, numbers from 1"
 abbrev pub objStyle : Style
 objStyle = record { head = false; marked = true; face = letterF; first = 1 }
-
--- ---- numbers
-
--- how many elements of a list pass a test
-unfoldable pub howMany : {A : Type 0} → (A → Bool) → List A → ℕ
-howMany test [] = 0
-howMany test (x ∷ xs) = bit (test x) + howMany test xs
-
--- "Numbers run from 0 in full-file order": how many vertices come earlier in the full file
-abbrev pub numberOf : List ℕ → Point → ℕ
-numberOf t p = howMany (λ r. earlier (r .at) p) (recordsOf t)
 
 -- ---- faces
 

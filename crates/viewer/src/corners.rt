@@ -3,7 +3,7 @@ ghost use mathlib.Core.Path.{_≡_};
 ghost use Prim.Native.Nat.{_<_};
 ghost use Rattle.viewer.specs.Viewer.{corners, isLeast, nextFirst, leastFirst};
 ghost use Rattle.viewer.specs.Packed.{packed, unpacked, Small};
-use crate::numbers::PLACES;
+use numbering::PLACES;
 
 // The numbers of a face's vertices, in their order round.
 pub struct Corners {

@@ -10,8 +10,9 @@ use Rattle.table.specs.Order.{InOrder}
 use Rattle.table.specs.Entries.{holds}
 use Rattle.text.specs.LineOrder.{Close}
 use Rattle.writers.specs.Kept.{places}
-use Rattle.viewer.specs.Viewer.{numberOf, cornersOf}
-use Rattle.viewer.specs.Ranks.{Cuts, held-close, held-number}
+use Rattle.numbering.specs.Numbering.{numberOf}
+use Rattle.viewer.specs.Viewer.{cornersOf}
+use Rattle.numbering.specs.Ranks.{Cuts, held-close, held-number}
 use Rattle.mesh_faces.specs.Once.{Four}
 use Rattle.viewer.specs.Lines.{face-long}
 use Rattle.viewer.proofs.lengths.face_length.Statement.{statement}

@@ -10,7 +10,7 @@ use Rattle.table.specs.declared.slots.Slot.the-variants.{Holds}
 use Rattle.text.specs.LineOrder.{close}
 use Rattle.sorting.specs.Keys.{Put}
 use Rattle.writers.specs.Kept.{places, Added}
-use Rattle.viewer.specs.Keyed.{keyOf, keyed}
+use Rattle.numbering.specs.Keyed.{keyOf, keyed}
 use Rattle.viewer.proofs.lines.put_vertex.Statement.{statement}
 use Rattle.viewer.proofs.lines.put_vertex.Tie as tie
 

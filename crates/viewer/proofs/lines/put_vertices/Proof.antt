@@ -5,7 +5,7 @@ use native.Mathlib.Omega.{arith}
 use borrow.Author.Needs.{needs}
 use Rattle.table.specs.Slots.{slotAt}
 use Rattle.writers.specs.KeptLaws.{Filled, filled-none}
-use Rattle.viewer.specs.Keyed.{keysBelow, keys-none, keys-room, filled-more}
+use Rattle.numbering.specs.Keyed.{keysBelow, keys-none, keys-room, filled-more}
 use Rattle.viewer.proofs.lines.put_vertices.Statement.{statement}
 use Rattle.viewer.proofs.lines.put_vertices.Tie as tie
 

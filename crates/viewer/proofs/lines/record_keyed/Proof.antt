@@ -1,7 +1,7 @@
 -- `viewer::lines::record_keyed` meets its promise. Assumes nothing.
 use mathlib.Core.Path.{sym, _∙_, ap}
 use borrow.Author.Needs.{needs}
-use Rattle.viewer.specs.Keyed.{recordIn}
+use Rattle.numbering.specs.Keyed.{recordIn}
 use Rattle.viewer.proofs.lines.record_keyed.Statement.{statement}
 use Rattle.viewer.proofs.lines.record_keyed.Tie as tie
 

@@ -11,7 +11,8 @@ use Rattle.sorting.specs.Tally.{nth}
 use Rattle.viewer.specs.Viewer.{texts}
 use Rattle.viewer.specs.Packed.{unpacked}
 use Rattle.viewer.specs.Backward.{Left, left-start, left-room, left-top, left-place, left-step, left-end}
-use Rattle.viewer.specs.Lines.{faceLeast, keyLine, Queue, face-least}
+use Rattle.numbering.specs.Guesses.{faceLeast}
+use Rattle.viewer.specs.Lines.{keyLine, Queue, face-least}
 use Rattle.viewer.specs.declared.styles.Style.{Style}
 use Rattle.viewer.proofs.lines.write_faces.Statement.{statement}
 use Rattle.viewer.proofs.lines.write_faces.Tie as tie

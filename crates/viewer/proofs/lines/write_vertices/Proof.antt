@@ -12,11 +12,12 @@ use Rattle.table.specs.Slots.{slotWidth}
 use Rattle.text.specs.LineOrder.{Close}
 use Rattle.sorting.specs.Tally.{nth}
 use Rattle.writers.specs.Kept.{places}
-use Rattle.viewer.specs.Keyed.{recordKeyed}
+use Rattle.numbering.specs.Keyed.{recordKeyed}
 use Rattle.viewer.specs.Viewer.{vertexText, texts}
-use Rattle.viewer.specs.Ranks.{ordered}
+use Rattle.numbering.specs.Ranks.{ordered}
 use Rattle.viewer.specs.Backward.{Left, left-start, left-room, left-top, left-place, left-step, left-end}
-use Rattle.viewer.specs.Lines.{vertexLeast, vertexLine, vertex-least, ordered-inside, keyed-close}
+use Rattle.numbering.specs.Guesses.{vertexLeast}
+use Rattle.viewer.specs.Lines.{vertexLine, vertex-least, ordered-inside, keyed-close}
 use Rattle.viewer.specs.declared.styles.Style.{Style}
 use Rattle.viewer.proofs.lines.write_vertices.Statement.{statement}
 use Rattle.viewer.proofs.lines.write_vertices.Tie as tie
