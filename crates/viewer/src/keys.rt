@@ -16,11 +16,8 @@ ghost use Rattle.sorting.specs.Sorting.{keyWidth};
 ghost use Rattle.mesh_faces.specs.MeshFaces.{tornOf};
 ghost use Rattle.numbering.specs.Ranks.{Stand};
 ghost use Rattle.mesh_faces.specs.Once.{freshAt, freshStar, freshSlot, freshBelow, Four};
-ghost use Rattle.viewer.specs.Lines.{faceKey};
+ghost use Rattle.viewer_lines.specs.Lines.{faceKey};
 ghost use Rattle.viewer.specs.BodyLaws.{FacesIn};
-use crate::corners::Corners;
-use crate::corners::least_first;
-use crate::corners::pack;
 use counts::Face;
 use counts::Placed;
 use counts::next_placed;
@@ -36,6 +33,9 @@ use numbering::number_near;
 use sorting::put_key;
 use table::Slot;
 use table::read_slot;
+use viewer_lines::Corners;
+use viewer_lines::least_first;
+use viewer_lines::pack;
 
 // The key of a face, by the k sorted keys of the vertices and the guesses for its slots.
 fn face_key(
