@@ -14,15 +14,10 @@ ghost use Rattle.firsts.specs.Earlier.{placedOf, plainAt, plainOf};
 ghost use Rattle.firsts.specs.declared.faces.Face.{Face};
 ghost use Rattle.sorting.specs.Sorting.{keyWidth};
 ghost use Rattle.mesh_faces.specs.MeshFaces.{tornOf};
-ghost use Rattle.viewer.specs.Ranks.{Stand};
+ghost use Rattle.numbering.specs.Ranks.{Stand};
 ghost use Rattle.mesh_faces.specs.Once.{freshAt, freshStar, freshSlot, freshBelow, Four};
-ghost use Rattle.viewer.specs.Lines.{faceKey};
+ghost use Rattle.viewer_lines.specs.Lines.{faceKey};
 ghost use Rattle.viewer.specs.BodyLaws.{FacesIn};
-use crate::corners::Corners;
-use crate::corners::least_first;
-use crate::corners::pack;
-use crate::guesses::guess;
-use crate::numbers::number_near;
 use firsts::Face;
 use firsts::Placed;
 use firsts::next_placed;
@@ -33,9 +28,14 @@ use lattice::point_at;
 use lattice::ring;
 use mesh_faces::Fresh;
 use mesh_faces::fresh_between;
+use numbering::guess;
+use numbering::number_near;
 use sorting::put_key;
 use table::Slot;
 use table::read_slot;
+use viewer_lines::Corners;
+use viewer_lines::least_first;
+use viewer_lines::pack;
 
 // The key of a face, by the k sorted keys of the vertices and the guesses for its slots.
 fn face_key(
