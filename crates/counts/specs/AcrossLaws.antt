@@ -31,9 +31,9 @@ use Rattle.lattice.specs.declared.patterns.Spot.{Spot}
 use Rattle.lattice.specs.declared.patterns.Spot.the-variants.{At, Nothing}
 use Rattle.geometry.specs.GeometryLaws.{Same, step-told, sum-same, scale-lift, low-normal}
 use Rattle.queries.specs.Queries.{there, chosenAt}
-use Rattle.counts.specs.Counts.{nextPlace}
 use Rattle.across.specs.Across.{Factor, factorOf, acrossOf}
 use Rattle.across.specs.OppositeLaws.{oppositeOf, Opposite, chosen-opposite, adjacent-depth, opposite-depth, adjacent-bound, opposite-bound}
+use Rattle.firsts.specs.Faces.{nextPlace}
 
 -- ---- what the pattern table says, at each orientation
 

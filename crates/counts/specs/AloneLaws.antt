@@ -1,7 +1,7 @@
 -- What is counted turns on the records alone, not on the slots in which they stand: `counts-alone`.
 --
 -- Two tables in order that hold the same at every point have the same records, each with the same faces (`faces-same`), and so the same faces and sides
--- in another order: as many different ones (SetLaws). The records of a degree are the different ones among these, no point standing twice
+-- in another order: as many different ones (SetLaws of `firsts`). The records of a degree are the different ones among these, no point standing twice
 -- (`degree-different`).
 -- Assumes nothing.
 use mathlib.Core.Path.{_≡_, refl, sym, ap, _∙_}
@@ -26,15 +26,15 @@ use Rattle.table.specs.MapLaws.{same-refl, same-true, records-looked, looked-re
 use Rattle.table.specs.declared.slots.Slot.{Slot}
 use Rattle.table.specs.declared.slots.Slot.the-variants.{Free, Holds}
 use Rattle.queries.specs.Queries.{there, chosenAt}
-use Rattle.counts.specs.Counts.{bit, differentAfter, different, gather, each, faceWith, facesAt, sameFace, sidesOf, sameSide, numbers}
-use Rattle.counts.specs.Counts.{edgesIn, facesIn, degreeIn, countsOf}
-use Rattle.counts.specs.Earlier.{slotSum, noDegree, degreeAt, slotDegree}
-use Rattle.counts.specs.DifferentLaws.{sum-each, some-one, some-none, some-same, some-over, some-each, different-nothing, different-one}
-use Rattle.counts.specs.DifferentLaws.{different-slots}
-use Rattle.counts.specs.SetLaws.{Alike, different-set}
-use Rattle.counts.specs.EarlierLaws.{other-point, slots-pass}
+use Rattle.firsts.specs.Faces.{bit, differentAfter, different, gather, each, faceWith, facesAt, sameFace, sidesOf, sameSide, facesIn}
+use Rattle.firsts.specs.Earlier.{slotSum}
+use Rattle.firsts.specs.DifferentLaws.{sum-each, some-one, some-none, some-same, some-over, some-each, different-nothing, different-one, different-slots}
+use Rattle.firsts.specs.SetLaws.{Alike, different-set}
+use Rattle.firsts.specs.EarlierLaws.{other-point, slots-pass}
+use Rattle.firsts.specs.SameLaws.{sides-alike, faces-alike}
+use Rattle.counts.specs.Counts.{numbers, edgesIn, degreeIn, countsOf}
+use Rattle.counts.specs.Counted.{noDegree, degreeAt, slotDegree}
 use Rattle.counts.specs.DegreeLaws.{degree-counted}
-use Rattle.counts.specs.SameLaws.{sides-alike, faces-alike}
 
 -- ---- the records of a degree are the different ones
 

@@ -1,12 +1,11 @@
 -- Each side of the faces is counted once: `edges-counted`. Where a face was counted before, its far sides that are not wide need not be looked at:
 -- `far-spared`.
 --
--- Put all near sides first, then the far ones whose vertex stands at an apex of them (wide), then the other far ones (NearFarLaws). A near side was there
--- before exactly where its other end stands earlier and has it (`nears-told`). A far side was there before where one of its ends has it, in whatever slot;
--- a wide one else where a vertex at the other apex stands earlier and has it (`wides-told`); another one else where a vertex at an apex has it, in
--- whatever slot, or a vertex across from it stands earlier and has it (`fars-told`), which can stand at sixteen places only (AcrossLaws). In one star the
--- near sides are different, and so are the far ones. Where the apexes lie does not matter here: any place that p and q determine would do, with that of q
--- and p.
+-- Put all near sides first, then the far ones whose vertex stands at an apex of them (wide), then the other far ones (NearFarLaws of `firsts`). A near side
+-- was there before exactly where its other end stands earlier and has it (`nears-told`). A far side was there before where one of its ends has it, in whatever
+-- slot; a wide one else where a vertex at the other apex stands earlier and has it (`wides-told`); another one else where a vertex at an apex has it, in
+-- whatever slot, or a vertex across from it stands earlier and has it (`fars-told`), which can stand at sixteen places only (AcrossLaws). In one star the near
+-- sides are different, and so are the far ones. Where the apexes lie does not matter here: any place that p and q determine would do, with that of q and p.
 -- Assumes nothing.
 use mathlib.Core.Path.{_≡_, refl, sym, ap, _∙_, subst}
 use mathlib.Core.Logic.{_⊎_, inl, inr}
@@ -35,22 +34,23 @@ use Rattle.table.specs.MapLaws.{same-refl, same-true}
 use Rattle.table.specs.declared.slots.Slot.{Slot}
 use Rattle.table.specs.declared.slots.Slot.the-variants.{Free, Holds}
 use Rattle.queries.specs.Queries.{chosenAt}
-use Rattle.counts.specs.Counts.{bit, differentAfter, gather, each, nextPlace, facesAt, sameFace, Side, side}
-use Rattle.counts.specs.Counts.{sidesOf, sameSide, edgesIn}
 use Rattle.across.specs.Across.{factorOf, acrossOf, apexOf}
-use Rattle.counts.specs.Earlier.{sumBelow, slotSum, faced, hasNear, nearIn, nearBefore, nearCount, hasFar, farSeen, farBefore, hasEither, apexSeen}
-use Rattle.counts.specs.Earlier.{endHas, isWide, narrowElse, acrossElse, farOne, Spared, farAt, farCount, starSides, slotSides, faceOn, faceBefore}
-use Rattle.counts.specs.DifferentLaws.{slotTest, sum-plus, sum-each, some-one, some-none, some-gather, some-each}
-use Rattle.counts.specs.DifferentLaws.{different-nothing, different-one, different-place, different-append, different-star, different-slots}
-use Rattle.counts.specs.EarlierLaws.{Passes, passes-too, valid-inner, other-point, star-inner, earlier-yes, yes-earlier, slots-pass, pass-slots}
-use Rattle.counts.specs.StarLaws.{adjacent-away}
+use Rattle.firsts.specs.Faces.{bit, differentAfter, gather, each, nextPlace, facesAt, sameFace, Side, side, sidesOf, sameSide}
+use Rattle.firsts.specs.Earlier.{sumBelow, slotSum, faced, hasNear, nearIn, nearBefore, hasFar, endHas, faceOn, faceBefore}
+use Rattle.firsts.specs.DifferentLaws.{slotTest, sum-plus, sum-each, some-one, some-none, some-gather, some-each, different-nothing, different-one}
+use Rattle.firsts.specs.DifferentLaws.{different-place, different-append, different-star, different-slots}
+use Rattle.firsts.specs.EarlierLaws.{Passes, passes-too, valid-inner, other-point, star-inner, earlier-yes, yes-earlier, slots-pass, pass-slots}
+use Rattle.firsts.specs.StarLaws.{adjacent-away}
+use Rattle.firsts.specs.FaceLaws.{next-below, gives-makes, face-before}
+use Rattle.firsts.specs.declared.faces.Face.{Face}
+use Rattle.firsts.specs.SameLaws.{side-same, side-self, swap-right, same-sides}
+use Rattle.firsts.specs.NearFarLaws.{one-of, left-of, right-of, nearWith, Kind, every, taken, farWith, nearPlace, farPlace, nearsAt, farsAt, NearSide, near-has}
+use Rattle.firsts.specs.NearFarLaws.{has-near, near-gives, gives-near, FarSide, far-has, has-far, far-two, far-gives, gives-far, nearAt, isFar, sideIn, four-of}
+use Rattle.firsts.specs.NearFarLaws.{corner-gives, record-sides, other, each-kinds, all-sides}
+use Rattle.counts.specs.Counts.{edgesIn}
+use Rattle.counts.specs.Counted.{nearCount, farSeen, farBefore, hasEither, apexSeen, isWide, narrowElse, acrossElse, farOne, Spared, farAt, farCount}
+use Rattle.counts.specs.Counted.{starSides, slotSides}
 use Rattle.counts.specs.AcrossLaws.{IsAcross, adjacent-opposite, opposite-apart, across-before, across-after}
-use Rattle.counts.specs.FaceLaws.{next-below, gives-makes, face-before}
-use Rattle.counts.specs.declared.faces.Face.{Face}
-use Rattle.counts.specs.SameLaws.{side-same, side-self, swap-right, same-sides}
-use Rattle.counts.specs.NearFarLaws.{one-of, left-of, right-of, nearWith, Kind, every, taken, farWith, nearPlace, farPlace, nearsAt, farsAt}
-use Rattle.counts.specs.NearFarLaws.{NearSide, near-has, has-near, near-gives, gives-near, FarSide, far-has, has-far, far-two, far-gives, gives-far}
-use Rattle.counts.specs.NearFarLaws.{nearAt, isFar, sideIn, four-of, corner-gives, record-sides, other, each-kinds, all-sides}
 
 -- ---- apexes
 

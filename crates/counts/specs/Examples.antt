@@ -14,7 +14,8 @@ use Rattle.table.specs.Search.{homeOf, samePoint, searchFrom, findOf}
 use Rattle.table.specs.Entries.{lookUp, enterOf, recordsBelow}
 use Rattle.base.specs.Base.{listedIn, firstBad, internal, cornerRecord, hexagonOf, layHexagon, layAll, laidOf, baseOf}
 use Rattle.queries.specs.Queries.{chosenAt}
-use Rattle.counts.specs.Counts.{differentAfter, gather, each, sameSide, fits, sameFace, ofDegree, numbers, countsOf}
+use Rattle.firsts.specs.Faces.{differentAfter, gather, each, sameSide, fits, sameFace}
+use Rattle.counts.specs.Counts.{ofDegree, numbers, countsOf}
 
 -- the base of these centres, in 16 slots
 laid : List ℤ → List ℕ

@@ -1,38 +1,22 @@
 // What a census counts of a table: document 01's V, F and the records by degree, and E in document 02's sense, the sides of the faces.
 //
-// `survey` gives them all. corners.rt counts each face and each side once, at the first vertex that has it (faces.rt, sides.rt), with no memory but a few
-// words; what the other vertices of a face have of it is asked of their strides first (fits.rt, strides.rt). The floor above takes each face once in the
-// same way.
+// `survey` gives them all. corners.rt counts each face and each side once, at the first vertex that has it (`firsts`, sides.rt), with no memory but a few
+// words.
 // The promise cites specs/Counts.
 ghost use mathlib.Core.Path.{_≡_};
 ghost use Rattle.table.specs.Slots.{slotsOf};
 ghost use Rattle.table.specs.Order.{InOrder};
+ghost use Rattle.firsts.specs.Earlier.{plainOf};
 ghost use Rattle.counts.specs.Counts.{countsOf};
-ghost use Rattle.counts.specs.Earlier.{plainOf};
 
-mod choices;
 mod corners;
 mod degrees;
-mod earlier;
-mod faces;
-mod fits;
 mod sides;
-mod strides;
 
 use crate::corners::count_corners;
-pub use choices::Choice;
-pub use choices::choose;
 pub use degrees::Degrees;
 pub use degrees::count_degrees;
 pub use degrees::one_if;
-pub use earlier::Placed;
-pub use earlier::inner_before;
-pub use earlier::next_placed;
-pub use earlier::with_slot;
-pub use faces::Face;
-pub use faces::face_seen;
-pub use faces::next_place;
-pub use fits::fits_of;
 
 // The numbers of a census: V, E, F, and the records by degree.
 pub struct Counts {

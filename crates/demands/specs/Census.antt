@@ -5,15 +5,16 @@
 -- `records-by-degree` V is the sum of the records by degree · `counts-alone` two tables in order with the same look-ups have the same counts: they turn
 -- on the records alone, not on their slots.
 -- Assumes nothing.
-pub use Rattle.counts.specs.SameLaws.{side-same, side-self, swap-right, same-sides, sides-alike, faces-alike}
-pub use Rattle.counts.specs.SetLaws.{Alike, different-set}
+pub use Rattle.firsts.specs.SameLaws.{side-same, side-self, swap-right, same-sides, sides-alike, faces-alike}
+pub use Rattle.firsts.specs.SetLaws.{Alike, different-set}
 pub use Rattle.counts.specs.AloneLaws.{counts-alone}
 use mathlib.Core.Path.{_≡_, refl}
 use mathlib.Core.List.{List}
 use Prim.Native.Nat.{ℕ, _+_}
 use Rattle.table.specs.Order.{InOrder}
 use Rattle.table.specs.Entries.{recordsOf}
-use Rattle.counts.specs.Counts.{different, each, facesAt, sameFace, sidesOf, sameSide, countsOf}
+use Rattle.firsts.specs.Faces.{different, each, facesAt, sameFace, sidesOf, sameSide}
+use Rattle.counts.specs.Counts.{countsOf}
 use Rattle.counts.specs.DegreeLaws.{degrees-all}
 
 module _ (t : List ℕ) where

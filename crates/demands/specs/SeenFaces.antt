@@ -27,7 +27,7 @@ use Rattle.lattice.specs.declared.patterns.Spot.{Spot}
 use Rattle.lattice.specs.declared.patterns.Spot.the-variants.{At, Nothing}
 use Rattle.geometry.specs.GeometryLaws.{low-normal, scale-lift, sum-same, sum-sum}
 use Rattle.geometry.specs.StarSteps.{turnOf, downOf}
-use Rattle.counts.specs.Counts.{nextPlace}
+use Rattle.firsts.specs.Faces.{nextPlace}
 
 -- the face x, a, o, w, as a vertex at a has it: "Its face is v, adjacent j, opposite j, next adjacent."
 pub record Seen (x a o w : Point) : Type 0 where

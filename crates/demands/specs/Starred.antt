@@ -29,7 +29,8 @@ use Rattle.writers.specs.Files.{redundant, leaveOut, reducedFile}
 use Rattle.text.specs.Decimal.{digits, digitsBy}
 use Rattle.text.specs.Line.{pointText, starText, lineOf, lines}
 use Rattle.text.specs.LineCount.{linesIn}
-use Rattle.counts.specs.Counts.{differentAfter, gather, each, sameSide, fits, sameFace, ofDegree, countsOf}
+use Rattle.firsts.specs.Faces.{differentAfter, gather, each, sameSide, fits, sameFace}
+use Rattle.counts.specs.Counts.{ofDegree, countsOf}
 use Rattle.counts.specs.declared.Counts.{Counts}
 
 -- ---- what is compared: whole numbers

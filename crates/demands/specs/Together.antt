@@ -11,7 +11,7 @@
 -- Assumes nothing.
 pub use Rattle.together.specs.Together.{named-back, face-everywhere, corner-faced, faces-given, faces-untorn}
 pub use Rattle.grown.specs.Untorn.{neighbours-untorn, never-torn}
-pub use Rattle.counts.specs.FaceLaws.{Makes, SameRound, straight, once, twice, thrice}
+pub use Rattle.firsts.specs.FaceLaws.{Makes, SameRound, straight, once, twice, thrice}
 pub use Rattle.together.specs.GrownFrom.{GrownFrom, laid, divided, copied, grown-from, from-grown, base-from}
 pub use Rattle.together.specs.Counted.{records-fit, faces-fit, edges-fit}
 pub use Rattle.together.specs.Making.{centre-held, hexagons-same, hexagons-one, subdivisions-one, CentresOf, centres-from, centres-accepted}

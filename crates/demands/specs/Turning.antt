@@ -32,10 +32,10 @@ use Rattle.table.specs.Order.{InOrder}
 use Rattle.table.specs.Entries.{recordsOf, holds}
 use Rattle.table.specs.MapLaws.{records-looked, lookup-valid}
 use Rattle.queries.specs.Queries.{there, chosenAt}
-use Rattle.counts.specs.Counts.{nextPlace, face, faceWith, facesAt, turned}
-use Rattle.counts.specs.DifferentLaws.{gather-mem}
-use Rattle.counts.specs.FaceLaws.{SameRound, straight, once, twice, thrice}
-use Rattle.counts.specs.declared.faces.Face.{Face}
+use Rattle.firsts.specs.Faces.{nextPlace, face, faceWith, facesAt, turned}
+use Rattle.firsts.specs.DifferentLaws.{gather-mem}
+use Rattle.firsts.specs.FaceLaws.{SameRound, straight, once, twice, thrice}
+use Rattle.firsts.specs.declared.faces.Face.{Face}
 
 -- (x, y) × (z, w)
 abbrev cross : ℤ → ℤ → ℤ → ℤ → ℤ

@@ -27,10 +27,11 @@ use Rattle.table.specs.MapLaws.{test-order, order-test, records-looked, looked-
 use Rattle.table.specs.declared.entries.Looked.{Looked}
 use Rattle.table.specs.declared.entries.Looked.the-variants.{Absent, Held}
 use Rattle.queries.specs.Queries.{facesOf}
-use Rattle.counts.specs.Counts.{facesAt, sameFace, countsOf}
-use Rattle.counts.specs.FaceLaws.{SameRound}
+use Rattle.firsts.specs.Faces.{facesAt, sameFace}
+use Rattle.firsts.specs.FaceLaws.{SameRound}
+use Rattle.firsts.specs.declared.faces.Face.{Face}
+use Rattle.counts.specs.Counts.{countsOf}
 use Rattle.counts.specs.declared.Counts.{Counts}
-use Rattle.counts.specs.declared.faces.Face.{Face}
 use Rattle.text.specs.Decimal.{digits, ended, feed}
 use Rattle.text.specs.LineOrder.{close}
 use Rattle.sorting.specs.SortLaws.{Rising, sort-length}
@@ -38,13 +39,15 @@ use Rattle.writers.specs.Files.{before, sorted, OutputAfter, outputAfter, putOf
 use Rattle.coordinates.specs.Coordinates.{acrossOf, nearX, nearY, coordinate, decimals, flat, blank, positionText}
 use Rattle.coordinates.specs.NearLaws.{InsideX, InsideY, x-inside, y-inside, x-one, y-one, x-zero, y-zero}
 use Rattle.mesh_faces.specs.MeshFaces.{meshFaces}
-use Rattle.viewer.specs.Viewer.{offStyle, objStyle, howMany, cornersOf, leastOf, faceCorners, headText, vertexMark, vertexText, faceText, texts}
+use Rattle.numbering.specs.Numbering.{howMany}
+use Rattle.viewer_lines.specs.ViewerLines.{cornersOf, leastOf, faceCorners, headText, vertexMark, vertexText, faceText, texts}
+use Rattle.viewer.specs.Viewer.{offStyle, objStyle}
 use Rattle.mesh_faces.specs.MeshFaces.{tornAt, tornOf}
 use Rattle.viewer.specs.Viewer.{viewerFile, viewOf, writeOffOf, writeObjOf}
 use Rattle.mesh_faces.specs.Once.{wholeCorner, torn-star}
 use Rattle.viewer.specs.FaceLaws.{Differ, Least, Rises, mesh-face, face-mesh, mesh-apart, least-round, least-first, corners-rise, corners-once, corners-many}
-use Rattle.viewer.specs.declared.styles.Style.{Style}
-use Rattle.viewer.specs.declared.corners.Corners.{Corners}
+use Rattle.viewer_lines.specs.declared.styles.Style.{Style}
+use Rattle.viewer_lines.specs.declared.corners.Corners.{Corners}
 use Rattle.demands.specs.Numbers.{Rule, _⇒_, firstOf, faces-number, queryRules}
 use Rattle.demands.specs.Forms.{valid-normal}
 use Rattle.demands.specs.Turning.{LeftFace, face-left}

@@ -40,6 +40,7 @@ pub use points::Depth;
 pub use points::Point;
 pub use points::Terms;
 pub use points::added;
+pub use points::both3;
 pub use points::normalise;
 pub use points::turn60;
 pub use ranks::birth;

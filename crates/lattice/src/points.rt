@@ -20,7 +20,7 @@ pub struct Point {
 pub fn both3(x: i32, y: i32) -> bool
     ensures { λ r. ⌜ r ≡ by3 x && by3 y ⌝ }
 {
-    x % 3 == 0 && y % 3 == 0
+    (x % 3 == 0) & (y % 3 == 0)
 }
 
 // The one written form of (a + bw)/3^m: of any numbers, the normalised point.

@@ -12,7 +12,7 @@ use crate::stars::step;
 
 // What a number leaves on division by 3, never negative.
 fn left3(x: i32) -> u8
-    ensures { λ r. ⌜ r ≡ modZ x 3 ⌝ }
+    ensures { λ r. ⌜ (r ≡ modZ x 3) × (r < 3) ⌝ }
 {
     let r = x % 3;
     if r < 0 { (r + 3) as u8 } else { r as u8 }
@@ -44,28 +44,20 @@ pub fn rank(p: Point) -> Level
     Level(2 * m + 1)
 }
 
-// The orientation of the point when it enters a mesh.
+// Orientations at birth, above depth 0, four bits each from the lowest on: the place is three times what a leaves on division by 3, plus what b leaves.
+const BIRTHS: u64 = 0x120032201;
+
+// The orientation of the point when it enters a mesh. Above depth 0 no branch: what the numerators leave cannot be foreseen.
 pub fn birth(p: Point) -> u8
     ensures { λ r. ⌜ r ≡ birthOf p ⌝ }
 {
-    let m = p.m.0;
-    let c = class(p);
-    if m == 0 {
-        if c == 2 {
+    if p.m.0 == 0 {
+        if class(p) == 2 {
             return 2;
         }
         return 0;
     }
-    if c == 0 {
-        if left3(p.a) == 1 {
-            return 3;
-        }
-        return 1;
-    }
-    if c == 1 {
-        return 2;
-    }
-    0
+    ((BIRTHS >> (4 * (3 * left3(p.a) + left3(p.b)))) % 16) as u8
 }
 
 // From p, the step of level i in direction e.

@@ -1,5 +1,5 @@
 -- A machine's tests of signed numbers: an equality compares bits, a remainder has the dividend's sign.
--- `bits-eq` equal bits are equal numbers · `rem-is-0`, `rem-not-0`, `rem-test` what `x % k == 0` says ·
+-- `bits-eq` equal bits are equal numbers · `rem-test` what `x % k == 0` says ·
 -- `quot-fits`, `rem-back` the needs of `x / k` and the value of `x % k`.
 -- Assumes nothing.
 use mathlib.Core.Path.{_≡_, sym, _∙_, ap}
@@ -24,14 +24,10 @@ bits-eq w {x} {y} fx fy h = sym (toZ-ofZ w x fx) ∙ ap (toZ w) h ∙ toZ-ofZ w 
 zero-fits : (w : Width) → SFits w (pos 0)
 zero-fits w = record { sfits = pow-pos (hbits w) }
 
--- `x % k == 0` taken, and left
-pub rem-is-0 : (w : Width) (x : ℤ) (k : ℕ) → SFits w x → ofZ w (remZ (toZ w (ofZ w x)) (pos k)) ≡ 0 → natAbs x % k ≡ 0
+rem-is-0 : (w : Width) (x : ℤ) (k : ℕ) → SFits w x → ofZ w (remZ (toZ w (ofZ w x)) (pos k)) ≡ 0 → natAbs x % k ≡ 0
 rem-is-0 w x k f h =
     let r : ofZ w (remZ x (pos k)) ≡ 0 = rw (toZ-ofZ w x f) at h in
     sym (abs-rem x k) ∙ ap natAbs (bits-eq w {y = pos 0} (fits-rem w x k f) (zero-fits w) r)
-
-pub rem-not-0 : (w : Width) (x : ℤ) (k : ℕ) → SFits w x → (ofZ w (remZ (toZ w (ofZ w x)) (pos k)) ≡ 0 → ⊥) → natAbs x % k ≡ 0 → ⊥
-rem-not-0 w x k f h e = h (rw (toZ-ofZ w x f) (ap (ofZ w) (eqℤ (remZ x (pos k)) (pos 0) (omega (arith, abs-is (remZ x (pos k)), abs-rem x k)))))
 
 -- the flag of `x % k == 0`
 pub rem-test : (w : Width) (x : ℤ) (k : ℕ) → SFits w x → eqb (ofZ w (remZ (toZ w (ofZ w x)) (pos k))) 0 ≡ eqb (natAbs x % k) 0

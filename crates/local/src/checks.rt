@@ -6,7 +6,7 @@ ghost use lib.Dec.{eqb};
 ghost use Rattle.lattice.specs.Records.{validOf};
 ghost use Rattle.growth.specs.Local.{sixTest, localTest};
 ghost use Rattle.table.specs.Slots.{Table, slotsOf};
-ghost use Rattle.table.specs.Order.{InOrder};
+ghost use Rattle.table.specs.Order.{InOrder, inOrderOf};
 ghost use Rattle.local.specs.Sheet.{sheetOf, passesAll};
 ghost use Rattle.local.specs.Slots.{judgedAt};
 use crate::lookups::adjacents_there;
@@ -19,6 +19,7 @@ use table::read_slot;
 // What degree 6 asks: a level of at least the rank, and all six adjacents.
 fn six_passes(t: &[u8], r: Record, n: usize) -> bool
     requires { ⌜ Table (now t) n × (validOf r ≡ true) ⌝ }
+    requires { ⌜ inOrderOf (now t) ≡ true ⌝ }
     ensures { λ v. ⌜ v ≡ not (eqb (r .d) 6) || sixTest (sheetOf (now (t .entry))) r ⌝ }
 {
     let p = r.at;
@@ -34,6 +35,7 @@ fn six_passes(t: &[u8], r: Record, n: usize) -> bool
 // The test of one valid record, in a table of n slots.
 fn passes(t: &[u8], r: Record, n: usize) -> bool
     requires { ⌜ Table (now t) n × (validOf r ≡ true) ⌝ }
+    requires { ⌜ inOrderOf (now t) ≡ true ⌝ }
     ensures { λ v. ⌜ v ≡ localTest (sheetOf (now (t .entry))) r ⌝ }
 {
     if !place_passes(t, r, n) {

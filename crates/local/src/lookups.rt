@@ -1,5 +1,6 @@
 // Whether points are there.
 ghost use mathlib.Core.Path.{_≡_};
+ghost use mathlib.Core.Bool.{true};
 ghost use Prim.Native.Nat.{_%_, _≤_, _<_};
 ghost use Rattle.laws.specs.Rules.{upto};
 ghost use Rattle.lattice.specs.Bounds.{Small};
@@ -7,6 +8,7 @@ ghost use Rattle.lattice.specs.RecordLaws.{Inner};
 ghost use Rattle.lattice.specs.Stars.{adjacentAt};
 ghost use Rattle.growth.specs.Local.{there};
 ghost use Rattle.table.specs.Slots.{Table};
+ghost use Rattle.table.specs.Order.{inOrderOf};
 ghost use Rattle.local.specs.Sheet.{sheetOf};
 ghost use Rattle.local.specs.Rings.{one, ringOf};
 use lattice::ANSWER_NUMBERS;
@@ -17,6 +19,7 @@ use lattice::moved;
 use lattice::point_at;
 use lattice::ring;
 use table::is_there;
+use table::stands;
 
 // 1 for true, 0 for false.
 pub fn bit(b: bool) -> u8
@@ -39,7 +42,7 @@ pub fn ring_count(t: &[u8], p: Point, e: u8, n: usize) -> u8
 
 // All six adjacents of a record of degree 6 are there.
 pub fn adjacents_there(t: &[u8], r: Record, n: usize) -> bool
-    requires { ⌜ Table (now t) n ⌝ }
+    requires { ⌜ Table (now t) n × (inOrderOf (now t) ≡ true) ⌝ }
     requires { ⌜ Inner r × (r .d ≡ 6) ⌝ }
     ensures { λ v. ⌜ v ≡ upto 6 (λ j. there (sheetOf (now (t .entry))) (adjacentAt r j)) ⌝ }
 {
@@ -47,11 +50,11 @@ pub fn adjacents_there(t: &[u8], r: Record, n: usize) -> bool
     ring(&mut row, r);
     let mut j: u8 = 0;
     while j < 6 {
-        if is_there(t, point_at(&row, r, j), n) {
-            j += 1;
-        } else {
+        let q = point_at(&row, r, j);
+        if !stands(t, q.a, q.b, q.m.0, n) {
             return false;
         }
+        j += 1;
     }
     true
 }

@@ -5,10 +5,11 @@ ghost use Prim.Native.Nat.{_≤_, _<_};
 ghost use lib.IntN.{pos, natAbs};
 ghost use lib.Signed.{quotZ};
 ghost use Rattle.lattice.specs.Bounds.{summable};
-ghost use Rattle.lattice.specs.Points.{by3, normalOf};
+ghost use Rattle.lattice.specs.Points.{normalOf};
 ghost use Rattle.local.specs.Steps.{wayOf, stepEnd};
 use crate::lookups::bit;
 use lattice::Point;
+use lattice::both3;
 use lattice::normalise;
 
 // Both numerators of the twelve steps, two more than they are, four bits each from direction 0 on.
@@ -32,13 +33,6 @@ fn up(e: u8) -> i32
     ((UP >> (4 * e)) % 16) as i32 - 2
 }
 
-// 3 divides x.
-fn divides(x: i32) -> bool
-    ensures { λ r. ⌜ r ≡ by3 x ⌝ }
-{
-    x % 3 == 0
-}
-
 // A third of x, or x.
 fn third_if(whole: bool, x: i32) -> i32
     ensures { λ r. ⌜ r ≡ cond whole (quotZ x (pos 3)) x ⌝ }
@@ -51,7 +45,7 @@ fn lowest(x: i32, y: i32, m: u8) -> Point
     requires { ⌜ 0 < m ⌝ }
     ensures { λ r. ⌜ r ≡ normalOf x y m ⌝ }
 {
-    let whole = divides(x) & divides(y);
+    let whole = both3(x, y);
     normalise(third_if(whole, x), third_if(whole, y), m - bit(whole))
 }
 

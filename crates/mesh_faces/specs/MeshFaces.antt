@@ -8,8 +8,8 @@ use Rattle.laws.specs.Some.{someOf}
 use Rattle.lattice.specs.declared.records.Record.{Record}
 use Rattle.table.specs.Entries.{recordsOf}
 use Rattle.queries.specs.Queries.{adjacentsThere, cornersThere}
-use Rattle.counts.specs.Counts.{each, facesAt, sameFace}
-use Rattle.counts.specs.declared.faces.Face.{Face}
+use Rattle.firsts.specs.Faces.{each, facesAt, sameFace}
+use Rattle.firsts.specs.declared.faces.Face.{Face}
 
 -- those of a list with no same one before them; `seen` are the ones before
 unfoldable pub onceAfter : {A : Type 0} → (A → A → Bool) → List A → List A → List A

@@ -25,11 +25,11 @@ use Rattle.table.specs.MapLaws.{slot-looked, looked-records, records-none, reco
 use Rattle.table.specs.declared.slots.Slot.{Slot}
 use Rattle.table.specs.declared.slots.Slot.the-variants.{Free, Holds}
 use Rattle.queries.specs.Queries.{adjacentsThere, there, chosenAt, isPoint, cornersThere}
-use Rattle.counts.specs.Counts.{gather, each, nextPlace, faceWith, facesAt, sameFace}
-use Rattle.counts.specs.Earlier.{faceBefore, faceOn}
-use Rattle.counts.specs.DifferentLaws.{some-gather}
-use Rattle.counts.specs.FaceLaws.{next-below, face-before, corner-apart}
-use Rattle.counts.specs.declared.faces.Face.{Face}
+use Rattle.firsts.specs.Faces.{gather, each, nextPlace, faceWith, facesAt, sameFace}
+use Rattle.firsts.specs.Earlier.{faceBefore, faceOn}
+use Rattle.firsts.specs.DifferentLaws.{some-gather}
+use Rattle.firsts.specs.FaceLaws.{next-below, face-before, corner-apart}
+use Rattle.firsts.specs.declared.faces.Face.{Face}
 use Rattle.mesh_faces.specs.MeshFaces.{onceAfter, meshFaces, tornAt, tornOf}
 use Rattle.mesh_faces.specs.declared.fresh.Fresh.{Fresh}
 use Rattle.mesh_faces.specs.declared.fresh.Fresh.the-variants.{Is, Not}

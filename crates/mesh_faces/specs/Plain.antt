@@ -19,10 +19,10 @@ use Rattle.table.specs.Entries.{holds, recordsBelow}
 use Rattle.table.specs.declared.slots.Slot.{Slot}
 use Rattle.table.specs.declared.slots.Slot.the-variants.{Free, Holds}
 use Rattle.queries.specs.Queries.{chosenAt, isPoint}
-use Rattle.counts.specs.Counts.{nextPlace}
-use Rattle.counts.specs.Earlier.{slotIn, faceBefore, faceOn, innerIn, innersBefore, plainWith, plainAt, plainSlot, plainOf}
-use Rattle.counts.specs.CaseLaws.{inners-none, plain-holds}
-use Rattle.counts.specs.declared.faces.Face.{Face}
+use Rattle.firsts.specs.Faces.{nextPlace}
+use Rattle.firsts.specs.Earlier.{slotIn, faceBefore, faceOn, innerIn, innersBefore, plainWith, plainAt, plainSlot, plainOf}
+use Rattle.firsts.specs.CaseLaws.{inners-none, plain-holds}
+use Rattle.firsts.specs.declared.faces.Face.{Face}
 use Rattle.mesh_faces.specs.MeshFaces.{tornAt, tornOf}
 use Rattle.mesh_faces.specs.Once.{freshAt, fresh-face, wholeCorner, torn-star, slotTorn, tornIn, torn-none, torn-more}
 

@@ -1,5 +1,5 @@
 -- The row of the faces, as it is filled corner by corner: `opposite` the opposite of a corner, `OppositesPut` the row so far, `opposites-start`,
--- `opposites-more`, `opposites-fail`, `opposites-end` · `by-first`, `by-second` the opposite by two arms · `ArmsAt` the arms of a corner of a regular star,
+-- `opposites-more`, `opposites-fail`, `opposites-end` · `by-arms` the opposite by two arms · `ArmsAt` the arms of a corner of a regular star,
 -- `arms-turned`, `both-light`, `chosen-arms` its opposite by them.
 -- Assumes nothing.
 use mathlib.Core.Path.{_≡_, refl, sym, ap, _∙_, subst}
@@ -81,12 +81,9 @@ module _ (t : List ℕ) (v : Record) where
       )
 
 -- ---- by two arms
-module _ (t : List ℕ) (near far : Terms) where
-  pub by-first : holds t (addedOf near) ≡ true → At (addedOf near) ≡ chosenBy t near far
-  by-first h = ap (λ (b : Bool). cond b (At (addedOf near)) (there t (At (addedOf far)))) (sym h)
-
-  pub by-second : holds t (addedOf near) ≡ false → there t (At (addedOf far)) ≡ chosenBy t near far
-  by-second h = ap (λ (b : Bool). cond b (At (addedOf near)) (there t (At (addedOf far)))) (sym h)
+pub by-arms : (t : List ℕ) (near far : Terms) (b : Bool) → holds t (addedOf near) ≡ b
+    → cond b (At (addedOf near)) (there t (At (addedOf far))) ≡ chosenBy t near far
+by-arms t near far b h = ap (λ (c : Bool). cond c (At (addedOf near)) (there t (At (addedOf far)))) (sym h)
 
 -- the arms to the opposites of corner j, if there is such a corner
 pub record ArmsAt (v : Record) (j : ℕ) (near far : Terms) : Type 0 where

@@ -1,19 +1,22 @@
 -- Slots asked without a search, in a table in order: a slot that reads as a point's record holds it, unless the point's depth is 255, which a free slot
 -- reads as; and no point stands twice, so its search ends there.
--- `reads-more` one slot more is counted · `read-found`, `group-held` what one slot, what a group tells.
+-- `read-found`, `read-held` what a slot tells. Of any bytes: `none-first`, `guess-more` a group asked slot by slot.
 -- Assumes nothing.
 use mathlib.Core.Path.{_≡_, refl, sym, ap, _∙_}
 use mathlib.Core.Bool.{Bool, true, false, cond}
 use mathlib.Core.List.{List}
-use Prim.Native.Nat.{ℕ, zero, suc, _+_, _*_, _≤_, _<_}
+use Prim.Native.Nat.{ℕ, _+_, _*_, _≤_, _<_}
 use native.Mathlib.Omega.{arith}
+use native.Mathlib.Decide.{decLt, ℕ-discrete}
 use lib.ListN.{getD}
+use lib.IntN.{ℤ}
+use Rattle.lattice.specs.Points.{pt}
 use Rattle.lattice.specs.declared.points.Point.{Point}
 use Rattle.table.specs.Slots.{slotWidth, Table, freeAt, recordAt, slotsOf, slotAt}
 use Rattle.table.specs.Search.{meets, seek, findOf}
 use Rattle.table.specs.Order.{InOrder, inOrderOf}
 use Rattle.table.specs.Entries.{isHeld, holds, slotFound}
-use Rattle.table.specs.Reading.{readsAs, oneIf, readsIn}
+use Rattle.table.specs.Reading.{readsAs, NoneIn, group}
 use Rattle.table.specs.SlotLaws.{free-byte, table-slots}
 use Rattle.table.specs.SearchLaws.{same-true, Kind, kind, free, own, alien}
 use Rattle.table.specs.OrderLaws.{slots-some, order-slots, present, test-order}
@@ -23,30 +26,6 @@ use Rattle.table.specs.declared.probe.Meet.the-variants.{Hit, Other}
 use Rattle.table.specs.declared.probe.Found.the-variants as found
 
 module _ (t : List ℕ) (p : Point) where
-  pub reads-none : (h : ℕ) → 0 ≡ readsIn t p h 0
-  unfolding readsIn
-  reads-none h = refl
-
-  pub reads-more : (h k s x : ℕ) → s ≡ readsIn t p h k → x ≡ oneIf (readsAs t p (h + k)) → s + x ≡ readsIn t p h (k + 1)
-  unfolding readsIn
-  reads-more h k s x a b =
-      let e : suc k ≡ k + 1 = omega arith in
-      rw (a, b) (ap (readsIn t p h) e)
-
-  -- where the count is above 0, some slot is counted
-  reads-some : (h k : ℕ) → 0 < readsIn t p h k → (j : ℕ) × (j < k) × (readsAs t p (h + j) ≡ true)
-  unfolding readsIn
-  reads-some h zero l = absurd (omega arith)
-  reads-some h (suc k) l = go (readsAs t p (h + k)) refl (λ m. reads-some h k m)
-    where
-      go : (b : Bool) → readsAs t p (h + k) ≡ b → (0 < readsIn t p h k → (j : ℕ) × (j < k) × (readsAs t p (h + j) ≡ true))
-          → (j : ℕ) × (j < suc k) × (readsAs t p (h + j) ≡ true)
-      go true e f = (k, omega arith, e)
-      go false e f =
-          let z : oneIf (readsAs t p (h + k)) ≡ 0 = ap oneIf e in
-          let q = f (omega arith) in
-          (q .0, omega (arith, q .1), q .2)
-
   -- the slot is not free: its depth would be 255
   read-hit : (i : ℕ) → p .m .0 < 255 → readsAs t p i ≡ true → meets (slotAt t i) p ≡ Hit
   unfolding slotAt recordAt
@@ -78,7 +57,29 @@ module _ (t : List ℕ) (p : Point) where
     pub read-found : (i : ℕ) → i < n → readsAs t p i ≡ true → i ≡ slotFound n (findOf t p)
     read-found i h e = ap (slotFound n) (sym (found-there i h e))
 
-    pub group-held : (h k : ℕ) → h + k ≤ n → 0 < readsIn t p h k → true ≡ holds t p
-    group-held h k m c =
-        let q = reads-some h k c in
-        sym (ap isHeld (at-held t (test-order t o .fits) p (h + q .0) (found-there (h + q .0) (omega (arith, q .1)) (q .2)) .looked))
+    pub read-held : (i : ℕ) → i < n → readsAs t p i ≡ true → true ≡ holds t p
+    read-held i h e = sym (ap isHeld (at-held t (test-order t o .fits) p i (found-there i h e) .looked))
+
+-- ---- a group
+
+pub none-first : (t : List ℕ) (a b : ℤ) (h : ℕ) → NoneIn t a b h 0
+none-first t a b h m j l = absurd (omega arith)
+
+none-more : (t : List ℕ) (a b : ℤ) (h k : ℕ) → NoneIn t a b h k → NoneIn t a b (h + k) 1 → NoneIn t a b h (k + 1)
+none-more t a b h k f g m j l = go (decLt j k)
+  where
+    go : Dec (j < k) → readsAs t (pt a b m) (h + j) ≡ false
+    go (yes s) = f m j s
+    go (no s) = let e : h + k + 0 ≡ h + j = omega arith in ap (readsAs t (pt a b m)) (sym e) ∙ g m 0 (omega arith)
+
+-- one slot more was asked: the guess is that slot, or the one before it stays
+pub guess-more : (t : List ℕ) (a b : ℤ) (h k g r : ℕ) → k < group → (h ≤ g) × (g ≤ h + group) → (g ≡ h + group → NoneIn t a b h k)
+    → ((r ≡ h + k → ⊥) → (r ≡ g) × NoneIn t a b (h + k) 1) → ((h ≤ r) × (r ≤ h + group)) × (r ≡ h + group → NoneIn t a b h (k + 1))
+guess-more t a b h k g r l w f s = go (ℕ-discrete r (h + k))
+  where
+    go : Dec (r ≡ h + k) → ((h ≤ r) × (r ≤ h + group)) × (r ≡ h + group → NoneIn t a b h (k + 1))
+    go (yes e) = ((omega arith, omega arith), λ q. absurd (omega arith))
+    go (no e) =
+        let q = s e in
+        let same = q .0 in
+        ((omega (arith, w .0), omega (arith, w .1)), λ z. none-more t a b h k (f (sym same ∙ z)) (q .1))

@@ -1,15 +1,17 @@
 -- How the code reads a slot, word by word, and a weight: what the promises below `read_slot`, `look` and `home` cite.
 -- `Word` a word read from four bytes · `allOnes` three words that are twelve bytes of 255 (SlotLaws: `free-words`) ·
--- `pairOf` two words as one number, `First` those that a slot begins with · `readsAs` a slot's bytes read as a point's record, `readsIn` of how many
--- slots they do, `group` of so many that are asked at once · `runBefore` how many slots right before one are taken · `over` more than any weight.
+-- `pairOf` two words as one number, `First` those that a slot begins with · `readsAs` a slot's bytes read as a point's record, `NoneIn` those of
+-- none of some slots do, `group` of so many that are asked at once · `runBefore` how many slots right before one are taken · `over` more than any weight.
 -- Assumes nothing.
 use mathlib.Core.Path.{_≡_}
-use mathlib.Core.Bool.{Bool, false, true, cond, _&&_}
+use mathlib.Core.Bool.{Bool, false, cond, _&&_}
 use mathlib.Core.List.{List}
 use Prim.Native.Nat.{ℕ, zero, suc, _+_, _*_, _<_}
 use lib.Dec.{eqb}
 use lib.ListN.{getD}
+use lib.IntN.{ℤ}
 use Rattle.laws.specs.Words.{wordAt}
+use Rattle.lattice.specs.Points.{pt}
 use Rattle.lattice.specs.declared.points.Point.{Point}
 use Rattle.table.specs.Slots.{slotWidth, recordAt, isFree}
 use Rattle.table.specs.Search.{samePoint}
@@ -40,14 +42,9 @@ pub record First (t : List ℕ) (p r : ℕ) : Type 0 where
 abbrev pub readsAs : List ℕ → Point → ℕ → Bool
 readsAs t p i = samePoint (recordAt t (slotWidth * i) .at) p
 
-abbrev pub oneIf : Bool → ℕ
-oneIf false = 0
-oneIf true = 1
-
--- of how many of the k slots from slot h on they do
-unfoldable pub readsIn : List ℕ → Point → ℕ → ℕ → ℕ
-readsIn t p h zero = 0
-readsIn t p h (suc k) = readsIn t p h k + oneIf (readsAs t p (h + k))
+-- those of none of the k slots from slot h on read as a record of [a, b, m], whatever m is
+abbrev pub NoneIn : List ℕ → ℤ → ℤ → ℕ → ℕ → Type 0
+NoneIn t a b h k = (m j : ℕ) → j < k → readsAs t (pt a b m) (h + j) ≡ false
 
 -- how many slots in a row are taken, one slot more seen: none where it is free
 abbrev pub runOn : ℕ → ℕ → ℕ

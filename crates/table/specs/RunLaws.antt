@@ -16,7 +16,7 @@ use Rattle.table.specs.Slots.{slotWidth, Table, freeAt, recordAt, slotsO
 use Rattle.table.specs.Search.{homeOf, meets}
 use Rattle.table.specs.Told.{Reaches}
 use Rattle.table.specs.Order.{steps}
-use Rattle.table.specs.Reading.{readsAs, oneIf, readsIn, runOn, runBefore}
+use Rattle.table.specs.Reading.{readsAs, NoneIn, runOn, runBefore}
 use Rattle.table.specs.SlotLaws.{table-slots}
 use Rattle.table.specs.SearchLaws.{steps-lo, steps-hi, other-another, free-holds}
 use Rattle.table.specs.declared.slots.Slot.{Slot}
@@ -76,17 +76,6 @@ near-test h i run k e =
     )
 
 module _ (t : List ℕ) (p : Point) where
-  -- where nothing is counted, no slot is
-  reads-nowhere : (h k : ℕ) → readsIn t p h k ≡ 0 → (j : ℕ) → j < k → readsAs t p (h + j) ≡ false
-  unfolding readsIn
-  reads-nowhere h zero e j l = absurd (omega arith)
-  reads-nowhere h (suc k) e j l = go (readsAs t p (h + k)) refl (decLt j k) (λ z m. reads-nowhere h k z j m)
-    where
-      go : (b : Bool) → readsAs t p (h + k) ≡ b → Dec (j < k) → (readsIn t p h k ≡ 0 → j < k → readsAs t p (h + j) ≡ false) → readsAs t p (h + j) ≡ false
-      go true a d f = absurd (let z : oneIf (readsAs t p (h + k)) ≡ 1 = ap oneIf a in omega arith)
-      go false a (yes m) f = f (omega arith) m
-      go false a (no m) f = let q : j ≡ k = omega arith in ap (λ (x : ℕ). readsAs t p (h + x)) q ∙ a
-
   -- a taken slot that does not read as p's record holds another's
   read-other : (i : ℕ) → readsAs t p i ≡ false → (slotAt t i ≡ Free → ⊥) → meets (slotAt t i) p ≡ Other
   unfolding slotAt
@@ -97,8 +86,8 @@ module _ (t : List ℕ) (p : Point) where
       go false f = ap (λ (b : Bool). meets (cond b Free (Holds (recordAt t (slotWidth * i)))) p) f ∙ ap (λ (b : Bool). cond b Hit Other) e
 
   -- so does each slot from home on to slot i, which is near it
-  pub run-group : (n : ℕ) → Table t n → (h i k : ℕ) → i < n → h ≡ homeOf p n → Near h i (runBefore (slotAt t) i) k → readsIn t p (i - k) k ≡ 0
-      → Reaches t p i
+  pub run-group : (n : ℕ) → Table t n → (h i k : ℕ) → i < n → h ≡ homeOf p n → Near h i (runBefore (slotAt t) i) k
+      → NoneIn t (p .a) (p .b) (i - k) k → Reaches t p i
   run-group n w h i k l e near none =
       record { below = omega (arith, table-slots t n w); before = λ s b m. other-another (slotAt t s) p (between s b m) }
     where
@@ -120,5 +109,5 @@ module _ (t : List ℕ) (p : Point) where
               let c : h ≤ s = omega arith in
               let d : s < i = omega (arith, nearer, steps-lo (slotsOf t) h s c, steps-lo (slotsOf t) h i hi) in
               let at : i - k + (s - (i - k)) ≡ s = omega arith in
-              let out : readsAs t p s ≡ false = ap (readsAs t p) (sym at) ∙ reads-nowhere (i - k) k none (s - (i - k)) (omega arith) in
+              let out : readsAs t p s ≡ false = ap (readsAs t p) (sym at) ∙ none (p .m .0) (s - (i - k)) (omega arith) in
               read-other s out (run-taken (slotAt t) i s d (omega arith))

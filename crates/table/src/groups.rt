@@ -4,7 +4,7 @@ ghost use Prim.Native.Nat.{_+_, _*_, _≤_};
 ghost use lib.ListN.{length};
 ghost use Rattle.lattice.specs.Points.{pt};
 ghost use Rattle.table.specs.Slots.{slotWidth};
-ghost use Rattle.table.specs.Reading.{group, readsAs, oneIf, readsIn};
+ghost use Rattle.table.specs.Reading.{group, readsAs, NoneIn};
 use crate::bytes::as_word;
 use crate::bytes::pair;
 use crate::probe::first_words;
@@ -22,24 +22,29 @@ pub fn reads_as(t: &[u8], a: i32, b: i32, m: u8, i: usize) -> bool
     (first_words(t, s) == pair(as_word(a), as_word(b))) & (t[s + 8] == m)
 }
 
-// 1 where they do, else 0.
-fn one_if_reads(t: &[u8], a: i32, b: i32, m: u8, i: usize) -> u64
+// Slot i where it begins with the words of a and b, else another. No branch: which slot a record stands in cannot be foreseen.
+fn slot_if_begins(t: &[u8], a: i32, b: i32, i: usize, other: usize) -> usize
     requires { ⌜ slotWidth * i + slotWidth ≤ length (now t) ⌝ }
-    ensures { λ r. ⌜ (r ≡ oneIf (readsAs (now (t .entry)) (pt a b m) i)) × (r ≤ 1) ⌝ }
+    ensures { λ r. ⌜ ((r ≡ i → ⊥) → (r ≡ other) × NoneIn (now (t .entry)) a b i 1) ⌝ }
 {
-    if reads_as(t, a, b, m, i) { 1 } else { 0 }
+    if first_words(t, SLOT_WIDTH * i) == pair(as_word(a), as_word(b)) {
+        i
+    } else {
+        other
+    }
 }
 
-// How many of the group that begins at slot h do. They are added up: of tests joined by `or` the compiler makes branches.
-pub fn group_reads(t: &[u8], a: i32, b: i32, m: u8, h: usize) -> u64
+// A slot of the group that begins at slot h where [a, b, m] could stand, whatever m is; where there is none, the slot past the group.
+pub fn guess_in_group(t: &[u8], a: i32, b: i32, h: usize) -> usize
     requires { ⌜ slotWidth * (h + group) ≤ length (now t) ⌝ }
-    ensures { λ r. ⌜ r ≡ readsIn (now (t .entry)) (pt a b m) h group ⌝ }
+    ensures { λ r. ⌜ (h ≤ r) × (r ≤ h + group) ⌝ }
+    ensures { λ r. ⌜ (r ≡ h + group → NoneIn (now (t .entry)) a b h group) ⌝ }
 {
-    let mut sum = 0;
+    let mut guess = h + GROUP;
     let mut k = 0;
     while k < GROUP {
-        sum += one_if_reads(t, a, b, m, h + k);
+        guess = slot_if_begins(t, a, b, h + k, guess);
         k += 1;
     }
-    sum
+    guess
 }

@@ -9,7 +9,7 @@ ghost use Rattle.table.specs.Told.{Reaches};
 ghost use Rattle.table.specs.declared.probe.Meet.the-variants.{Hit};
 ghost use Rattle.table.specs.Order.{isAt, placedAt, allPlaced, inOrderOf};
 use crate::groups::GROUP;
-use crate::groups::group_reads;
+use crate::groups::guess_in_group;
 use crate::home::home;
 use crate::probe::Found;
 use crate::probe::find_from;
@@ -47,7 +47,7 @@ fn group_reaches(t: &[u8], p: Point, h: usize, i: usize, n: usize, run: usize) -
     ensures { λ v. ⌜ (v ≡ true → Reaches (now (t .entry)) p i) ⌝ }
 {
     if (h <= i) & (i <= h + run) & (i <= h + GROUP) & (GROUP <= i) {
-        return group_reads(t, p.a, p.b, p.m.0, i - GROUP) == 0;
+        return guess_in_group(t, p.a, p.b, i - GROUP) == i;
     }
     false
 }
@@ -116,7 +116,7 @@ fn free_placed(t: &[u8], n: usize) -> Ordered
     Ordered { ok: true, free }
 }
 
-// `in_order` and `free_slots` together.
+// The same of any bytes.
 pub fn check_order(t: &[u8]) -> Ordered
     ensures { λ v. ⌜ v .ok ≡ inOrderOf (now (t .entry)) ⌝ }
     ensures { λ v. ⌜ (v .ok ≡ true → v .free ≡ freeSlots (now (t .entry))) ⌝ }

@@ -8,7 +8,7 @@ ghost use Rattle.table.specs.Order.{inOrderOf};
 ghost use Rattle.table.specs.Entries.{holds, slotFound};
 use crate::entries::is_there;
 use crate::groups::GROUP;
-use crate::groups::group_reads;
+use crate::groups::guess_in_group;
 use crate::groups::reads_as;
 use crate::home::low;
 use crate::home::weight;
@@ -22,7 +22,7 @@ use lattice::normalise;
 // The depth that a free slot's bytes read as. No record has it.
 const NO_DEPTH: u8 = 255;
 
-// Whether a record stands at [a, b, m]. In the most slots a group is asked first, from the home on, and nothing is divided.
+// Whether a record stands at [a, b, m]. In the most slots nothing is divided: the slot that a group from the home on guesses is tried first.
 pub fn stands(t: &[u8], a: i32, b: i32, m: u8, n: usize) -> bool
     requires { ⌜ Table (now t) n ⌝ }
     requires { ⌜ inOrderOf (now t) ≡ true ⌝ }
@@ -30,8 +30,9 @@ pub fn stands(t: &[u8], a: i32, b: i32, m: u8, n: usize) -> bool
 {
     if n == MOST {
         let h = low(weight(a, b, m));
-        if h + GROUP <= MOST {
-            if (0 < group_reads(t, a, b, m, h)) & (m < NO_DEPTH) {
+        if h + GROUP < MOST {
+            let guess = guess_in_group(t, a, b, h);
+            if reads_as(t, a, b, m, guess) & (m < NO_DEPTH) {
                 return true;
             }
         }

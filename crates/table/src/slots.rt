@@ -2,7 +2,7 @@
 ghost use mathlib.Core.Path.{_≡_};
 ghost use Prim.Native.Nat.{_+_, _*_, _≤_, _<_};
 ghost use lib.ListN.{length};
-ghost use Rattle.table.specs.Slots.{slotWidth, Table, slotsOf, slotAt, putSlot, clearedOf, freeSlots, isFree};
+ghost use Rattle.table.specs.Slots.{slotWidth, slotsOf, slotAt, putSlot, clearedOf, isFree};
 ghost use Rattle.table.specs.Reading.{allOnes};
 use crate::bytes::as_signed;
 use crate::bytes::as_word;
@@ -120,18 +120,4 @@ pub fn one_if_free(t: &[u8], i: usize) -> usize
         Slot::Free => 1,
         Slot::Holds(_) => 0,
     }
-}
-
-// The number of free slots of a table of n slots.
-pub fn free_slots(t: &[u8], n: usize) -> usize
-    requires { ⌜ Table (now t) n ⌝ }
-    ensures { λ r. ⌜ r ≡ freeSlots (now (t .entry)) ⌝ }
-{
-    let mut i = 0;
-    let mut free = 0;
-    while i < n {
-        free += one_if_free(t, i);
-        i += 1;
-    }
-    free
 }

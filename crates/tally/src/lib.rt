@@ -14,8 +14,9 @@ ghost use Rattle.table.specs.Slots.{slotsOf, slotAt};
 ghost use Rattle.table.specs.Order.{InOrder};
 ghost use Rattle.table.specs.Entries.{holds};
 ghost use Rattle.mesh.specs.Grown.{Grown};
-ghost use Rattle.counts.specs.Counts.{bit, countsOf};
-ghost use Rattle.counts.specs.Earlier.{slotSum, plainOf};
+ghost use Rattle.firsts.specs.Faces.{bit};
+ghost use Rattle.firsts.specs.Earlier.{slotSum, plainOf};
+ghost use Rattle.counts.specs.Counts.{countsOf};
 ghost use Rattle.together.specs.Tally.{isCentre, onGround, besidesAt, hexagonsIn, groundIn, pairsIn};
 
 mod rows;

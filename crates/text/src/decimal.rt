@@ -152,14 +152,14 @@ fn digits_back(out: &mut [u8], end: usize, n: u32) -> usize
 {
     let mut at = end;
     let mut v = n;
-    loop {
+    while 9 < v {
         at -= 1;
         out[at] = b'0' + (v % 10) as u8;
         v = v / 10;
-        if v == 0 {
-            return at;
-        }
     }
+    at -= 1;
+    out[at] = b'0' + v as u8;
+    at
 }
 
 // Writes a number and the byte that ends it at a position, and gives the position past both.

@@ -23,8 +23,8 @@ use Rattle.growth.specs.Closed.{T-lo, presAt}
 use Rattle.growth.specs.Order.{cnt, nil}
 use Rattle.base.specs.Base.{isListed}
 use Rattle.base.specs.Vertices.{GoodList}
-use Rattle.counts.specs.Counts.{bit, each}
-use Rattle.counts.specs.Earlier.{sumBelow}
+use Rattle.firsts.specs.Faces.{bit, each}
+use Rattle.firsts.specs.Earlier.{sumBelow}
 use Rattle.together.specs.Cells.{add-turn, once, even-turn, cell, uOf, u-rank}
 use Rattle.together.specs.Corners.{Mesh, pres, Alive}
 use Rattle.together.specs.Places.{Beside, right, left, beside}

@@ -29,7 +29,7 @@ use Rattle.growth.specs.Parents.{par, par-dir, par-at, creator-new}
 use Rattle.growth.specs.Closed.{T, T-lo, presAt, intAt, starAt, fullAt, rec, rec-at, full-make, full-par, full-zero, Good}
 use Rattle.growth.specs.Updates.{look-inside}
 use Rattle.growth.specs.OneStep.{present-old}
-use Rattle.counts.specs.Counts.{nextPlace}
+use Rattle.firsts.specs.Faces.{nextPlace}
 use Rattle.together.specs.StarOpposites.{acuteOf, midOf, hasSecond, acute-first, acute-second, blunt-first, blunt-second, blunt-none}
 use Rattle.together.specs.Cells.{add-turn, once, even-turn, odd-turn, Cell, cell, uOf, vOf, yOf, zOf, u-w, v-w}
 

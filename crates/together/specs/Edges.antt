@@ -20,11 +20,12 @@ use Rattle.growth.specs.Normal.{Pt, pt-eq, pt?, rank, birth, move, inj, back, o
 use Rattle.growth.specs.Directions.{mod-12-4}
 use Rattle.growth.specs.Closed.{T, T-hi, T-lt, T-on, T-off, bump, Good}
 use Rattle.table.specs.Entries.{recordsOf}
-use Rattle.counts.specs.Counts.{each, facesAt, sameFace, Side, side, sidesOf, sameSide, edgesIn}
-use Rattle.counts.specs.DifferentLaws.{some-over}
-use Rattle.counts.specs.FaceLaws.{same-round}
-use Rattle.counts.specs.SameLaws.{side-same, side-self, swap-right, same-sides, sides-alike, faces-alike}
-use Rattle.counts.specs.declared.faces.Face.{Face}
+use Rattle.firsts.specs.Faces.{each, facesAt, sameFace, Side, side, sidesOf, sameSide}
+use Rattle.firsts.specs.DifferentLaws.{some-over}
+use Rattle.firsts.specs.FaceLaws.{same-round}
+use Rattle.firsts.specs.SameLaws.{side-same, side-self, swap-right, same-sides, sides-alike, faces-alike}
+use Rattle.firsts.specs.declared.faces.Face.{Face}
+use Rattle.counts.specs.Counts.{edgesIn}
 use Rattle.together.specs.Cells.{add-turn, once, whole, even-turn, odd-turn, Cell, cell, uOf, vOf, wOf, other, dir2, u-x, v-x, u-w, v-w, u-rank, v-rank}
 use Rattle.together.specs.Cells.{u-birth, v-birth}
 use Rattle.together.specs.Corners.{Mesh, pres, Alive, old-alive, made-alive, left-there, right-there, round-alive}

@@ -18,8 +18,9 @@ use Rattle.mesh.specs.Subdivide.{renewedTo, enteredTo, subdivided}
 use Rattle.queries.specs.Queries.{chosenAt}
 use Rattle.growth.specs.Sheets.{vertex}
 use Rattle.lattice.specs.Points.{pt}
-use Rattle.counts.specs.Counts.{differentAfter, gather, each, sameSide, fits, sameFace, ofDegree, numbers, countsOf}
-use Rattle.counts.specs.Earlier.{sumBelow}
+use Rattle.firsts.specs.Faces.{differentAfter, gather, each, sameSide, fits, sameFace}
+use Rattle.firsts.specs.Earlier.{sumBelow}
+use Rattle.counts.specs.Counts.{ofDegree, numbers, countsOf}
 use Rattle.together.specs.Tally.{hexagonsIn, groundIn, pairsIn, besideOf}
 
 abbrev clear : ℕ → List ℕ

@@ -38,10 +38,10 @@ use Rattle.table.specs.declared.entries.Looked.{Looked}
 use Rattle.table.specs.declared.entries.Looked.the-variants.{Absent, Held}
 use Rattle.queries.specs.Queries.{there, chosenAt}
 use Rattle.local.specs.Sheet.{asOption, sheetOf}
-use Rattle.counts.specs.Counts.{face, turned}
-use Rattle.counts.specs.Earlier.{faceOn}
-use Rattle.counts.specs.FaceLaws.{Makes, SameRound, straight, once, twice, thrice}
-use Rattle.counts.specs.declared.faces.Face.{Face}
+use Rattle.firsts.specs.Faces.{face, turned}
+use Rattle.firsts.specs.Earlier.{faceOn}
+use Rattle.firsts.specs.FaceLaws.{Makes, SameRound, straight, once, twice, thrice}
+use Rattle.firsts.specs.declared.faces.Face.{Face}
 use Rattle.together.specs.Cells.{add-turn, whole, even-turn, odd-turn, down-turn, back-at, Cell, cell, uOf, vOf, yOf, wOf, zOf, other, dir2, dir6}
 use Rattle.together.specs.Cells.{u-x, u-v, y-v, v-y, w-u, w-v, u-w, w-z, z-y, other-u, other-v, other-y, other-w, other-z, next-u}
 use Rattle.together.specs.Cells.{u-rank, v-rank, w-rank, y-rank, u-birth, v-birth}

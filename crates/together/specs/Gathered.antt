@@ -14,8 +14,8 @@ use native.Mathlib.Omega.{arith}
 use lib.ListN.{length}
 use Rattle.laws.specs.Each.{not-both}
 use Rattle.laws.specs.Some.{some-at, at-some}
-use Rattle.counts.specs.Counts.{bit, each, different}
-use Rattle.counts.specs.SetLaws.{Alike}
+use Rattle.firsts.specs.Faces.{bit, each, different}
+use Rattle.firsts.specs.SetLaws.{Alike}
 use Rattle.together.specs.Inventory.{Distinct, nothing, more, Inventory, append-distinct, append-length, different-labels}
 
 -- ---- what the elements of a list give

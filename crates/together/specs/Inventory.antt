@@ -14,9 +14,9 @@ use native.Mathlib.Decide.{ℕ-discrete}
 use lib.ListN.{length}
 use Rattle.laws.specs.Each.{same-test}
 use Rattle.laws.specs.Some.{someOf, some-at, at-some, at-none}
-use Rattle.counts.specs.Counts.{differentAfter, different}
-use Rattle.counts.specs.DifferentLaws.{different-append, different-one}
-use Rattle.counts.specs.SetLaws.{Alike, different-set}
+use Rattle.firsts.specs.Faces.{differentAfter, different}
+use Rattle.firsts.specs.DifferentLaws.{different-append, different-one}
+use Rattle.firsts.specs.SetLaws.{Alike, different-set}
 
 pub data Distinct {B : Type 0} : List B → Type 0 where
   nothing : Distinct []

@@ -25,13 +25,13 @@ use Rattle.queries.specs.Queries.{chosenAt}
 use Rattle.local.specs.Sheet.{asOption, sheetOf}
 use Rattle.grown.specs.Steps.{sheet-held}
 use Rattle.grown.specs.Tables.{grown-sheet}
-use Rattle.counts.specs.Counts.{turned}
-use Rattle.counts.specs.Earlier.{slotIn, innerIn, innersBefore, namesFace, faceIn, faceSeen, faceBefore, faceOn}
-use Rattle.counts.specs.Earlier.{plainWith, plainAt, plainIn, plainSlot, plainOf}
-use Rattle.counts.specs.EarlierLaws.{passes-too, earlier-yes, yes-earlier}
-use Rattle.counts.specs.CaseLaws.{before-second, before-third}
-use Rattle.counts.specs.FaceLaws.{Makes, makes-names, SameRound, once, twice, thrice}
-use Rattle.counts.specs.declared.faces.Face.{Face}
+use Rattle.firsts.specs.Faces.{turned}
+use Rattle.firsts.specs.Earlier.{slotIn, innerIn, innersBefore, namesFace, faceIn, faceSeen, faceBefore, faceOn}
+use Rattle.firsts.specs.Earlier.{plainWith, plainAt, plainIn, plainSlot, plainOf}
+use Rattle.firsts.specs.EarlierLaws.{passes-too, earlier-yes, yes-earlier}
+use Rattle.firsts.specs.CaseLaws.{before-second, before-third}
+use Rattle.firsts.specs.FaceLaws.{Makes, makes-names, SameRound, once, twice, thrice}
+use Rattle.firsts.specs.declared.faces.Face.{Face}
 use Rattle.together.specs.Together.{face-everywhere, corner-faced}
 
 module _ (t : List ℕ) (g : Grown t) (k : ℕ) (l : k < slotsOf t) where

@@ -24,12 +24,12 @@ use Rattle.table.specs.MapLaws.{records-looked, looked-records}
 use Rattle.table.specs.declared.entries.Looked.the-variants.{Held}
 use Rattle.queries.specs.Queries.{chosenAt}
 use Rattle.grown.specs.Steps.{sheet-held}
-use Rattle.counts.specs.Counts.{each, faceWith, facesAt, turned, sameFace, facesIn}
-use Rattle.counts.specs.Earlier.{faceOn}
-use Rattle.counts.specs.DifferentLaws.{some-over, some-gather, some-one}
-use Rattle.counts.specs.FaceLaws.{Makes, gives-makes, SameRound, straight, once, twice, thrice, same-round, round-same}
-use Rattle.counts.specs.SameLaws.{faces-alike}
-use Rattle.counts.specs.declared.faces.Face.{Face}
+use Rattle.firsts.specs.Faces.{each, faceWith, facesAt, turned, sameFace, facesIn}
+use Rattle.firsts.specs.Earlier.{faceOn}
+use Rattle.firsts.specs.DifferentLaws.{some-over, some-gather, some-one}
+use Rattle.firsts.specs.FaceLaws.{Makes, gives-makes, SameRound, straight, once, twice, thrice, same-round, round-same}
+use Rattle.firsts.specs.SameLaws.{faces-alike}
+use Rattle.firsts.specs.declared.faces.Face.{Face}
 use Rattle.together.specs.Cells.{Cell, cell, uOf, vOf, yOf, other, dir6, y-v, other-y, other-other, u-rank, v-rank, w-rank, y-rank}
 use Rattle.together.specs.Corners.{Mesh, Alive, made-is, made-alive}
 use Rattle.together.specs.Places.{ring-dir}

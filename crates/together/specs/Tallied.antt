@@ -41,9 +41,10 @@ use Rattle.base.specs.MarkLaws.{good-is, listed-at, listed-is}
 use Rattle.base.specs.Vertices.{GoodList}
 use Rattle.mesh.specs.Grown.{Grown}
 use Rattle.local.specs.Sheet.{asOption}
-use Rattle.counts.specs.Counts.{bit, each, countsOf}
-use Rattle.counts.specs.Earlier.{sumBelow, slotSum}
-use Rattle.counts.specs.SetLaws.{Alike}
+use Rattle.firsts.specs.Faces.{bit, each}
+use Rattle.firsts.specs.Earlier.{sumBelow, slotSum}
+use Rattle.firsts.specs.SetLaws.{Alike}
+use Rattle.counts.specs.Counts.{countsOf}
 use Rattle.together.specs.Inventory.{Distinct, nothing, more, Inventory, upTo, upto-in, in-upto, upto-distinct, upto-length}
 use Rattle.together.specs.Gathered.{each-in, in-each, each-distinct, each-length, kept, kept-in, in-kept, kept-distinct}
 use Rattle.together.specs.Gathered.{over, over-append, over-same, over-ones, over-each, over-kept, kept-over, inventory-as, inventory-length}

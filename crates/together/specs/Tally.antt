@@ -11,8 +11,8 @@ use Rattle.lattice.specs.declared.points.Point.{Point}
 use Rattle.lattice.specs.declared.records.Record.{Record}
 use Rattle.table.specs.Slots.{slotsOf, slotAt}
 use Rattle.table.specs.Entries.{holds}
-use Rattle.counts.specs.Counts.{bit}
-use Rattle.counts.specs.Earlier.{sumBelow, slotSum}
+use Rattle.firsts.specs.Faces.{bit}
+use Rattle.firsts.specs.Earlier.{sumBelow, slotSum}
 
 -- what the records of a table give, slot by slot
 abbrev pub tallied : (Record → ℕ) → List ℕ → ℕ

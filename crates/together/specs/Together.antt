@@ -37,10 +37,10 @@ use Rattle.queries.specs.QueryLaws.{query-looked}
 use Rattle.local.specs.Sheet.{asOption, sheetOf}
 use Rattle.grown.specs.Steps.{sheet-held}
 use Rattle.grown.specs.Tables.{grown-sheet}
-use Rattle.counts.specs.Counts.{nextPlace, turned}
-use Rattle.counts.specs.Earlier.{faceOn}
-use Rattle.counts.specs.FaceLaws.{Makes, SameRound, straight, once, twice, thrice, next-below}
-use Rattle.counts.specs.declared.faces.Face.{Face}
+use Rattle.firsts.specs.Faces.{nextPlace, turned}
+use Rattle.firsts.specs.Earlier.{faceOn}
+use Rattle.firsts.specs.FaceLaws.{Makes, SameRound, straight, once, twice, thrice, next-below}
+use Rattle.firsts.specs.declared.faces.Face.{Face}
 use Rattle.together.specs.Corners.{Mesh}
 use Rattle.together.specs.Faces.{cellFace, Drawn, found, Shows, seen}
 

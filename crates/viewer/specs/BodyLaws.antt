@@ -15,8 +15,8 @@ use Rattle.laws.specs.Words.{wordAt}
 use Rattle.lattice.specs.declared.records.Record.{Record}
 use Rattle.table.specs.Slots.{slotsOf}
 use Rattle.table.specs.Order.{InOrder}
-use Rattle.counts.specs.Counts.{facesIn}
-use Rattle.counts.specs.declared.faces.Face.{Face}
+use Rattle.firsts.specs.Faces.{facesIn}
+use Rattle.firsts.specs.declared.faces.Face.{Face}
 use Rattle.sorting.specs.Sorting.{sortBy, keyWidth, keyIn, keysIn, Sorts}
 use Rattle.sorting.specs.SortLaws.{sort-length}
 use Rattle.sorting.specs.Tally.{nth}
@@ -25,17 +25,17 @@ use Rattle.sorting.specs.KeyLaws.{firsts-length, firsts-at}
 use Rattle.writers.specs.Files.{sorted}
 use Rattle.writers.specs.KeptLaws.{Filled}
 use Rattle.mesh_faces.specs.MeshFaces.{meshFaces, tornOf}
-use Rattle.viewer.specs.Viewer.{vertexText, texts}
-use Rattle.viewer.specs.Packed.{unpacked}
-use Rattle.viewer.specs.Keyed.{recordKeyed}
-use Rattle.viewer.specs.Ranks.{keysOf, ordered, Stand}
-use Rattle.viewer.specs.Stored.{Stored, stored-none, stored-one, stored-then, Guessed}
-use Rattle.viewer.specs.Backward.{texts-least, texts-sort}
-use Rattle.viewer.specs.Lines.{faceLeast, vertexLeast}
-use Rattle.viewer.specs.Lines.{faceKey, keyLine, vertexLine, Queue, face-least, vertex-least, vertices-sorted, faces-sorted, keys-append, keys-long}
+use Rattle.viewer_lines.specs.ViewerLines.{vertexText, texts}
+use Rattle.viewer_lines.specs.Packed.{unpacked}
+use Rattle.numbering.specs.Keyed.{recordKeyed}
+use Rattle.numbering.specs.Ranks.{keysOf, ordered, Stand}
+use Rattle.numbering.specs.Guesses.{faceLeast, vertexLeast, Guessed}
+use Rattle.viewer.specs.Stored.{Stored, stored-none, stored-one, stored-then}
+use Rattle.viewer_lines.specs.Backward.{texts-least, texts-sort}
+use Rattle.viewer_lines.specs.Lines.{faceKey, keyLine, vertexLine, Queue, face-least, vertex-least, vertices-sorted, faces-sorted, keys-append, keys-long}
 use Rattle.viewer.specs.FaceLaws.{mesh-four}
 use Rattle.viewer.specs.CallLaws.{vertexPart, facePart, standing-records, faces-many}
-use Rattle.viewer.specs.declared.styles.Style.{Style}
+use Rattle.viewer_lines.specs.declared.styles.Style.{Style}
 
 -- the first k keys as a list, where they are known one by one
 keys-are : (o ks : List ℕ) (k : ℕ) → k ≡ length ks → ((i : ℕ) → i < k → keyIn o i ≡ nth ks i) → keysIn o k ≡ ks

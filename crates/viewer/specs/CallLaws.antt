@@ -15,17 +15,19 @@ use Rattle.table.specs.Slots.{slotsOf, slotAt}
 use Rattle.table.specs.Order.{InOrder, inOrderOf}
 use Rattle.table.specs.Entries.{listed, recordsOf, recordsBelow}
 use Rattle.lattice.specs.declared.records.Record.{Record}
-use Rattle.counts.specs.declared.faces.Face.{Face}
-use Rattle.counts.specs.Counts.{bit, each, facesAt, sameFace, differentAfter, facesIn, countsOf}
+use Rattle.firsts.specs.declared.faces.Face.{Face}
+use Rattle.firsts.specs.Faces.{bit, each, facesAt, sameFace, differentAfter, facesIn}
+use Rattle.counts.specs.Counts.{countsOf}
 use Rattle.writers.specs.Files.{sorted, before, outputAfter, putOf}
 use Rattle.writers.specs.Kept.{standing}
 use Rattle.mesh_faces.specs.MeshFaces.{onceAfter, meshFaces, tornOf}
-use Rattle.viewer.specs.Viewer.{rises, leastOf, faceCorners, headText, vertexText, faceText, texts, viewerFile, viewOf}
+use Rattle.viewer_lines.specs.ViewerLines.{rises, leastOf, faceCorners, headText, vertexText, faceText, texts}
+use Rattle.viewer.specs.Viewer.{viewerFile, viewOf}
 use Rattle.mesh_faces.specs.Once.{freshBelow, fresh-all}
-use Rattle.viewer.specs.Backward.{texts-sort, texts-map, texts-most}
-use Rattle.viewer.specs.Lines.{faceLine, faceMost, face-most, face-small}
+use Rattle.viewer_lines.specs.Backward.{texts-sort, texts-map, texts-most}
+use Rattle.viewer_lines.specs.Lines.{faceLine, faceMost, face-most, face-small}
 use Rattle.viewer.specs.FaceLaws.{mesh-four}
-use Rattle.viewer.specs.declared.styles.Style.{Style}
+use Rattle.viewer_lines.specs.declared.styles.Style.{Style}
 
 abbrev pub vertexPart : Style → List ℕ → List ℕ
 vertexPart s t = texts (vertexText s) (sorted (recordsOf t))

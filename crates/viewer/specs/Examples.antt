@@ -16,17 +16,21 @@ use Rattle.table.specs.Search.{homeOf, samePoint, searchFrom, findOf}
 use Rattle.table.specs.Order.{placedAt, allPlaced, inOrderOf}
 use Rattle.table.specs.Entries.{lookUp, enterOf, recordsBelow, recordsOf}
 use Rattle.queries.specs.Queries.{adjacentsThere, chosenAt, cornersThere}
-use Rattle.counts.specs.Counts.{differentAfter, gather, each, fits, sameFace, sameSide, ofDegree, numbers, countsOf}
+use Rattle.firsts.specs.Faces.{differentAfter, gather, each, fits, sameFace, sameSide}
+use Rattle.counts.specs.Counts.{ofDegree, numbers, countsOf}
 use Rattle.text.specs.Decimal.{digitsBy, digits}
 use Rattle.text.specs.LineOrder.{earlier}
 use Rattle.writers.specs.Files.{sorted, outputAfter, putOf}
 use Rattle.mesh_faces.specs.MeshFaces.{onceAfter, tornOf}
 use Rattle.coordinates.specs.Coordinates.{rootFrom, rootOf, nearX, nearY, decimals, coordinate, positionText}
-use Rattle.viewer.specs.Viewer.{howMany, leastFirst, rises, headText, vertexText, faceText, texts, viewerFile, viewOf}
-use Rattle.viewer.specs.Viewer.{offStyle, objStyle, corners, faceCorners, writeOffOf, writeObjOf}
+use Rattle.numbering.specs.Numbering.{howMany}
+use Rattle.viewer_lines.specs.ViewerLines.{leastFirst, rises, headText, vertexText, faceText, texts}
+use Rattle.viewer.specs.Viewer.{viewerFile, viewOf}
+use Rattle.viewer_lines.specs.ViewerLines.{corners, faceCorners}
+use Rattle.viewer.specs.Viewer.{offStyle, objStyle, writeOffOf, writeObjOf}
 use Rattle.viewer.specs.CallLaws.{view-whole}
-use Rattle.viewer.specs.declared.styles.Style.{Style}
-use Rattle.viewer.specs.declared.corners.Corners.{Corners}
+use Rattle.viewer_lines.specs.declared.styles.Style.{Style}
+use Rattle.viewer_lines.specs.declared.corners.Corners.{Corners}
 
 -- [a, b, 0], of degree d, at level 0
 vertex : ℤ → ℤ → ℕ → Record

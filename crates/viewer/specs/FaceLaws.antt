@@ -23,21 +23,22 @@ use Rattle.table.specs.Order.{InOrder}
 use Rattle.table.specs.Entries.{recordsOf}
 use Rattle.table.specs.MapLaws.{records-looked, lookup-stands}
 use Rattle.queries.specs.Queries.{chosenAt}
-use Rattle.counts.specs.Counts.{bit, differentAfter, each, face, faceWith, facesAt, turned, sameFace, facesIn}
-use Rattle.counts.specs.FaceLaws.{SameRound, straight, once, twice, thrice, round-same}
-use Rattle.counts.specs.SetLaws.{Alike}
-use Rattle.counts.specs.DifferentLaws.{gather-mem}
-use Rattle.counts.specs.SameLaws.{faces-alike}
-use Rattle.counts.specs.declared.faces.Face.{Face}
+use Rattle.firsts.specs.Faces.{bit, differentAfter, each, face, faceWith, facesAt, turned, sameFace, facesIn}
+use Rattle.firsts.specs.FaceLaws.{SameRound, straight, once, twice, thrice, round-same}
+use Rattle.firsts.specs.SetLaws.{Alike}
+use Rattle.firsts.specs.DifferentLaws.{gather-mem}
+use Rattle.firsts.specs.SameLaws.{faces-alike}
+use Rattle.firsts.specs.declared.faces.Face.{Face}
 use Rattle.sorting.specs.SortLaws.{mem-sort, sort-length, Rising, rising-into, Decides, sort-rising}
 use Rattle.mesh_faces.specs.MeshFaces.{onceAfter, meshFaces, tornOf}
-use Rattle.viewer.specs.Viewer.{howMany, cornersOf, nextFirst, isLeast, leastFirst, leastOf, rises, faceCorners}
-use Rattle.viewer.specs.Packed.{packed, unpacked, Small, pack-rises, unpack-pack}
-use Rattle.viewer.specs.Counting.{many-sort}
+use Rattle.numbering.specs.Numbering.{howMany}
+use Rattle.viewer_lines.specs.ViewerLines.{cornersOf, nextFirst, isLeast, leastFirst, leastOf, rises, faceCorners}
+use Rattle.viewer_lines.specs.Packed.{packed, unpacked, Small, pack-rises, unpack-pack}
+use Rattle.numbering.specs.Counting.{many-sort}
 use Rattle.mesh_faces.specs.Once.{Four, corner-four}
-use Rattle.viewer.specs.Lines.{face-small}
+use Rattle.viewer_lines.specs.Lines.{face-small}
 use Rattle.viewer.specs.Places.{number-one}
-use Rattle.viewer.specs.declared.corners.Corners.{Corners}
+use Rattle.viewer_lines.specs.declared.corners.Corners.{Corners}
 
 -- ---- the different ones of a list
 

@@ -1,17 +1,8 @@
 -- Document 02, ticket 5, in antt.
 pub mod Viewer
 pub mod Examples
--- a face's four numbers in one
-pub mod Packed
--- the vertices' keys, and their numbers
-pub mod Keyed
-pub mod Counting
-pub mod Ranks
--- keys stored, and lines written from the last back
+-- keys stored
 pub mod Stored
-pub mod Backward
--- the lines by their keys
-pub mod Lines
 -- the call
 pub mod BodyLaws
 pub mod CallLaws

@@ -17,13 +17,13 @@ use Rattle.table.specs.Entries.{lookUp, isHeld, holds, recordsOf}
 use Rattle.table.specs.MapLaws.{records-looked, looked-records, lookup-valid, lookup-point}
 use Rattle.table.specs.declared.entries.Looked.{Looked}
 use Rattle.table.specs.declared.entries.Looked.the-variants.{Absent, Held}
-use Rattle.counts.specs.Counts.{bit}
+use Rattle.firsts.specs.Faces.{bit}
 use Rattle.text.specs.LineOrder.{orderOf, Close, close, earlier, order-earlier}
 use Rattle.sorting.specs.SortLaws.{Rising}
 use Rattle.writers.specs.Files.{before, sorted}
 use Rattle.writers.specs.FileLaws.{Before, sorted-rises, sorted-holds, holds-sorted}
-use Rattle.viewer.specs.Viewer.{howMany, numberOf}
-use Rattle.viewer.specs.Counting.{many-append, many-sort}
+use Rattle.numbering.specs.Numbering.{howMany, numberOf}
+use Rattle.numbering.specs.Counting.{many-append, many-sort}
 
 module _ {A : Type 0} where
   many-all : (test : A → Bool) (xs : List A) → ((x : A) → List·Memᴰ x xs → test x ≡ true) → howMany test xs ≡ length xs

@@ -1,44 +1,29 @@
 -- Document 02, ticket 5: "OFF files for the viewer", and OBJ files. What the promises cite: `writeOffOf`, `writeObjOf`, which
 -- are `viewOf` at `offStyle` and at `objStyle`.
 -- What the two formats share is said once, over a `Style`: a head or none, `v` before a vertex or nothing, what stands before a face, the first number.
--- `numberOf` a vertex's number · `cornersOf` the four numbers of a face, `leastFirst` turned, `faceCorners` all in their order · `headText`, `vertexText`,
--- `faceText` the lines · `viewerFile` the file · `viewOf` what the call does. Each face once, and which vertex is torn: `mesh_faces`' MeshFaces.
+-- `viewerFile` the file · `viewOf` what the call does. The lines, and the faces' in their order: `viewer_lines`' ViewerLines. A vertex's number: `numbering`'s
+-- Numbering. Each face once, and which vertex is torn: `mesh_faces`' MeshFaces.
 -- Assumes nothing.
-use mathlib.Core.Bool.{Bool, true, false, cond, not, _&&_, _||_}
-use mathlib.Core.List.{List, [], _∷_, _++_, map}
-use Prim.Native.Nat.{ℕ, _+_}
-use lib.Dec.{eqb, ltb, leb}
+use mathlib.Core.Bool.{true, false, not}
+use mathlib.Core.List.{List, _++_}
+use Prim.Native.Nat.{ℕ}
 use Rattle.laws.specs.Choices.{unless}
-use Rattle.lattice.specs.declared.points.Point.{Point}
-use Rattle.lattice.specs.declared.records.Record.{Record}
 use Rattle.table.specs.Order.{inOrderOf}
 use Rattle.table.specs.Entries.{recordsOf}
-use Rattle.counts.specs.Counts.{bit, countsOf}
-use Rattle.mesh_faces.specs.MeshFaces.{meshFaces, tornOf}
-use Rattle.counts.specs.declared.Counts.{Counts}
-use Rattle.counts.specs.declared.faces.Face.{Face}
-use Rattle.text.specs.Decimal.{digits, ended, feed}
-use Rattle.text.specs.LineOrder.{earlier}
-use Rattle.sorting.specs.Sorting.{sortBy}
+use Rattle.counts.specs.Counts.{countsOf}
+use Rattle.mesh_faces.specs.MeshFaces.{tornOf}
 use Rattle.writers.specs.Files.{sorted, OutputAfter, outputAfter, putOf}
-use Rattle.coordinates.specs.Coordinates.{blank, positionText}
-use Rattle.viewer.specs.declared.styles.Style.{Style}
-use Rattle.viewer.specs.declared.corners.Corners.{Corners}
+use Rattle.viewer_lines.specs.ViewerLines.{faceCorners, headText, vertexText, faceText, texts}
+use Rattle.viewer_lines.specs.declared.styles.Style.{Style}
 
 -- ---- the two formats
 
--- the bytes of `4`, `f` and `v`, and of the word `OFF`
+-- the bytes of `4` and `f`
 abbrev pub digit4 : ℕ
 digit4 = 52
 
 abbrev pub letterF : ℕ
 letterF = 102
-
-abbrev pub letterV : ℕ
-letterV = 118
-
-abbrev pub wordOff : List ℕ
-wordOff = 79 ∷ 70 ∷ 70 ∷ []
 
 -- "`OFF`, the counts ..", "each face as 4 and four vertex numbers", "Numbers run from 0"
 abbrev pub offStyle : Style
@@ -48,78 +33,7 @@ offStyle = record { head = true; marked = false; face = digit4; first = 0 }
 abbrev pub objStyle : Style
 objStyle = record { head = false; marked = true; face = letterF; first = 1 }
 
--- ---- numbers
-
--- how many elements of a list pass a test
-unfoldable pub howMany : {A : Type 0} → (A → Bool) → List A → ℕ
-howMany test [] = 0
-howMany test (x ∷ xs) = bit (test x) + howMany test xs
-
--- "Numbers run from 0 in full-file order": how many vertices come earlier in the full file
-abbrev pub numberOf : List ℕ → Point → ℕ
-numberOf t p = howMany (λ r. earlier (r .at) p) (recordsOf t)
-
--- ---- faces
-
-abbrev pub corners : ℕ → ℕ → ℕ → ℕ → Corners
-corners a b c d = record { a = a; b = b; c = c; d = d }
-
--- "four vertex numbers counter-clockwise": in the face's own order round, which is that of document 01's patterns, "in counter-clockwise order"
-abbrev pub cornersOf : List ℕ → Face → Corners
-cornersOf t f = corners (numberOf t (f .at)) (numberOf t (f .adjacent)) (numberOf t (f .opposite)) (numberOf t (f .next))
-
--- the same from the next one on
-abbrev pub nextFirst : Corners → Corners
-nextFirst q = corners (q .b) (q .c) (q .d) (q .a)
-
-abbrev pub isLeast : Corners → Bool
-isLeast q = leb (q .a) (q .b) && (leb (q .a) (q .c) && leb (q .a) (q .d))
-
--- "smallest first"
-unfoldable pub leastFirst : Corners → Corners
-leastFirst q =
-    cond (isLeast q) q
-    (cond (isLeast (nextFirst q)) (nextFirst q) (cond (isLeast (nextFirst (nextFirst q))) (nextFirst (nextFirst q)) (nextFirst (nextFirst (nextFirst q)))))
-
--- "faces rise by their numbers": by the first, then the second, the third, the fourth
-unfoldable pub rises : Corners → Corners → Bool
-rises q r =
-    ltb (q .a) (r .a)
-    || (eqb (q .a) (r .a)
-    && (ltb (q .b) (r .b) || (eqb (q .b) (r .b) && (ltb (q .c) (r .c) || (eqb (q .c) (r .c) && ltb (q .d) (r .d))))))
-
-abbrev pub leastOf : List ℕ → Face → Corners
-leastOf t f = leastFirst (cornersOf t f)
-
-abbrev pub faceCorners : List ℕ → List Corners
-faceCorners t = sortBy rises (map (leastOf t) (meshFaces t))
-
--- ---- lines
-
--- "a line each with blanks between, `OFF`, the counts of vertices, faces and edges"
-unfoldable pub headText : Style → Counts → List ℕ
-headText s c =
-    cond (s .head)
-    (ended wordOff feed ++ ended (digits (c .vertices)) blank ++ ended (digits (c .faces)) blank ++ ended (digits (c .edges)) feed) []
-
-abbrev pub vertexMark : Style → List ℕ
-vertexMark s = cond (s .marked) (letterV ∷ blank ∷ []) []
-
--- "each vertex as x, y and 0.0000"
-unfoldable pub vertexText : Style → Record → List ℕ
-vertexText s r = vertexMark s ++ positionText (r .at)
-
--- "each face as 4 and four vertex numbers"
-unfoldable pub faceText : Style → Corners → List ℕ
-faceText s q =
-    (s .face ∷ blank ∷ [])
-    ++ (ended (digits (s .first + q .a)) blank
-    ++ (ended (digits (s .first + q .b)) blank ++ (ended (digits (s .first + q .c)) blank ++ ended (digits (s .first + q .d)) feed)))
-
--- the lines of several
-unfoldable pub texts : {A : Type 0} → (A → List ℕ) → List A → List ℕ
-texts text [] = []
-texts text (x ∷ xs) = text x ++ texts text xs
+-- ---- the file
 
 -- "then each vertex .., then each face"
 unfoldable pub viewerFile : Style → List ℕ → List ℕ

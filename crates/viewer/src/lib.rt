@@ -1,8 +1,7 @@
 // Files for the viewer: document 02, ticket 5, OFF and OBJ, written into lent bytes.
 //
-// Two public calls answer every table and output: `write_off` and `write_obj`, both over a style (styles.rt). Each face once, and where 7 comes from, are
-// `mesh_faces`'; numbers.rt and guesses.rt have the vertices' numbers, lengths.rt how long the lines are, keys.rt and corners.rt a face's key, lines.rt
-// the lines.
+// Two public calls answer every table and output: `write_off` and `write_obj`, both over a style. Each face once, and where 7 comes from, are `mesh_faces`',
+// the vertices' numbers `numbering`'s, the lines `viewer_lines`'; keys.rt has the faces' keys.
 // The promises cite specs/Viewer.
 ghost use mathlib.Core.Path.{_≡_};
 ghost use mathlib.Core.Bool.{true, false};
@@ -12,47 +11,43 @@ ghost use lib.Dec.{ltb};
 ghost use lib.ListN.{length, drop};
 ghost use Rattle.table.specs.Slots.{slotsOf};
 ghost use Rattle.table.specs.Order.{InOrder};
-ghost use Rattle.counts.specs.Counts.{countsOf, facesIn};
-ghost use Rattle.counts.specs.Earlier.{plainOf};
+ghost use Rattle.firsts.specs.Faces.{facesIn};
+ghost use Rattle.firsts.specs.Earlier.{plainOf};
+ghost use Rattle.counts.specs.Counts.{countsOf};
 ghost use Rattle.sorting.specs.Sorting.{sortBy};
 ghost use Rattle.writers.specs.Files.{outputAfter, putOf};
 ghost use Rattle.mesh_faces.specs.MeshFaces.{tornOf};
-ghost use Rattle.viewer.specs.Viewer.{texts, viewerFile, viewOf, writeOffOf, writeObjOf};
-ghost use Rattle.viewer.specs.Lines.{startMost, keyLine, Queue};
+ghost use Rattle.viewer_lines.specs.ViewerLines.{texts};
+ghost use Rattle.viewer.specs.Viewer.{viewerFile, viewOf, writeOffOf, writeObjOf};
+ghost use Rattle.viewer_lines.specs.Lines.{startMost, keyLine, Queue};
 ghost use Rattle.viewer.specs.CallLaws.{vertexPart, facePart};
 
-mod corners;
-mod guesses;
 mod keys;
-mod lengths;
-mod lines;
-mod numbers;
-mod styles;
 
-use crate::guesses::KEY_WIDTH;
-use crate::guesses::base_of;
-use crate::guesses::put_guesses;
 use crate::keys::put_faces;
-use crate::lengths::faces_length;
-use crate::lines::head_length;
-use crate::lines::keys_length;
-use crate::lines::put_vertices;
-use crate::lines::vertices_length;
-use crate::lines::write_faces;
-use crate::lines::write_head;
-use crate::lines::write_vertices;
-use crate::numbers::widths_of;
-use crate::styles::Style;
 use counts::Counts;
 use lattice::DONE;
 use lattice::NOT_IN_ORDER;
 use lattice::SHORT;
 use lattice::TORN;
 use mesh_faces::any_torn;
+use numbering::KEY_WIDTH;
+use numbering::base_of;
+use numbering::put_guesses;
+use numbering::widths_of;
 use sorting::sort;
 use table::in_order;
 use table::slots_of;
 use tally::surveyed;
+use viewer_lines::Style;
+use viewer_lines::faces_length;
+use viewer_lines::head_length;
+use viewer_lines::keys_length;
+use viewer_lines::put_vertices;
+use viewer_lines::vertices_length;
+use viewer_lines::write_faces;
+use viewer_lines::write_head;
+use viewer_lines::write_vertices;
 
 // The bytes of the longest line of a face.
 const FACE_MOST: usize = 26;

@@ -1,7 +1,7 @@
 -- The records that are kept, and their keys.
 -- `standing-more`, `standing-grow` slot by slot · `tail-order` keys that differ in their orders · `lines-sorted` as many bytes in any order ·
 -- `Filled` the keys in the output: `filled-none`, `filled-same`, `filled-put` · `kept-part`, `kept-valid`, `kept-near` what is kept stands in the table
--- and is valid.
+-- and is valid · `standing-most` the longest line for each record suffices.
 -- Assumes nothing.
 use mathlib.Core.Path.{_≡_, refl, sym, ap, _∙_, subst}
 use mathlib.Core.Bool.{Bool, true, false, cond, _&&_}
@@ -15,13 +15,14 @@ use lib.ListN.{length, drop, length-append}
 use lib.Seq.{getD-append-seam}
 use Rattle.lattice.specs.Records.{validOf}
 use Rattle.lattice.specs.declared.records.Record.{Record}
-use Rattle.table.specs.Slots.{slotWidth, slotsOf, slotAt}
+use Rattle.table.specs.Slots.{slotWidth, slotsOf, slotAt, isFree, freeBelow}
 use Rattle.table.specs.Order.{InOrder}
 use Rattle.table.specs.Entries.{listed}
 use Rattle.table.specs.declared.slots.Slot.{Slot}
 use Rattle.table.specs.declared.slots.Slot.the-variants.{Free, Holds}
 use Rattle.text.specs.Line.{lineOf, lines}
 use Rattle.text.specs.LineLaws.{lines-join}
+use Rattle.text.specs.LineLengths.{longest, line-most}
 use Rattle.text.specs.Near.{Near, valid-near}
 use Rattle.marks.specs.Marks.{markedAt}
 use Rattle.sorting.specs.Sorting.{insertBy, sortBy, keyWidth, keyIn}
@@ -169,3 +170,28 @@ pub standing-length : (f : ℕ → Slot) (i : ℕ) → length (lines (standing f
 standing-length f i =
     ap (λ (x : List Record). length (lines x)) (standing-more f i) ∙ ap length (lines-join (standing f i) (listed (f i)))
     ∙ length-append (lines (standing f i)) (lines (listed (f i)))
+
+-- ---- the longest line for each record suffices
+
+free-most : (s : Slot) → isFree s ≤ 1
+free-most Free = omega arith
+free-most (Holds r) = omega arith
+
+module _ (t : List ℕ) (o : InOrder t) (m : List ℕ) where
+  slot-most : (i : ℕ) → i < slotsOf t → length (lines (listed (keptAt t m i))) + longest * isFree (slotAt t i) ≤ longest
+  slot-most i l = go (keptAt t m i) refl
+    where
+      go : (s : Slot) → keptAt t m i ≡ s → length (lines (listed (keptAt t m i))) + longest * isFree (slotAt t i) ≤ longest
+      go Free e = let none = written-none (keptAt t m i) e in omega (arith, free-most (slotAt t i))
+      go (Holds r) e =
+          let one = written-one (keptAt t m i) r e in
+          let taken = ap isFree (kept-part t m i r e) in
+          omega (arith, line-most r (kept-valid t o m i r l e))
+
+  pub standing-most : (k : ℕ) → k ≤ slotsOf t → length (lines (standing (keptAt t m) k)) + longest * freeBelow (slotAt t) k ≤ longest * k
+  unfolding freeBelow
+  standing-most zero h = omega (arith, standing-start (keptAt t m))
+  standing-most (suc k) h =
+      let e : k + 1 ≡ suc k = omega arith in
+      let more = sym (ap (λ (n : ℕ). length (lines (standing (keptAt t m) n))) e) ∙ standing-length (keptAt t m) k in
+      omega (arith, standing-most k (omega arith), slot-most k (omega arith))

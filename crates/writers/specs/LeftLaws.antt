@@ -1,6 +1,6 @@
 -- Lines written from the last back, while the keys of those still to come stand sorted at the output's beginning.
 -- `fileOf` the file of what is kept · `Keyed` the keys stand there, no line does · `Left` k keys are left, the lines of the others stand from `at` on:
--- `left-start`, `left-top` the next key is the last of those left, `left-step`, `left-end`.
+-- `left-start`, `left-top` the next key is the last of those left, `left-step`, `left-end` · `file-most` the longest line for each record suffices.
 -- Assumes nothing.
 use mathlib.Core.Path.{_≡_, sym, ap, _∙_, subst}
 use mathlib.Core.Bool.{Bool, cond}
@@ -13,18 +13,18 @@ use lib.ListN.{length, take, drop, length-append, length-map}
 use lib.Seq.{drop-cons, drop-length, take-suc, take-length, length-take-le, length-sets, ext-getD}
 use Rattle.laws.specs.Stores.{Wrote, drop-stored}
 use Rattle.lattice.specs.declared.records.Record.{Record}
-use Rattle.table.specs.Slots.{slotsOf}
+use Rattle.table.specs.Slots.{slotsOf, freeSlots}
 use Rattle.table.specs.Order.{InOrder}
 use Rattle.text.specs.Line.{lineOf, lines}
 use Rattle.text.specs.LineLaws.{lines-join}
-use Rattle.text.specs.LineLengths.{shortest, lines-least}
+use Rattle.text.specs.LineLengths.{shortest, longest, lines-least}
 use Rattle.sorting.specs.Sorting.{sortBy, keyIn, keysIn, Sorts}
 use Rattle.sorting.specs.Tally.{nth}
 use Rattle.sorting.specs.Keys.{key-before}
 use Rattle.sorting.specs.KeyLaws.{firsts-length, firsts-at}
 use Rattle.writers.specs.Files.{before, sorted, outputAfter, putOf}
 use Rattle.writers.specs.Kept.{keptAt, standing, keyFor, recordFor}
-use Rattle.writers.specs.KeptLaws.{lines-sorted, kept-part, Filled}
+use Rattle.writers.specs.KeptLaws.{lines-sorted, kept-part, Filled, standing-most}
 use Rattle.writers.specs.FileKeys.{file-records}
 
 -- the file of the records that are not marked
@@ -146,6 +146,10 @@ file-long t m = sym (lines-sorted before (standing (keptAt t m) (slotsOf t)))
 -- the keys take no more room than the file
 pub keys-fit : (t m : List ℕ) → shortest * length (standing (keptAt t m) (slotsOf t)) ≤ length (fileOf t m)
 keys-fit t m = omega (arith, file-long t m, lines-least (standing (keptAt t m) (slotsOf t)))
+
+-- the longest line for each record suffices
+pub file-most : (t : List ℕ) → InOrder t → (m : List ℕ) → length (fileOf t m) + longest * freeSlots t ≤ longest * slotsOf t
+file-most t o m = omega (arith, file-long t m, standing-most t o m (slotsOf t) (omega arith))
 
 pub filled-all : (t m o : List ℕ) (n : ℕ) → n ≡ slotsOf t → {o₁ : List ℕ} {k : ℕ} → Filled o (map keyFor (standing (keptAt t m) n)) o₁ k
     → Filled o (keysOf t m) o₁ k

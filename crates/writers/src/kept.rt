@@ -59,32 +59,59 @@ pub fn file_length(table: &[u8], marks: &[u8; MARK_BYTES], n: usize) -> usize
     total
 }
 
-// Stores the key of slot i as key k, if the slot is written, and gives how many keys there are then.
-fn put_kept(table: &[u8], marks: &[u8; MARK_BYTES], i: usize, out: &mut [u8], k: usize) -> usize
-    requires { ⌜ InOrder (now table) × (i < slotsOf (now table)) ⌝ }
+// How many keys were stored, and the bytes of their lines.
+pub struct Amount {
+    pub keys: usize,
+    pub bytes: usize,
+}
+
+// Stores the key of slot i as key k, if the slot is written, and counts it and its line.
+fn put_kept(
+    table: &[u8],
+    marks: &[u8; MARK_BYTES],
+    i: usize,
+    out: &mut [u8],
+    k: usize,
+    total: usize,
+) -> Amount
+    requires { ⌜ InOrder (now table) × ((i < slotsOf (now table)) × (total ≤ longest * i)) ⌝ }
     requires { ⌜ keyWidth * (k + length (listed (keptAt (now table) (now marks) i))) ≤ length (now out) ⌝ }
-    ensures { λ r. ⌜ Added (now (out .entry)) k (map keyFor (listed (keptAt (now (table .entry)) (now (marks .entry)) i))) (now (out .exit)) r ⌝ }
+    ensures { λ r. ⌜ Added (now (out .entry)) k (map keyFor (listed (keptAt (now (table .entry)) (now (marks .entry)) i))) (now (out .exit)) (r .keys) ⌝ }
+    ensures { λ r. ⌜ r .bytes ≡ total + length (lines (listed (keptAt (now (table .entry)) (now (marks .entry)) i))) ⌝ }
 {
     match kept(table, marks, i) {
-        Slot::Free => k,
+        Slot::Free => Amount {
+            keys: k,
+            bytes: total,
+        },
         Slot::Holds(r) => {
             put_key(out, k, pack(r));
-            k + 1
+            Amount {
+                keys: k + 1,
+                bytes: total + line_length(r),
+            }
         }
     }
 }
 
-// Stores the keys of all that is written, and gives how many there are.
-pub fn put_keys(table: &[u8], marks: &[u8; MARK_BYTES], n: usize, out: &mut [u8]) -> usize
+// Stores the keys of all that is written, and counts them and their lines.
+pub fn put_keys(table: &[u8], marks: &[u8; MARK_BYTES], n: usize, out: &mut [u8]) -> Amount
     requires { ⌜ InOrder (now table) × (n ≡ slotsOf (now table)) ⌝ }
     requires { ⌜ keyWidth * length (standing (keptAt (now table) (now marks)) n) ≤ length (now out) ⌝ }
-    ensures { λ k. ⌜ Filled (now (out .entry)) (map keyFor (standing (keptAt (now (table .entry)) (now (marks .entry))) n)) (now (out .exit)) k ⌝ }
+    ensures { λ r. ⌜ Filled (now (out .entry)) (map keyFor (standing (keptAt (now (table .entry)) (now (marks .entry))) n)) (now (out .exit)) (r .keys) ⌝ }
+    ensures { λ r. ⌜ r .bytes ≡ length (lines (standing (keptAt (now (table .entry)) (now (marks .entry))) n)) ⌝ }
 {
     let mut i = 0;
     let mut k = 0;
+    let mut total = 0;
     while i < n {
-        k = put_kept(table, marks, i, out, k);
+        let put = put_kept(table, marks, i, out, k, total);
+        k = put.keys;
+        total = put.bytes;
         i += 1;
     }
-    k
+    Amount {
+        keys: k,
+        bytes: total,
+    }
 }

@@ -24,8 +24,9 @@ pub fn time<T>(f: impl FnOnce() -> T) -> Duration {
     start.elapsed()
 }
 
-pub fn least(rounds: usize, task: Timed) -> Duration {
-    (0..rounds).map(|_| task()).min().expect("a round")
+/// The lesser of each two times.
+pub fn lesser<const N: usize>(times: &mut [Duration; N], round: [Duration; N]) {
+    times.iter_mut().zip(round).for_each(|(least, time)| *least = time.min(*least));
 }
 
 impl Bench {

@@ -1,6 +1,6 @@
 //! The library beside plain Rust, each task timed by turns in one run; the least of several rounds, per unit, and the ratio.
 //!
-//! usage: bench [ROUNDS] [--bars] [--openmesh READ WRITTEN], the nanoseconds that OpenMesh took; or bench --sheet FILE.off, the sheet for it.
+//! usage: bench [ROUNDS] [--bars] [--openmesh PROGRAM FILE.off], beside OpenMesh on that sheet; or bench --sheet FILE.off, the sheet for it.
 //! `sheets` makes the meshes; `clock` times and prints; `bars` has the most that a ratio may be; `lookups` is the library's search, which
 //! no call of the C interface makes alone. The plain Rust is the crate `plain`: the same flat table, a constant table of stars,
 //! sort_unstable, the local check; for searches and subdivision also the same algorithm on std's HashMap.
@@ -8,6 +8,7 @@
 mod bars;
 mod clock;
 mod lookups;
+mod openmesh;
 mod sheets;
 
 use bars::{GROWN_FROM, GROWTH, READS, VIEWS, WRITES};
@@ -15,12 +16,14 @@ use clock::{Bench, Task};
 use differential::bring::deepest;
 use differential::rng::Rng;
 use flaskbloom::slices as library;
+use openmesh::OpenMesh;
 use plain::lattice::{Point, Star};
 use plain::mesh::{records, subdivide_in};
 use plain::table::{find, in_order, SLOT};
 use sheets::*;
 use std::collections::HashMap;
 use std::hint::black_box;
+use std::time::Duration;
 
 const MOST: usize = 65_536;
 
@@ -30,17 +33,18 @@ const DEGREE: usize = 9;
 struct Words {
     rounds: usize,
     bars: bool,
-    openmesh: Option<[f64; 2]>,
+    openmesh: Option<[String; 2]>,
 }
 
 fn words() -> Words {
     let mut words = Words { rounds: 9, bars: false, openmesh: None };
     let mut given = std::env::args().skip(1);
     while let Some(word) = given.next() {
-        let mut number = || given.next().and_then(|word| word.parse().ok()).expect("nanoseconds");
         match &word[..] {
             "--bars" => words.bars = true,
-            "--openmesh" => words.openmesh = Some([number(), number()]),
+            "--openmesh" => {
+                words.openmesh = Some([given.next().expect("a program"), given.next().expect("a file")]);
+            }
             "--sheet" => {
                 std::fs::write(given.next().expect("a file"), off(&published())).expect("the file is written");
                 std::process::exit(0);
@@ -71,8 +75,8 @@ fn main() {
     findings(&mut bench, table);
     bench.print();
     growth(&levels, &mut bench);
-    if let Some(times) = words.openmesh {
-        openmesh(times, &mut bench);
+    if let Some([program, file]) = words.openmesh {
+        beside(OpenMesh::start(&program, &file), &mut bench);
     }
     sizes(table);
     let over = &bench.over.0;
@@ -363,35 +367,27 @@ fn findings(bench: &mut Bench, table: &[u8]) {
     );
 }
 
-/// From about 500 to 50,000 vertices: the library's time per vertex at each size, in tables as full each time.
+/// From about 500 to 50,000 vertices: the library's time per vertex at each size, in tables as full each time, the sizes by turns.
 fn growth(levels: &[(Vec<u8>, Vec<i32>)], bench: &mut Bench) {
-    let rounds = bench.rounds;
-    let mut rows: Vec<(usize, [f64; 5])> = Vec::new();
+    let steps: Vec<Grown> = levels.windows(2).filter(|step| count(&step[1].0) >= 400).map(grown).collect();
+    let mut rows = vec![[Duration::MAX; 5]; steps.len()];
+    let mut out = vec![1; 26 * MOST];
+    for _ in 0..bench.rounds {
+        for (step, row) in steps.iter().zip(&mut rows) {
+            clock::lesser(row, step.round(&mut out));
+        }
+    }
     println!(
         "\ngrowth: nanoseconds a vertex, tables three quarters full\n  {:>8} {:>14} {:>11} {:>12} {:>10} {:>13}",
         "vertices", "subdivide_all", "write_full", "write_reduced", "read_full", "read_reduced"
     );
-    for step in levels.windows(2).filter(|step| count(&step[1].0) >= 400) {
-        let vertices = count(&step[1].0);
-        let (before, after) = (relaid(&step[0].0, vertices * 4 / 3), relaid(&step[1].0, vertices * 4 / 3));
-        let (mut out, mut reduced) = (vec![0; 26 * vertices], vec![0; 26 * vertices]);
-        let (long, short) = (library::write_full(&after, &mut out).1 as usize, library::write_reduced(&after, &mut reduced).1 as usize);
-        let (file, reduced) = (out[..long].to_vec(), reduced[..short].to_vec());
-        let per_vertex = |task: &mut dyn FnMut() -> std::time::Duration| clock::least(rounds, task).as_nanos() as f64 / vertices as f64;
-        let subdivide = per_vertex(&mut || {
-            let mut table = before.clone();
-            clock::time(|| assert_eq!(library::subdivide_all(&mut table, &step[0].1).0, 0))
-        });
-        let (mut table, mut scratch) = (after.clone(), after.clone());
-        let full = per_vertex(&mut || clock::time(|| assert_eq!(library::write_full(&after, &mut out).0, 0)));
-        let less = per_vertex(&mut || clock::time(|| assert_eq!(library::write_reduced(&after, &mut out).0, 0)));
-        let read = per_vertex(&mut || clock::time(|| assert_eq!(library::read_full(&mut table, &mut scratch, &file).0, 0)));
-        let read_less = per_vertex(&mut || clock::time(|| assert_eq!(library::read_reduced(&mut table, &mut scratch, &reduced).0, 0)));
-        println!("  {vertices:>8} {subdivide:>14.0} {full:>11.0} {less:>12.0} {read:>10.0} {read_less:>13.0}");
-        rows.push((vertices, [subdivide, full, less, read, read_less]));
+    let per_vertex: Vec<[f64; 5]> =
+        steps.iter().zip(rows).map(|(step, row)| row.map(|time| time.as_nanos() as f64 / step.vertices as f64)).collect();
+    for (step, [subdivide, full, less, read, read_less]) in steps.iter().zip(&per_vertex) {
+        println!("  {:>8} {subdivide:>14.0} {full:>11.0} {less:>12.0} {read:>10.0} {read_less:>13.0}", step.vertices);
     }
-    let (most, last) = rows.last().expect("a sheet");
-    let (_, first) = rows.iter().find(|(vertices, _)| *vertices == GROWN_FROM).expect("the sheet that growth is counted from");
+    let (most, last) = (steps[steps.len() - 1].vertices, per_vertex[steps.len() - 1]);
+    let first = per_vertex[steps.iter().position(|step| step.vertices == GROWN_FROM).expect("the sheet that growth is counted from")];
     let ratio = |i: usize| last[i] / first[i];
     print!("  {:>8} {:>14.2} {:>11.2} {:>12.2} {:>10.2} {:>13.2}", "ratio", ratio(0), ratio(1), ratio(2), ratio(3), ratio(4));
     println!("   a vertex of {most} beside one of {GROWN_FROM}, at most {GROWTH:.2}");
@@ -400,26 +396,72 @@ fn growth(levels: &[(Vec<u8>, Vec<i32>)], bench: &mut Bench) {
     }
 }
 
-/// The full file, and our own OFF file, beside OpenMesh's OFF file of the same sheet, all from memory and to memory.
-fn openmesh(times: [f64; 2], bench: &mut Bench) {
+/// A sheet before and after one more level, and its files.
+struct Grown {
+    vertices: usize,
+    before: Vec<u8>,
+    list: Vec<i32>,
+    after: Vec<u8>,
+    full: Vec<u8>,
+    reduced: Vec<u8>,
+}
+
+fn grown(step: &[(Vec<u8>, Vec<i32>)]) -> Grown {
+    let vertices = count(&step[1].0);
+    let (before, after) = (relaid(&step[0].0, vertices * 4 / 3), relaid(&step[1].0, vertices * 4 / 3));
+    let file = |write: Write| {
+        let mut out = vec![0; 26 * vertices];
+        let long = write(&after, &mut out).1 as usize;
+        out.truncate(long);
+        out
+    };
+    let (full, reduced) = (file(library::write_full), file(library::write_reduced));
+    Grown { vertices, before, list: step[0].1.clone(), after, full, reduced }
+}
+
+impl Grown {
+    /// How long the five calls take.
+    fn round(&self, out: &mut [u8]) -> [Duration; 5] {
+        let (mut table, mut scratch) = (self.before.clone(), self.before.clone());
+        [
+            clock::time(|| assert_eq!(library::subdivide_all(&mut table, &self.list).0, 0)),
+            clock::time(|| assert_eq!(library::write_full(&self.after, out).0, 0)),
+            clock::time(|| assert_eq!(library::write_reduced(&self.after, out).0, 0)),
+            clock::time(|| assert_eq!(library::read_full(&mut table, &mut scratch, &self.full).0, 0)),
+            clock::time(|| assert_eq!(library::read_reduced(&mut table, &mut scratch, &self.reduced).0, 0)),
+        ]
+    }
+}
+
+/// The full file, and our own OFF file, beside OpenMesh's OFF file of the same sheet, by turns, all from memory and to memory.
+fn beside(mut openmesh: OpenMesh, bench: &mut Bench) {
     let sheet = published();
     let vertices = count(&sheet);
-    let (mut table, mut scratch, mut out) = (sheet.clone(), sheet.clone(), vec![0; room(vertices)]);
-    let off = clock::least(bench.rounds, &mut || clock::time(|| assert_eq!(library::write_off(&sheet, &mut out).0, 0)));
-    let write = clock::least(bench.rounds, &mut || clock::time(|| assert_eq!(library::write_full(&sheet, &mut out).0, 0)));
+    let (mut table, mut scratch, mut out, mut other) = (sheet.clone(), sheet.clone(), vec![0; room(vertices)], vec![0; room(vertices)]);
     let long = library::write_full(&sheet, &mut out).1 as usize;
-    let read =
-        clock::least(bench.rounds, &mut || clock::time(|| assert_eq!(library::read_full(&mut table, &mut scratch, &out[..long]).0, 0)));
+    let file = out[..long].to_vec();
+    let mut times = [Duration::MAX; 5];
+    for _ in 0..bench.rounds {
+        let [read, written] = openmesh.round();
+        let round = [
+            clock::time(|| assert_eq!(library::read_full(&mut table, &mut scratch, &file).0, 0)),
+            clock::time(|| assert_eq!(library::write_full(&sheet, &mut out).0, 0)),
+            clock::time(|| assert_eq!(library::write_off(&sheet, &mut other).0, 0)),
+            read,
+            written,
+        ];
+        clock::lesser(&mut times, round);
+    }
     println!(
         "\nbeside OpenMesh, {vertices} vertices, nanoseconds a vertex\n  {:12} {:>8} {:>8} {:>14} {:>9}",
         "", "library", "OpenMesh", "times as fast", "at least"
     );
-    let lines = [("read_full", read, times[0], READS), ("write_full", write, times[1], WRITES), ("write_off", off, times[1], VIEWS)];
-    for (name, ours, theirs, bar) in lines {
-        let ours = ours.as_nanos() as f64;
+    let [read, write, off, their_read, their_write] = times.map(|time| time.as_nanos() as f64 / vertices as f64);
+    for (name, ours, theirs, bar) in
+        [("read_full", read, their_read, READS), ("write_full", write, their_write, WRITES), ("write_off", off, their_write, VIEWS)]
+    {
         let mark = bench.over.least(&format!("{name} beside OpenMesh"), theirs / ours, bar);
-        let per_vertex = |ns: f64| ns / vertices as f64;
-        println!("  {name:12} {:>8.0} {:>8.0} {:>14.1} {bar:>9.1} {mark}", per_vertex(ours), per_vertex(theirs), theirs / ours);
+        println!("  {name:12} {ours:>8.0} {theirs:>8.0} {:>14.1} {bar:>9.1} {mark}", theirs / ours);
     }
 }
 

@@ -7,7 +7,7 @@ use Rattle.laws.specs.Machine.{Mx, back, need, whole, _+ᵐ_}
 use Rattle.lattice.specs.Points.{pt}
 use Rattle.table.specs.Entries.{holds}
 use Rattle.local.specs.BornLaws.{small-size}
-use Rattle.counts.specs.Counts.{bit}
+use Rattle.firsts.specs.Faces.{bit}
 use Rattle.tally.proofs.beside.Statement.{statement}
 use Rattle.tally.proofs.beside.Tie as tie
 

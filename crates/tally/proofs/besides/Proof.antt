@@ -1,7 +1,7 @@
 -- `tally::besides` meets its promise. Assumes nothing.
 use borrow.Author.Needs.{needs}
 use native.Mathlib.Omega.{arith}
-use Rattle.counts.specs.Earlier.{sumBelow}
+use Rattle.firsts.specs.Earlier.{sumBelow}
 use Rattle.together.specs.Tally.{besideOf}
 use Rattle.tally.proofs.besides.Statement.{statement}
 use Rattle.tally.proofs.besides.Tie as tie

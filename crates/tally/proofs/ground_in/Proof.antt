@@ -4,8 +4,8 @@ use mathlib.Core.Path.{sym, ap, _∙_}
 use native.Mathlib.Omega.{arith}
 use Prim.Native.Nat.{ℕ}
 use Rattle.lattice.specs.declared.records.Record.{Record}
-use Rattle.counts.specs.Counts.{bit}
-use Rattle.counts.specs.Earlier.{slotSum}
+use Rattle.firsts.specs.Faces.{bit}
+use Rattle.firsts.specs.Earlier.{slotSum}
 use Rattle.together.specs.Tally.{onGround}
 use Rattle.tally.proofs.ground_in.Statement.{statement}
 use Rattle.tally.proofs.ground_in.Tie as tie

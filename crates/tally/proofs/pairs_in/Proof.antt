@@ -9,7 +9,7 @@ use Rattle.lattice.specs.declared.records.Record.{Record}
 use Rattle.table.specs.Slots.{slotsOf, slotAt}
 use Rattle.table.specs.declared.slots.Slot.the-variants.{Holds}
 use Rattle.local.specs.BornLaws.{valid-small}
-use Rattle.counts.specs.Earlier.{slotSum}
+use Rattle.firsts.specs.Earlier.{slotSum}
 use Rattle.together.specs.Tally.{isCentre, besidesAt}
 use Rattle.tally.proofs.pairs_in.Statement.{statement}
 use Rattle.tally.proofs.pairs_in.Tie as tie

@@ -7,9 +7,9 @@ use native.Mathlib.Omega.{arith}
 use Prim.Native.Nat.{ℕ, _≤_, _-_}
 use Rattle.lattice.specs.declared.records.Record.{Record}
 use Rattle.table.specs.Slots.{slotsOf, slotAt}
+use Rattle.firsts.specs.Faces.{bit}
+use Rattle.firsts.specs.Earlier.{sumBelow, slotSum}
 use Rattle.counts.specs.CaseLaws.{Summed, summed-start, summed-more}
-use Rattle.counts.specs.Counts.{bit}
-use Rattle.counts.specs.Earlier.{sumBelow, slotSum}
 use Rattle.together.specs.Tally.{isCentre, onGround, besidesAt, hexagonsIn, groundIn, pairsIn}
 use Rattle.tally.proofs.summed.Statement.{statement}
 use Rattle.tally.proofs.summed.Tie as tie

@@ -8,7 +8,7 @@ use Rattle.writers.specs.CallLaws.{out-is}
 use Rattle.laws.specs.Each.{never}
 use Rattle.table.specs.Order.{InOrder, inOrderOf}
 use Rattle.table.specs.MapLaws.{test-order}
-use Rattle.counts.specs.Earlier.{plainOf}
+use Rattle.firsts.specs.Earlier.{plainOf}
 use Rattle.mesh_faces.specs.MeshFaces.{tornOf}
 use Rattle.mesh_faces.specs.Plain.{plain-untorn}
 use Rattle.viewer.specs.CallLaws.{view-disorder, view-torn, view-whole}

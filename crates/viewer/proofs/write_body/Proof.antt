@@ -7,19 +7,19 @@ use borrow.Author.Needs.{needs}
 use lib.Dec.{ltb}
 use lib.ListN.{length, take, drop}
 use Rattle.table.specs.Slots.{slotAt}
-use Rattle.counts.specs.declared.faces.Face.{Face}
+use Rattle.firsts.specs.declared.faces.Face.{Face}
 use Rattle.sorting.specs.Sorting.{sortBy, keyWidth}
 use Rattle.writers.specs.Kept.{places}
 use Rattle.writers.specs.KeptLaws.{Filled}
 use Rattle.mesh_faces.specs.MeshFaces.{meshFaces}
-use Rattle.viewer.specs.Viewer.{texts}
-use Rattle.viewer.specs.Ranks.{keysOf}
+use Rattle.viewer_lines.specs.ViewerLines.{texts}
+use Rattle.numbering.specs.Ranks.{keysOf}
 use Rattle.mesh_faces.specs.Once.{freshBelow, fresh-all}
-use Rattle.viewer.specs.Backward.{texts-sort}
-use Rattle.viewer.specs.Lines.{keyLine, Queue}
+use Rattle.viewer_lines.specs.Backward.{texts-sort}
+use Rattle.viewer_lines.specs.Lines.{keyLine, Queue}
 use Rattle.viewer.specs.CallLaws.{facePart}
 use Rattle.viewer.specs.BodyLaws.{FacesIn, faceKeys, vertices-are, Body}
-use Rattle.viewer.specs.Keyed.{keysBelow}
+use Rattle.numbering.specs.Keyed.{keysBelow}
 use Rattle.viewer.specs.BodyLaws.{many, body-keys, body-least, Arranged, body-arranged, body-room, body-from, body-long, body-queue}
 use Rattle.viewer.specs.BodyLaws.{body-lines-end, body-same, body-kept, body-lines}
 use Rattle.viewer.proofs.write_body.Statement.{statement}

@@ -9,9 +9,10 @@ use borrow.Author.Tests.{ltb-true, ltb-false}
 use Rattle.writers.specs.CallLaws.{out-is}
 use Rattle.counts.specs.Counts.{countsOf}
 use Rattle.counts.specs.declared.Counts.{Counts}
-use Rattle.viewer.specs.Viewer.{headText, viewerFile}
+use Rattle.viewer_lines.specs.ViewerLines.{headText}
+use Rattle.viewer.specs.Viewer.{viewerFile}
 use Rattle.viewer.specs.CallLaws.{vertexPart, facePart, vertex-part, view-long, view-done, put-short, put-done}
-use Rattle.viewer.specs.declared.styles.Style.{Style}
+use Rattle.viewer_lines.specs.declared.styles.Style.{Style}
 use Rattle.viewer.proofs.write_file.Statement.{statement}
 use Rattle.viewer.proofs.write_file.Tie as tie
 

@@ -7,9 +7,9 @@ use borrow.Author.Needs.{needs}
 use lib.Dec.{ltb}
 use lib.ListN.{length, drop}
 use Rattle.sorting.specs.Sorting.{sortBy, keysIn}
-use Rattle.viewer.specs.Viewer.{texts}
-use Rattle.viewer.specs.Backward.{texts-sort}
-use Rattle.viewer.specs.Lines.{keyLine, Queue}
+use Rattle.viewer_lines.specs.ViewerLines.{texts}
+use Rattle.viewer_lines.specs.Backward.{texts-sort}
+use Rattle.viewer_lines.specs.Lines.{keyLine, Queue}
 use Rattle.viewer.specs.BodyLaws.{queue-keys, queue-sorted, queue-lines, queue-past}
 use Rattle.viewer.proofs.write_sorted.Statement.{statement}
 use Rattle.viewer.proofs.write_sorted.Tie as tie

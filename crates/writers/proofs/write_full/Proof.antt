@@ -12,30 +12,30 @@ use Rattle.writers.proofs.write_full.Tie as tie
 
 returns : tie.Need-returns
 returns c =
-    let i = c .before .before in
+    let i = c .before .before .before in
     let s = i .before .before .before in
     let t = s .args .table .now in
     out-is (s .args .out .now) (c .answer .ensures .0) (c .answer .ensures .1)
-    ∙ write-disorder (fullFile t) t (s .args .out .now) (sym (i .in-order .ensures) ∙ not-true (i .in-order .result) (c .before .if1 .taken))
+    ∙ write-disorder (fullFile t) t (s .args .out .now) (sym (i .check-order .ensures .0) ∙ not-true (i .check-order .result .ok) (c .before .if1 .taken))
 
 write-kept-requires : tie.Need-write-kept-requires
 write-kept-requires c κs =
     let n = c .before .before in
-    let e = n .before in
-    let i = e .before in
+    let i = n .before .before .before in
     let s = i .before .before .before in
-    (test-order (s .args .table .now) (sym (i .in-order .ensures) ∙ not-false (i .in-order .result) (e .if1 .left)), n .slots-of .ensures)
+    let ok = not-false (i .check-order .result .ok) (n .before .if1 .left) in
+    ((test-order (s .args .table .now) (sym (i .check-order .ensures .0) ∙ ok), n .slots-of .ensures), i .check-order .ensures .1 ok)
 
 returns-2 : tie.Need-returns-2
 returns-2 c =
     let w = c .before .before in
     let e = w .before .before .before .before in
-    let i = e .before in
+    let i = e .before .before in
     let s = i .before .before .before in
     let t = s .args .table .now in
     let o = s .args .out .now in
     w .write-kept .ensures ∙ ap (λ (x : List ℕ). putOf x o) (unmarked-file t)
-    ∙ write-order (fullFile t) t o (sym (i .in-order .ensures) ∙ not-false (i .in-order .result) (e .if1 .left))
+    ∙ write-order (fullFile t) t o (sym (i .check-order .ensures .0) ∙ not-false (i .check-order .result .ok) (e .if1 .left))
 
 pub write-full-spec : {M : Type 1} → statement M
 write-full-spec =

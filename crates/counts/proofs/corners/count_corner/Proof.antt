@@ -5,9 +5,10 @@ use native.Mathlib.Omega.{arith}
 use borrow.Author.Needs.{needs}
 use Rattle.laws.specs.Each.{never}
 use Rattle.queries.specs.Queries.{isPoint, chosenAt}
-use Rattle.counts.specs.Earlier.{facesAndSides}
-use Rattle.counts.specs.Choices.{choice-is, choice-neither}
-use Rattle.counts.specs.CaseLaws.{faced-second, corner-none, far-none, plain-none}
+use Rattle.firsts.specs.Choices.{choice-is, choice-neither}
+use Rattle.firsts.specs.CaseLaws.{plain-none}
+use Rattle.counts.specs.Counted.{facesAndSides}
+use Rattle.counts.specs.CaseLaws.{faced-second, corner-none, far-none}
 use Rattle.counts.proofs.corners.count_corner.Statement.{statement}
 use Rattle.counts.proofs.corners.count_corner.Tie as tie
 

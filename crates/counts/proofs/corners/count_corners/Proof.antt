@@ -4,8 +4,9 @@ use Prim.Native.Nat.{ℕ, _≤_, _-_}
 use native.Mathlib.Omega.{arith}
 use borrow.Author.Needs.{needs}
 use Rattle.laws.specs.Rules.{upto}
-use Rattle.counts.specs.Earlier.{sumBelow, facesAndSides, slotFaces, slotSides, plainSlot, plainOf}
-use Rattle.counts.specs.FaceLaws.{faces-counted}
+use Rattle.firsts.specs.Earlier.{sumBelow, slotFaces, plainSlot, plainOf}
+use Rattle.firsts.specs.FaceLaws.{faces-counted}
+use Rattle.counts.specs.Counted.{facesAndSides, slotSides}
 use Rattle.counts.specs.EdgeLaws.{edges-counted}
 use Rattle.counts.specs.CaseLaws.{Summed, summed-start, summed-more, all-more}
 use Rattle.counts.specs.declared.corners.Counted.{Counted}

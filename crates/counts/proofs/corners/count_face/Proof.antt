@@ -8,16 +8,18 @@ use borrow.Author.Tests.{ltb-true}
 use Rattle.lattice.specs.declared.points.Point.{Point}
 use Rattle.table.specs.Slots.{Table, slotsOf}
 use Rattle.queries.specs.Queries.{isPoint}
-use Rattle.counts.specs.Counts.{face}
+use Rattle.firsts.specs.Faces.{face}
 use lib.Dec.{ltb}
 use Rattle.lattice.specs.Stars.{adjacentAt}
-use Rattle.counts.specs.Earlier.{facesAndSides, Spared, faceBefore, faceOn, innersIn, innersBefore}
-use Rattle.counts.specs.EarlierLaws.{placed-at, placed-slot, holds-slot}
+use Rattle.firsts.specs.Earlier.{faceBefore, faceOn, innersIn, innersBefore}
+use Rattle.firsts.specs.EarlierLaws.{placed-at, placed-slot, holds-slot}
+use Rattle.firsts.specs.Strides.{ToldOf}
+use Rattle.firsts.specs.CaseLaws.{plain-face}
+use Rattle.firsts.specs.declared.earlier.Placed.{Placed}
+use Rattle.firsts.specs.declared.faces.Face.{Face}
+use Rattle.counts.specs.Counted.{facesAndSides, Spared}
 use Rattle.counts.specs.EdgeLaws.{far-spared}
-use Rattle.counts.specs.Strides.{ToldOf}
-use Rattle.counts.specs.CaseLaws.{faced-first, corner-counted, plain-face}
-use Rattle.counts.specs.declared.earlier.Placed.{Placed}
-use Rattle.counts.specs.declared.faces.Face.{Face}
+use Rattle.counts.specs.CaseLaws.{faced-first, corner-counted}
 use Rattle.counts.proofs.corners.count_face.Statement.{statement}
 use Rattle.counts.proofs.corners.count_face.Tie as tie
 

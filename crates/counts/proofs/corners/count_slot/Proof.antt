@@ -2,8 +2,9 @@
 use mathlib.Core.Path.{sym, _∙_}
 use native.Mathlib.Omega.{arith}
 use borrow.Author.Needs.{needs}
-use Rattle.counts.specs.Earlier.{facesAndSides}
-use Rattle.counts.specs.CaseLaws.{sides-free, sides-holds, faces-free, faces-holds, plain-free, plain-holds}
+use Rattle.firsts.specs.CaseLaws.{plain-free, plain-holds}
+use Rattle.counts.specs.Counted.{facesAndSides}
+use Rattle.counts.specs.CaseLaws.{sides-free, sides-holds, faces-free, faces-holds}
 use Rattle.counts.proofs.corners.count_slot.Statement.{statement}
 use Rattle.counts.proofs.corners.count_slot.Tie as tie
 

@@ -11,10 +11,11 @@ use Rattle.laws.specs.Rules.{upto}
 use Rattle.lattice.specs.Stars.{adjacentAt}
 use Rattle.lattice.specs.RecordLaws.{Inner}
 use Rattle.table.specs.Slots.{Table}
-use Rattle.counts.specs.Counts.{nextPlace}
-use Rattle.counts.specs.Earlier.{sumBelow, placedOf, facesAndSides, cornerCount, sideCount, plainAt}
-use Rattle.counts.specs.DifferentLaws.{sum-none}
-use Rattle.counts.specs.EarlierLaws.{valid-inner, valid-degree}
+use Rattle.firsts.specs.Faces.{nextPlace}
+use Rattle.firsts.specs.Earlier.{sumBelow, placedOf, cornerCount, plainAt}
+use Rattle.firsts.specs.DifferentLaws.{sum-none}
+use Rattle.firsts.specs.EarlierLaws.{valid-inner, valid-degree}
+use Rattle.counts.specs.Counted.{facesAndSides, sideCount}
 use Rattle.counts.specs.CaseLaws.{Summed, summed-start, summed-more, all-more}
 use Rattle.counts.specs.declared.corners.Counted.{Counted}
 use Rattle.counts.proofs.corners.count_star.Statement.{statement}

@@ -2,7 +2,7 @@
 use mathlib.Core.Path.{ap, sym, _∙_}
 use mathlib.Core.Bool.{Bool, not, _||_, or-true, or-false}
 use borrow.Author.Needs.{needs}
-use Rattle.counts.specs.Earlier.{innersIn}
+use Rattle.firsts.specs.Earlier.{innersIn}
 use Rattle.counts.proofs.corners.is_first.Statement.{statement}
 use Rattle.counts.proofs.corners.is_first.Tie as tie
 

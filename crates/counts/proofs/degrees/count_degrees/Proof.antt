@@ -5,8 +5,10 @@ use native.Mathlib.Omega.{arith}
 use borrow.Author.Needs.{needs}
 use lib.Dec.{eqb, lit<}
 use Rattle.table.specs.MapLaws.{table-slots}
-use Rattle.counts.specs.Counts.{bit, degreeIn}
-use Rattle.counts.specs.Earlier.{sumBelow, noDegree, slotDegree, degrees}
+use Rattle.firsts.specs.Faces.{bit}
+use Rattle.firsts.specs.Earlier.{sumBelow}
+use Rattle.counts.specs.Counts.{degreeIn}
+use Rattle.counts.specs.Counted.{noDegree, slotDegree, degrees}
 use Rattle.counts.specs.DegreeLaws.{degree-counted}
 use Rattle.counts.specs.CaseLaws.{Summed, summed-start, summed-more, degree-counts}
 use Rattle.counts.proofs.degrees.count_degrees.Statement.{statement}

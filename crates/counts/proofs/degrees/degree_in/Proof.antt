@@ -1,7 +1,7 @@
 -- `counts::degree_in` meets its promise: by what the slot holds. Assumes nothing.
 use mathlib.Core.Path.{ap, sym, _∙_}
 use borrow.Author.Needs.{needs}
-use Rattle.counts.specs.Earlier.{degreeAt}
+use Rattle.counts.specs.Counted.{degreeAt}
 use Rattle.counts.proofs.degrees.degree_in.Statement.{statement}
 use Rattle.counts.proofs.degrees.degree_in.Tie as tie
 

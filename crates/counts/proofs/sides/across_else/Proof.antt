@@ -5,7 +5,7 @@ use native.Mathlib.Omega.{arith}
 use borrow.Author.Needs.{needs}
 use Rattle.table.specs.Search.{samePoint}
 use Rattle.across.specs.Across.{apexOf}
-use Rattle.counts.specs.Earlier.{apexSeen}
+use Rattle.counts.specs.Counted.{apexSeen}
 use Rattle.counts.specs.CaseLaws.{across-left, across-right, across-narrow}
 use Rattle.counts.proofs.sides.across_else.Statement.{statement}
 use Rattle.counts.proofs.sides.across_else.Tie as tie

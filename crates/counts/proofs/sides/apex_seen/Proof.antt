@@ -4,8 +4,9 @@ use native.Mathlib.Omega.{arith}
 use borrow.Author.Needs.{needs}
 use Rattle.table.specs.MapLaws.{order-table}
 use Rattle.table.specs.Slots.{Table}
-use Rattle.counts.specs.Earlier.{heldAnd, hasEither, earlierIn, apexSeen}
-use Rattle.counts.specs.EarlierLaws.{earlier-valid}
+use Rattle.firsts.specs.Earlier.{heldAnd, earlierIn}
+use Rattle.firsts.specs.EarlierLaws.{earlier-valid}
+use Rattle.counts.specs.Counted.{hasEither, apexSeen}
 use Rattle.counts.proofs.sides.apex_seen.Statement.{statement}
 use Rattle.counts.proofs.sides.apex_seen.Tie as tie
 

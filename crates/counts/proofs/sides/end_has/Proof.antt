@@ -3,7 +3,7 @@ use mathlib.Core.Path.{_≡_, ap, sym, _∙_}
 use mathlib.Core.Bool.{Bool, _||_}
 use native.Mathlib.Omega.{arith}
 use Rattle.table.specs.Slots.{slotsOf}
-use Rattle.counts.specs.Earlier.{nearIn, nearBefore, endHas}
+use Rattle.firsts.specs.Earlier.{nearIn, nearBefore, endHas}
 use Rattle.counts.proofs.sides.end_has.Statement.{statement}
 use Rattle.counts.proofs.sides.end_has.Tie as tie
 

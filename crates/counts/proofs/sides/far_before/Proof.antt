@@ -6,7 +6,7 @@ use native.Mathlib.Omega.{arith}
 use borrow.Author.Needs.{needs}
 use Rattle.laws.specs.Rules.{among}
 use Rattle.laws.specs.Each.{at-among, among-more}
-use Rattle.counts.specs.Earlier.{farSeen, farBefore}
+use Rattle.counts.specs.Counted.{farSeen, farBefore}
 use Rattle.counts.proofs.sides.far_before.Statement.{statement}
 use Rattle.counts.proofs.sides.far_before.Tie as tie
 

@@ -7,13 +7,14 @@ use borrow.Author.Needs.{needs}
 use lib.Dec.{ltb}
 use Rattle.lattice.specs.Stars.{adjacentAt}
 use Rattle.lattice.specs.declared.points.Point.{Point}
-use Rattle.counts.specs.Counts.{nextPlace}
 use Rattle.across.specs.Across.{StarPoint}
-use Rattle.counts.specs.Earlier.{slotIn, endHas, faceOn, farOne}
-use Rattle.counts.specs.EarlierLaws.{placed-at, placed-slot}
-use Rattle.counts.specs.FaceLaws.{next-below}
 use Rattle.across.specs.OppositeLaws.{adjacent-bound, chosen-bound}
-use Rattle.counts.specs.ToldLaws.{before-ended, after-ended}
+use Rattle.firsts.specs.Faces.{nextPlace}
+use Rattle.firsts.specs.Earlier.{slotIn, endHas, faceOn}
+use Rattle.firsts.specs.EarlierLaws.{placed-at, placed-slot}
+use Rattle.firsts.specs.FaceLaws.{next-below}
+use Rattle.firsts.specs.ToldLaws.{before-ended, after-ended}
+use Rattle.counts.specs.Counted.{farOne}
 use Rattle.counts.specs.CaseLaws.{far-counted}
 use Rattle.counts.proofs.sides.far_count.Statement.{statement}
 use Rattle.counts.proofs.sides.far_count.Tie as tie

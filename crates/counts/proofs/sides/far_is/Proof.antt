@@ -6,8 +6,8 @@ use Rattle.lattice.specs.Stars.{adjacentAt}
 use Rattle.lattice.specs.declared.points.Point.{Point}
 use Rattle.lattice.specs.declared.patterns.Spot.{Spot}
 use Rattle.table.specs.Search.{samePoint}
-use Rattle.counts.specs.Counts.{nextPlace}
-use Rattle.counts.specs.Earlier.{spotIs}
+use Rattle.firsts.specs.Faces.{nextPlace}
+use Rattle.firsts.specs.Earlier.{spotIs}
 use Rattle.counts.specs.CaseLaws.{far-first, far-second, far-neither}
 use Rattle.counts.proofs.sides.far_is.Statement.{statement}
 use Rattle.counts.proofs.sides.far_is.Tie as tie

@@ -4,8 +4,9 @@ use native.Mathlib.Omega.{arith}
 use borrow.Author.Needs.{needs}
 use Rattle.table.specs.MapLaws.{order-table}
 use Rattle.table.specs.Slots.{Table}
-use Rattle.counts.specs.Earlier.{heldAnd, hasFar, slotIn, earlierIn, farSeen}
-use Rattle.counts.specs.EarlierLaws.{earlier-valid}
+use Rattle.firsts.specs.Earlier.{heldAnd, hasFar, slotIn, earlierIn}
+use Rattle.firsts.specs.EarlierLaws.{earlier-valid}
+use Rattle.counts.specs.Counted.{farSeen}
 use Rattle.counts.proofs.sides.far_seen.Statement.{statement}
 use Rattle.counts.proofs.sides.far_seen.Tie as tie
 

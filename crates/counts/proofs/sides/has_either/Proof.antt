@@ -2,7 +2,8 @@
 use mathlib.Core.Path.{_≡_, ap, sym, _∙_}
 use mathlib.Core.Bool.{Bool, _||_}
 use borrow.Author.Needs.{needs}
-use Rattle.counts.specs.Earlier.{hasFar, hasEither}
+use Rattle.firsts.specs.Earlier.{hasFar}
+use Rattle.counts.specs.Counted.{hasEither}
 use Rattle.counts.proofs.sides.has_either.Statement.{statement}
 use Rattle.counts.proofs.sides.has_either.Tie as tie
 

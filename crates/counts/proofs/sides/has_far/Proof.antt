@@ -6,8 +6,8 @@ use native.Mathlib.Omega.{arith}
 use borrow.Author.Needs.{needs}
 use Rattle.laws.specs.Rules.{among}
 use Rattle.laws.specs.Each.{at-among, among-more}
-use Rattle.counts.specs.Earlier.{farIs, hasFar}
-use Rattle.counts.specs.EarlierLaws.{valid-inner}
+use Rattle.firsts.specs.Earlier.{farIs, hasFar}
+use Rattle.firsts.specs.EarlierLaws.{valid-inner}
 use Rattle.counts.proofs.sides.has_far.Statement.{statement}
 use Rattle.counts.proofs.sides.has_far.Tie as tie
 

@@ -6,8 +6,8 @@ use native.Mathlib.Omega.{arith}
 use borrow.Author.Needs.{needs}
 use Rattle.laws.specs.Rules.{among}
 use Rattle.laws.specs.Each.{at-among, among-more}
-use Rattle.counts.specs.Earlier.{nearIs, hasNear}
-use Rattle.counts.specs.EarlierLaws.{valid-inner}
+use Rattle.firsts.specs.Earlier.{nearIs, hasNear}
+use Rattle.firsts.specs.EarlierLaws.{valid-inner}
 use Rattle.counts.proofs.sides.has_near.Statement.{statement}
 use Rattle.counts.proofs.sides.has_near.Tie as tie
 

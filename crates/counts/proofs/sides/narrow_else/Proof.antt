@@ -5,7 +5,7 @@ use native.Mathlib.Omega.{arith}
 use borrow.Author.Needs.{needs}
 use Rattle.table.specs.Slots.{slotsOf}
 use Rattle.across.specs.Across.{apexOf}
-use Rattle.counts.specs.Earlier.{apexSeen}
+use Rattle.counts.specs.Counted.{apexSeen}
 use Rattle.counts.specs.CaseLaws.{narrow-first, narrow-second, narrow-rest}
 use Rattle.counts.proofs.sides.narrow_else.Statement.{statement}
 use Rattle.counts.proofs.sides.narrow_else.Tie as tie

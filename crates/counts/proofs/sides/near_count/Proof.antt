@@ -2,8 +2,8 @@
 use mathlib.Core.Path.{ap, sym, _∙_}
 use native.Mathlib.Omega.{arith}
 use borrow.Author.Tests.{not-true, not-false}
+use Rattle.firsts.specs.declared.earlier.Placed.{Placed}
 use Rattle.counts.specs.CaseLaws.{near-none, near-counted}
-use Rattle.counts.specs.declared.earlier.Placed.{Placed}
 use Rattle.counts.proofs.sides.near_count.Statement.{statement}
 use Rattle.counts.proofs.sides.near_count.Tie as tie
 

@@ -4,8 +4,8 @@ use native.Mathlib.Omega.{arith}
 use borrow.Author.Needs.{needs}
 use Rattle.table.specs.MapLaws.{order-table}
 use Rattle.table.specs.Slots.{Table}
-use Rattle.counts.specs.Earlier.{heldAnd, hasNear, nearIn}
-use Rattle.counts.specs.EarlierLaws.{earlier-valid}
+use Rattle.firsts.specs.Earlier.{heldAnd, hasNear, nearIn}
+use Rattle.firsts.specs.EarlierLaws.{earlier-valid}
 use Rattle.counts.proofs.sides.near_in.Statement.{statement}
 use Rattle.counts.proofs.sides.near_in.Tie as tie
 

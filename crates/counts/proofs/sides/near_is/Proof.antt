@@ -6,7 +6,7 @@ use borrow.Author.Tests.{not-true, not-false}
 use Rattle.lattice.specs.Stars.{adjacentAt}
 use Rattle.lattice.specs.declared.points.Point.{Point}
 use Rattle.table.specs.Search.{samePoint}
-use Rattle.counts.specs.Earlier.{faced}
+use Rattle.firsts.specs.Earlier.{faced}
 use Rattle.counts.proofs.sides.near_is.Statement.{statement}
 use Rattle.counts.proofs.sides.near_is.Tie as tie
 

@@ -7,8 +7,8 @@ use borrow.Author.Tests.{le-ltb}
 use Rattle.table.specs.Slots.{slotAt}
 use Rattle.table.specs.Entries.{heldIn}
 use Rattle.table.specs.declared.entries.Looked.the-variants.{Absent}
-use Rattle.counts.specs.Earlier.{heldAnd, hasNear, earlierIn, nearIn}
-use Rattle.counts.specs.ToldLaws.{near-earlier}
+use Rattle.firsts.specs.Earlier.{heldAnd, hasNear, earlierIn, nearIn}
+use Rattle.firsts.specs.ToldLaws.{near-earlier}
 use Rattle.counts.proofs.sides.near_known.Statement.{statement}
 use Rattle.counts.proofs.sides.near_known.Tie as tie
 

@@ -1,12 +1,11 @@
 -- `lattice::ranks::class` meets its promise. Assumes nothing.
 use borrow.Author.Needs.{needs}
-use lib.Dec.{lit<}
 use mathlib.Core.Path.{_≡_, sym, _∙_}
-use Prim.Native.Nat.{_+_, _%_, _<_, _-_}
+use Prim.Native.Nat.{_+_, _%_, _-_}
 use native.Mathlib.Omega.{arith}
 use mir.Syntax.{w32}
 use mir.Val.{SFits}
-use Rattle.laws.specs.Residue.{mod-below, modZ, left3-minus}
+use Rattle.laws.specs.Residue.{modZ, left3-minus}
 use Rattle.laws.specs.Machine.{asked}
 use Rattle.lattice.proofs.ranks.class.Statement.{statement}
 use Rattle.lattice.proofs.ranks.class.Tie as tie
@@ -19,28 +18,22 @@ a-is : (c : tie.After-left3) → c .left3 .result ≡ modZ (c .before .before .a
 a-is c =
     let s = c .before in
     let f : SFits w32 (s .before .args .p .a) = record { sfits = omega (arith, s .struct-told .given) } in
-    sym (asked (λ z. modZ z 3) f (c .left3 .ensures))
+    sym (asked (λ z. modZ z 3) f (c .left3 .ensures .0))
 
 b-is : (c : tie.After-left32) → c .left32 .result ≡ modZ (c .before .before .before .before .args .p .b) 3
 b-is c =
     let s = c .before in
     let f : SFits w32 (s .before .before .before .args .p .b) = record { sfits = omega (arith, s .struct-told2 .given) } in
-    sym (asked (λ z. modZ z 3) f (c .left32 .ensures))
-
-a-left : (c : tie.After-left3) → c .left3 .result < 3
-a-left c = omega (arith, a-is c, mod-below (c .before .before .args .p .a) 3 (lit< tt))
-
-b-left : (c : tie.After-left32) → c .left32 .result < 3
-b-left c = omega (arith, b-is c, mod-below (c .before .before .before .before .args .p .b) 3 (lit< tt))
+    sym (asked (λ z. modZ z 3) f (c .left32 .ensures .0))
 
 add-result : tie.Need-add-result
-add-result c = omega (arith, a-left c)
+add-result c = search needs
 
 left3-requires-2 : tie.Need-left3-requires-2
 left3-requires-2 c κs = search needs
 
 sub-result : tie.Need-sub-result
-sub-result c = let b = b-left c in omega arith
+sub-result c = search needs
 
 returns : tie.Need-returns
 returns c =

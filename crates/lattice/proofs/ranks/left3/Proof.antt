@@ -1,7 +1,7 @@
 -- `lattice::ranks::left3` meets its promise. Assumes nothing.
 use borrow.Author.Needs.{needs}
 use mathlib.Core.Path.{_≡_, sym, _∙_, ap, subst}
-use Prim.Native.Nat.{_<_}
+use Prim.Native.Nat.{ℕ, _<_}
 use native.Mathlib.Omega.{arith}
 use lib.IntN.{ℤ, pos, _+ℤ_, natAbs}
 use mir.Syntax.{w8, w32}
@@ -57,11 +57,14 @@ cast-result-2 : tie.Need-cast-result-2
 cast-result-2 c =
     subst (λ (z : ℤ). T (nonNeg z) × Fits w8 (natAbs z)) (sym (plain c)) (tt, record { fits = omega (arith, left (c .before)) })
 
+told : (c : tie.Start) {n : ℕ} → n ≡ modZ (c .args .x) 3 → (n ≡ modZ (c .args .x) 3) × (n < 3)
+told c e = (e, omega (arith, e, left c))
+
 returns : tie.Need-returns
-returns c = ap natAbs (raised-back c)
+returns c = told (c .before) (ap natAbs (raised-back c))
 
 returns-2 : tie.Need-returns-2
-returns-2 c = ap natAbs (plain c)
+returns-2 c = told (c .before) (ap natAbs (plain c))
 
 pub left3-spec : {M : Type 1} → statement M
 left3-spec = tie.close (tie.spec rem-r add-result cast-result cast-result-2 returns returns-2)

@@ -5,6 +5,7 @@ use mathlib.Core.Bool.{true}
 use Prim.Native.Nat.{_<_}
 use native.Mathlib.Omega.{arith}
 use Rattle.table.specs.Slots.{Table, slotsOf}
+use Rattle.table.specs.MapLaws.{order-test}
 use Rattle.table.specs.declared.slots.Slot.{Slot}
 use Rattle.table.specs.declared.slots.Slot.the-variants.{Free, Holds}
 use Rattle.local.specs.Slots.{judgedSlot, judgedAt}
@@ -25,8 +26,11 @@ passes-requires c κs =
     let s = r .before .before in
     let o = s .pre .0 in
     let l : s .args .i < slotsOf (s .args .t .now) = omega arith in (
-      subst (Table (s .args .t .now)) (sym (s .pre .1 .0)) (o .fits),
-      o .valid (s .args .i) (k .s .given .0 .0) l (sym (r .read-slot .ensures) ∙ k .s .given .1),
+      (
+        subst (Table (s .args .t .now)) (sym (s .pre .1 .0)) (o .fits),
+        o .valid (s .args .i) (k .s .given .0 .0) l (sym (r .read-slot .ensures) ∙ k .s .given .1),
+      ),
+      order-test (s .args .t .now) o,
     )
 
 returns : tie.Need-returns

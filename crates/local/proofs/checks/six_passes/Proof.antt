@@ -13,7 +13,7 @@ returns : tie.Need-returns
 returns c = let a = c .before .before .before .before .args in six-other (sheetOf (a .t .now)) (a .r) (c .if1 .taken)
 
 rank-requires : tie.Need-rank-requires
-rank-requires c κs = let s = c .before .before .before .before in omega (arith, valid-depth (s .args .r) (s .pre .1))
+rank-requires c κs = let s = c .before .before .before .before in omega (arith, valid-depth (s .args .r) (s .pre .0 .1))
 
 returns-2 : tie.Need-returns-2
 returns-2 c =
@@ -26,7 +26,7 @@ adjacents-there-requires : tie.Need-adjacents-there-requires
 adjacents-there-requires c κs =
     let l = c .before .before .before .before in
     let s = l .before .before .before .before in
-    (s .pre .0, (inner (s .args .r) (of-true (s .pre .1)) (λ e. omega (arith, l .if1 .left)), l .if1 .left))
+    ((s .pre .0 .0, s .pre .1), (inner (s .args .r) (of-true (s .pre .0 .1)) (λ e. omega (arith, l .if1 .left)), l .if1 .left))
 
 returns-3 : tie.Need-returns-3
 returns-3 c =

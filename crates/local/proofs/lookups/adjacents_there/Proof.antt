@@ -1,14 +1,20 @@
 -- `local::adjacents_there` meets its promise. The invariant: the adjacents so far are there. Assumes nothing.
 use borrow.Author.Needs.{needs}
+use borrow.Author.Tests.{not-true, not-false}
 use mathlib.Core.Path.{_≡_, sym, _∙_, ap}
 use mathlib.Core.Bool.{Bool, true}
 use mathlib.Core.List.{List}
 use Prim.Native.Nat.{ℕ, _≤_, _-_}
 use native.Mathlib.Omega.{arith}
+use mir.Syntax.{w32}
+use mir.Val.{SFits}
+use Rattle.laws.specs.Machine.{asked₂}
 use Rattle.laws.specs.Rules.{upto}
 use Rattle.laws.specs.Each.{upto-more, upto-fails}
+use Rattle.lattice.specs.Points.{pt}
 use Rattle.lattice.specs.Stars.{adjacentAt}
 use Rattle.lattice.specs.declared.records.Record.{Record}
+use Rattle.table.specs.Entries.{holds}
 use Rattle.growth.specs.Local.{there}
 use Rattle.local.specs.Sheet.{sheetOf, held-there}
 use Rattle.local.proofs.lookups.adjacents_there.Statement.{statement}
@@ -32,10 +38,13 @@ point-at-requires c κs =
     let s = r .before .before .before in
     (r .ring .ensures, (s .pre .1 .0, omega (arith, s .pre .1 .1)))
 
+stands-requires : tie.Need-stands-requires Inv-loop μ-loop
+stands-requires c κs = let l = c .before .before .before .before .before in l .before .before .before .before .pre .0
+
 -- whether the adjacent at hand is there
-module _ (c : tie.After-is-there Inv-loop μ-loop) where
+module _ (c : tie.After-stands Inv-loop μ-loop) where
   abbrev l : tie.At-loop Inv-loop μ-loop
-  l = c .before .before .before .before
+  l = c .before .before .before .before .before .before
 
   abbrev t : List ℕ
   t = l .before .before .before .before .args .t .now
@@ -43,18 +52,24 @@ module _ (c : tie.After-is-there Inv-loop μ-loop) where
   abbrev r : Record
   r = l .before .before .before .before .args .r
 
-  here : c .is-there .result ≡ thereAt t r (l .loop .j)
-  here = c .is-there .ensures ∙ held-there t (c .before .point-at .ensures)
-
-loop-again : tie.Need-loop-again Inv-loop μ-loop
-loop-again c =
-    let k = c .before in
-    (search needs, upto-more (thereAt (t k) (r k)) (l k .loop .j) (l k .loop .inv .1) (sym (here k) ∙ c .if1 .taken))
+  here : c .stands .result ≡ thereAt t r (l .loop .j)
+  here =
+      let k = c .before .before .before in
+      let q = k .point-at .result in
+      let fa : SFits w32 (q .a) = record { sfits = omega arith } in
+      let fb : SFits w32 (q .b) = record { sfits = omega arith } in
+      sym (asked₂ (λ x y. holds t (pt x y (q .m .0))) fa fb (c .stands .ensures)) ∙ held-there t (k .point-at .ensures)
 
 returns : tie.Need-returns Inv-loop μ-loop
 returns c =
     let k = c .before in
-    sym (upto-fails (thereAt (t k) (r k)) (l k .loop .j) 6 (k .before .before .before .loop-test .taken) (sym (here k) ∙ c .if1 .left))
+    sym (upto-fails (thereAt (t k) (r k)) (l k .loop .j) 6 (k .before .before .before .before .before .loop-test .taken)
+    (sym (here k) ∙ not-true (k .stands .result) (c .if1 .taken)))
+
+loop-again : tie.Need-loop-again Inv-loop μ-loop
+loop-again c =
+    let k = c .before in
+    (search needs, upto-more (thereAt (t k) (r k)) (l k .loop .j) (l k .loop .inv .1) (sym (here k) ∙ not-false (k .stands .result) (c .if1 .left)))
 
 returns-2 : tie.Need-returns-2 Inv-loop μ-loop
 returns-2 c =
@@ -72,9 +87,9 @@ adjacents-there-spec =
     ring-requires
     (λ c. search needs)
     point-at-requires
-    (λ c κs. search needs)
+    stands-requires
+    returns
     (λ c. search needs)
     (λ c. search needs)
     loop-again
-    returns
     returns-2)

@@ -1,11 +1,12 @@
 -- `local::lowest` meets its promise. Assumes nothing.
 use borrow.Author.Needs.{needs}
-use mathlib.Core.Path.{_≡_, sym, _∙_, ap}
+use mathlib.Core.Path.{_∙_, ap}
 use mathlib.Core.Bool.{Bool, cond, _&&_}
 use Prim.Native.Nat.{_-_}
 use lib.IntN.{ℤ, pos}
 use lib.Signed.{quotZ}
 use mir.Facts.{toZ-ofZ}
+use Rattle.laws.specs.Machine.{asked₂}
 use Rattle.lattice.specs.Points.{by3, normalOf}
 use Rattle.local.specs.Steps.{lowest-terms}
 use Rattle.local.proofs.steps.lowest.Statement.{statement}
@@ -20,12 +21,11 @@ returns c =
     let y = n .before in
     let x = y .before in
     let v = x .before in
-    let u = v .before in
-    let s = u .before in
-    let w = u .divides .result && v .divides2 .result in
+    let s = v .before in
+    let w = v .both3 .result in
     let fx = toZ-ofZ (s .fits .x) in
     let fy = toZ-ofZ (s .fits .y) in
-    let whole : by3 (s .args .x) && by3 (s .args .y) ≡ w = sym (λ i. (u .divides .ensures ∙ ap by3 fx) i && (v .divides2 .ensures ∙ ap by3 fy) i) in
+    let whole = asked₂ (λ a b. by3 a && by3 b) (s .fits .x) (s .fits .y) (v .both3 .ensures) in
     let ex = toZ-ofZ (record { sfits = x .third-if .ok }) ∙ x .third-if .ensures ∙ ap (thirdOf w) fx in
     let ey = toZ-ofZ (record { sfits = y .third-if2 .ok }) ∙ y .third-if2 .ensures ∙ ap (thirdOf w) fy in
     c .normalise .ensures
@@ -36,7 +36,6 @@ pub lowest-spec : {M : Type 1} → statement M
 lowest-spec =
     tie.close
     (tie.spec
-    (λ c κs. search needs)
     (λ c κs. search needs)
     (λ c κs. search needs)
     (λ c κs. search needs)

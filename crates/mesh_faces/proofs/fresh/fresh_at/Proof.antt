@@ -3,7 +3,7 @@ use mathlib.Core.Path.{_≡_, ap, _∙_}
 use borrow.Author.Needs.{needs}
 use Rattle.laws.specs.Each.{never}
 use Rattle.lattice.specs.Stars.{adjacentAt}
-use Rattle.counts.specs.Earlier.{placedOf}
+use Rattle.firsts.specs.Earlier.{placedOf}
 use Rattle.mesh_faces.proofs.fresh.fresh_at.Statement.{statement}
 use Rattle.mesh_faces.proofs.fresh.fresh_at.Tie as tie
 

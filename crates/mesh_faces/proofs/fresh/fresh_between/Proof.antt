@@ -1,7 +1,7 @@
 -- `viewer::fresh::fresh_between` meets its promise: by the opposite that is chosen. Assumes nothing.
 use mathlib.Core.Path.{_≡_, ap, sym, _∙_}
 use borrow.Author.Needs.{needs}
-use Rattle.counts.specs.Choices.{choice-is, choice-neither}
+use Rattle.firsts.specs.Choices.{choice-is, choice-neither}
 use Rattle.mesh_faces.specs.Once.{fresh-none}
 use Rattle.mesh_faces.proofs.fresh.fresh_between.Statement.{statement}
 use Rattle.mesh_faces.proofs.fresh.fresh_between.Tie as tie

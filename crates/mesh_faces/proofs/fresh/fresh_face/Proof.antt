@@ -2,11 +2,11 @@
 use mathlib.Core.Path.{_≡_, sym, _∙_, subst}
 use mathlib.Core.Bool.{true, false}
 use borrow.Author.Needs.{needs}
-use Rattle.counts.specs.Counts.{face}
-use Rattle.counts.specs.Earlier.{faceOn}
-use Rattle.counts.specs.EarlierLaws.{placed-at, placed-slot}
-use Rattle.counts.specs.Strides.{ToldOf}
-use Rattle.counts.specs.declared.faces.Face.{Face}
+use Rattle.firsts.specs.Faces.{face}
+use Rattle.firsts.specs.Earlier.{faceOn}
+use Rattle.firsts.specs.EarlierLaws.{placed-at, placed-slot}
+use Rattle.firsts.specs.Strides.{ToldOf}
+use Rattle.firsts.specs.declared.faces.Face.{Face}
 use Rattle.mesh_faces.specs.Once.{fresh-face}
 use Rattle.mesh_faces.proofs.fresh.fresh_face.Statement.{statement}
 use Rattle.mesh_faces.proofs.fresh.fresh_face.Tie as tie

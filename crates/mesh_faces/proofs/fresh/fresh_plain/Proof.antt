@@ -4,10 +4,10 @@ use mathlib.Core.Bool.{Bool, true, false, _||_, or-true}
 use Prim.Native.Nat.{ℕ}
 use borrow.Author.Needs.{needs}
 use Rattle.lattice.specs.Stars.{adjacentAt}
-use Rattle.counts.specs.Counts.{nextPlace}
-use Rattle.counts.specs.Earlier.{slotIn, innerIn}
-use Rattle.counts.specs.Choices.{choice-is, choice-neither}
-use Rattle.counts.specs.declared.earlier.Placed.{Placed}
+use Rattle.firsts.specs.Faces.{nextPlace}
+use Rattle.firsts.specs.Earlier.{slotIn, innerIn}
+use Rattle.firsts.specs.Choices.{choice-is, choice-neither}
+use Rattle.firsts.specs.declared.earlier.Placed.{Placed}
 use Rattle.mesh_faces.specs.Once.{fresh-none}
 use Rattle.mesh_faces.specs.Plain.{plain-hidden}
 use Rattle.mesh_faces.proofs.fresh.fresh_plain.Statement.{statement}

@@ -2,10 +2,10 @@
 use mathlib.Core.Path.{_≡_, sym, _∙_}
 use mathlib.Core.Bool.{Bool, true, false, _||_}
 use borrow.Author.Needs.{needs}
-use Rattle.counts.specs.Counts.{face}
-use Rattle.counts.specs.Earlier.{faceOn, innerIn, innersIn, innersBefore}
-use Rattle.counts.specs.EarlierLaws.{placed-at, placed-slot}
-use Rattle.counts.specs.declared.faces.Face.{Face}
+use Rattle.firsts.specs.Faces.{face}
+use Rattle.firsts.specs.Earlier.{faceOn, innerIn, innersIn, innersBefore}
+use Rattle.firsts.specs.EarlierLaws.{placed-at, placed-slot}
+use Rattle.firsts.specs.declared.faces.Face.{Face}
 use Rattle.mesh_faces.specs.Plain.{plain-fresh}
 use Rattle.mesh_faces.proofs.fresh.lone_face.Statement.{statement}
 use Rattle.mesh_faces.proofs.fresh.lone_face.Tie as tie

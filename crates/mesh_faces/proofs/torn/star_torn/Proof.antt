@@ -6,7 +6,7 @@ use native.Mathlib.Omega.{arith}
 use borrow.Author.Needs.{needs}
 use Rattle.laws.specs.Rules.{upto}
 use Rattle.laws.specs.Each.{upto-more, upto-fails}
-use Rattle.counts.specs.EarlierLaws.{valid-inner}
+use Rattle.firsts.specs.EarlierLaws.{valid-inner}
 use Rattle.mesh_faces.specs.Once.{wholeCorner, torn-star}
 use Rattle.mesh_faces.proofs.torn.star_torn.Statement.{statement}
 use Rattle.mesh_faces.proofs.torn.star_torn.Tie as tie

@@ -1,6 +1,6 @@
 -- `table::group_reaches` meets its promise: the taken slots before slot i go back to the home, and so does the group. Assumes nothing.
-use mathlib.Core.Path.{refl, subst, _∙_}
-use Prim.Native.Nat.{ℕ, _-_, _≤_}
+use mathlib.Core.Path.{_≡_, refl, sym, subst, _∙_}
+use Prim.Native.Nat.{ℕ, _+_, _-_, _≤_}
 use native.Mathlib.Omega.{arith}
 use borrow.Author.Tests.{eqb-true}
 use mir.Syntax.{w32}
@@ -9,7 +9,7 @@ use Rattle.laws.specs.Machine.{asked₂}
 use Rattle.laws.specs.Each.{not-both}
 use Rattle.lattice.specs.Points.{pt}
 use Rattle.table.specs.Slots.{slotAt}
-use Rattle.table.specs.Reading.{group, readsIn}
+use Rattle.table.specs.Reading.{group, readsAs}
 use Rattle.table.specs.RunLaws.{run-most, Near, near-test, run-group}
 use Rattle.table.proofs.order.group_reaches.Statement.{statement}
 use Rattle.table.proofs.order.group_reaches.Tie as tie
@@ -29,9 +29,10 @@ returns c v =
     let a = st .args in
     let fa : SFits w32 (a .p .a) = record { sfits = omega (arith, s .struct-told2 .given) } in
     let fb : SFits w32 (a .p .b) = record { sfits = omega (arith, s .struct-told2 .given) } in
-    let counted = asked₂ (λ x y. readsIn (a .t .now) (pt x y (a .p .m .0)) (a .i - group) group) fa fb (c .group-reads .ensures) in
+    let past : c .guess-in-group .result ≡ a .i - group + group = eqb-true (c .guess-in-group .result) (a .i) v ∙ omega (arith, near h) in
     run-group (a .t .now) (a .p) (a .n) (st .pre .0 .0) (a .h) (a .i) group (st .pre .0 .1) (st .pre .1 .0 .0)
-    (subst (λ (r : ℕ). Near (a .h) (a .i) r group) (st .pre .1 .1) (near h)) (counted ∙ eqb-true (c .group-reads .result) 0 v)
+    (subst (λ (r : ℕ). Near (a .h) (a .i) r group) (st .pre .1 .1) (near h))
+    (λ m j l. asked₂ (λ x y. readsAs (a .t .now) (pt x y m) (a .i - group + j)) fa fb (sym (c .guess-in-group .ensures .1 past m j l)))
 
 pub group-reaches-spec : {M : Type 1} → statement M
 group-reaches-spec =

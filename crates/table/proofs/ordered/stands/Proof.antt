@@ -1,4 +1,4 @@
--- `table::stands` meets its promise: where a slot of the group holds the point it is there; else by the search. Assumes nothing.
+-- `table::stands` meets its promise: where the slot guessed holds the point it is there; else by the search. Assumes nothing.
 use mathlib.Core.Path.{_≡_, sym, _∙_}
 use native.Mathlib.Omega.{arith}
 use borrow.Author.Needs.{needs}
@@ -12,9 +12,9 @@ use Rattle.laws.specs.Each.{both-left, both-right}
 use Rattle.lattice.specs.Points.{pt}
 use Rattle.table.specs.Search.{weightOf}
 use Rattle.table.specs.Entries.{holds}
-use Rattle.table.specs.Reading.{group, readsIn}
+use Rattle.table.specs.Reading.{readsAs}
 use Rattle.table.specs.HomeLaws.{weight-below}
-use Rattle.table.specs.GroupLaws.{group-held}
+use Rattle.table.specs.GroupLaws.{read-held}
 use Rattle.table.proofs.ordered.stands.Statement.{statement}
 use Rattle.table.proofs.ordered.stands.Tie as tie
 
@@ -29,18 +29,18 @@ low-requires c κs =
 
 returns : tie.Need-returns
 returns c =
-    let g = c .before in
+    let r = c .before in
+    let g = r .before in
     let t2 = g .before in
     let l = t2 .before in
     let w = l .before in
     let st = w .before .before .before in
     let a = st .args in
-    let counted = asked₂ (λ x y. readsIn (a .t .now) (pt x y (a .m)) (l .low .result) group) (st .fits .a) (st .fits .b) (g .group-reads .ensures) in
-    let some = both-left (ltb 0 (g .group-reads .result)) (ltb (a .m) 255) (c .if3 .taken) in
-    let deep = ltb-true (a .m) 255 (both-right (ltb 0 (g .group-reads .result)) (ltb (a .m) 255) (c .if3 .taken)) in
-    group-held (a .t .now) (pt (a .a) (a .b) (a .m)) (a .n) (st .pre .0) (st .pre .1) deep (l .low .result) group
-    (omega (arith, w .before .if1 .taken, t2 .if2 .taken))
-    (omega (arith, counted, ltb-true 0 (g .group-reads .result) some))
+    let read = asked₂ (λ x y. readsAs (a .t .now) (pt x y (a .m)) (g .guess-in-group .result)) (st .fits .a) (st .fits .b) (r .reads-as .ensures) in
+    let deep = ltb-true (a .m) 255 (both-right (r .reads-as .result) (ltb (a .m) 255) (c .if3 .taken)) in
+    read-held (a .t .now) (pt (a .a) (a .b) (a .m)) (a .n) (st .pre .0) (st .pre .1) deep (g .guess-in-group .result)
+    (omega (arith, w .before .if1 .taken, t2 .if2 .taken, g .guess-in-group .ensures .0))
+    (read ∙ both-left (r .reads-as .result) (ltb (a .m) 255) (c .if3 .taken))
 
 returns-2 : tie.Need-returns-2
 returns-2 c =
@@ -57,6 +57,7 @@ stands-spec =
     (λ c κs. search needs)
     low-requires
     (λ c. search needs)
+    (λ c κs. search needs)
     (λ c κs. search needs)
     returns
     (λ c κs. search needs)

@@ -4,10 +4,10 @@ use mathlib.Core.List.{List}
 use Prim.Native.Nat.{ℕ}
 use borrow.Author.Needs.{needs}
 use Rattle.table.specs.Order.{InOrder}
-use Rattle.viewer.specs.Viewer.{corners, leastFirst, leastOf}
-use Rattle.viewer.specs.Packed.{packed, Small}
-use Rattle.viewer.specs.Ranks.{Stand, held-close}
-use Rattle.viewer.specs.Lines.{face-small}
+use Rattle.viewer_lines.specs.ViewerLines.{corners, leastFirst, leastOf}
+use Rattle.viewer_lines.specs.Packed.{packed, Small}
+use Rattle.numbering.specs.Ranks.{Stand, held-close}
+use Rattle.viewer_lines.specs.Lines.{face-small}
 use Rattle.viewer.proofs.keys.face_key.Statement.{statement}
 use Rattle.viewer.proofs.keys.face_key.Tie as tie
 

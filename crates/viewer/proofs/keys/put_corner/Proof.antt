@@ -5,7 +5,7 @@ use Prim.Native.Nat.{ℕ, _+_}
 use native.Mathlib.Omega.{arith}
 use borrow.Author.Needs.{needs}
 use lib.ListN.{length}
-use Rattle.counts.specs.declared.faces.Face.{Face}
+use Rattle.firsts.specs.declared.faces.Face.{Face}
 use Rattle.sorting.specs.Keys.{Put}
 use Rattle.mesh_faces.specs.Once.{freshOf, freshAt, Four, fresh-four}
 use Rattle.viewer.specs.BodyLaws.{FacesIn, faces-none, faces-one}

@@ -6,7 +6,7 @@ use borrow.Author.Needs.{needs}
 use lib.ListN.{length}
 use Rattle.table.specs.Slots.{slotAt}
 use Rattle.table.specs.declared.slots.Slot.the-variants.{Holds}
-use Rattle.counts.specs.declared.faces.Face.{Face}
+use Rattle.firsts.specs.declared.faces.Face.{Face}
 use Rattle.mesh_faces.specs.Once.{freshSlot, freshStar, fresh-free, fresh-holds}
 use Rattle.viewer.specs.BodyLaws.{FacesIn, faces-none}
 use Rattle.viewer.proofs.keys.put_slot_faces.Statement.{statement}

@@ -10,9 +10,9 @@ use lib.Dec.{eqb}
 use Rattle.lattice.specs.Stars.{adjacentAt}
 use Rattle.lattice.specs.RecordLaws.{Inner}
 use Rattle.table.specs.Slots.{Table}
-use Rattle.counts.specs.Counts.{gather, nextPlace}
-use Rattle.counts.specs.Earlier.{placedOf}
-use Rattle.counts.specs.EarlierLaws.{valid-inner}
+use Rattle.firsts.specs.Faces.{gather, nextPlace}
+use Rattle.firsts.specs.Earlier.{placedOf}
+use Rattle.firsts.specs.EarlierLaws.{valid-inner}
 use Rattle.mesh_faces.specs.Once.{freshAt, gather-start, gather-more, grown-room}
 use Rattle.mesh_faces.specs.Plain.{plain-corner}
 use Rattle.viewer.specs.BodyLaws.{FacesIn, faces-none, faces-then, stand-kept}
