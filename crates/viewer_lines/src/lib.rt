@@ -1,8 +1,8 @@
 // The lines of a viewer's file, OFF or OBJ: document 02, ticket 5. What the two formats share is over a style (styles.rt).
 //
-// The floor above calls `head_length`, `vertices_length` and `faces_length` (lengths.rt) for how long the file is, before any byte is written; `put_vertices`
-// stores the vertices' keys, `least_first` and `pack` make a face's key of its `Corners` (corners.rt); `write_head`, `write_vertices` and `write_faces`
-// write the lines of sorted keys from the last back, `keys_length` tells how long those of faces are (lines.rt).
+// The floor above calls `head_length`, `vertices_length` (lines.rt) and `faces_length` (lengths.rt) for how long the file is, before any byte is written;
+// `put_vertices` stores the vertices' keys, `least_first` and `pack` make a face's key of its `Corners` (corners.rt); `write_head`, `write_vertices` and
+// `write_faces` write the lines of sorted keys from the last back, `keys_length` tells how long those of faces are (lines.rt).
 // The promises cite specs/: ViewerLines, Packed, Lines.
 mod corners;
 mod lengths;

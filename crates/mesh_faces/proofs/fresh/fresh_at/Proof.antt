@@ -1,4 +1,4 @@
--- `viewer::fresh::fresh_at` meets its promise: with the adjacent points and their slots. Assumes nothing.
+-- `mesh_faces::fresh_at` meets its promise: with the adjacent points and their slots. Assumes nothing.
 use mathlib.Core.Path.{_≡_, ap, _∙_}
 use borrow.Author.Needs.{needs}
 use Rattle.laws.specs.Each.{never}

@@ -1,4 +1,4 @@
--- `viewer::fresh::fresh_between` meets its promise: by the opposite that is chosen. Assumes nothing.
+-- `mesh_faces::fresh_between` meets its promise: by the opposite that is chosen. Assumes nothing.
 use mathlib.Core.Path.{_≡_, ap, sym, _∙_}
 use borrow.Author.Needs.{needs}
 use Rattle.firsts.specs.Choices.{choice-is, choice-neither}

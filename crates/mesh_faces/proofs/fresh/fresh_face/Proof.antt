@@ -1,4 +1,4 @@
--- `viewer::faces::fresh_face` meets its promise: by whether an earlier vertex has the face. Assumes nothing.
+-- `mesh_faces::fresh_face` meets its promise: by whether an earlier vertex has the face. Assumes nothing.
 use mathlib.Core.Path.{_≡_, sym, _∙_, subst}
 use mathlib.Core.Bool.{true, false}
 use borrow.Author.Needs.{needs}

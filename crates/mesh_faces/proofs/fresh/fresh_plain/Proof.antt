@@ -1,4 +1,4 @@
--- `viewer::fresh::fresh_plain` meets its promise: by the adjacent points, then by the opposite that is chosen. Assumes nothing.
+-- `mesh_faces::fresh_plain` meets its promise: by the adjacent points, then by the opposite that is chosen. Assumes nothing.
 use mathlib.Core.Path.{_≡_, ap, sym, _∙_}
 use mathlib.Core.Bool.{Bool, true, false, _||_, or-true}
 use Prim.Native.Nat.{ℕ}

@@ -1,4 +1,4 @@
--- `viewer::fresh::lone_face` meets its promise: by whether the opposite stands earlier. Assumes nothing.
+-- `mesh_faces::lone_face` meets its promise: by whether the opposite stands earlier. Assumes nothing.
 use mathlib.Core.Path.{_≡_, sym, _∙_}
 use mathlib.Core.Bool.{Bool, true, false, _||_}
 use borrow.Author.Needs.{needs}

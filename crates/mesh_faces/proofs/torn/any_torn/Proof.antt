@@ -1,4 +1,4 @@
--- `viewer::faces::any_torn` meets its promise. The invariant: no vertex of the slots so far is torn. Assumes nothing.
+-- `mesh_faces::any_torn` meets its promise. The invariant: no vertex of the slots so far is torn. Assumes nothing.
 use mathlib.Core.Path.{_≡_, ap, sym, _∙_}
 use mathlib.Core.Bool.{false, _||_}
 use Prim.Native.Nat.{ℕ, _≤_, _-_}

@@ -1,4 +1,4 @@
--- `viewer::faces::is_whole` meets its promise: by its adjacent point, then by the opposite that is chosen. Assumes nothing.
+-- `mesh_faces::is_whole` meets its promise: by its adjacent point, then by the opposite that is chosen. Assumes nothing.
 use mathlib.Core.Path.{_≡_, ap, sym, _∙_}
 use mathlib.Core.Bool.{Bool, true, false, _&&_}
 use borrow.Author.Needs.{needs}

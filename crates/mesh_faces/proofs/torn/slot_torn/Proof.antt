@@ -1,4 +1,4 @@
--- `viewer::faces::slot_torn` meets its promise. Assumes nothing.
+-- `mesh_faces::slot_torn` meets its promise. Assumes nothing.
 use mathlib.Core.Path.{sym, _∙_, ap, subst}
 use native.Mathlib.Omega.{arith}
 use borrow.Author.Needs.{needs}

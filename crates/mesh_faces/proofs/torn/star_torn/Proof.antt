@@ -1,4 +1,4 @@
--- `viewer::faces::star_torn` meets its promise. The invariant: the places so far are whole. Assumes nothing.
+-- `mesh_faces::star_torn` meets its promise. The invariant: the places so far are whole. Assumes nothing.
 use mathlib.Core.Path.{_≡_, ap, sym, _∙_}
 use mathlib.Core.Bool.{true, not}
 use Prim.Native.Nat.{ℕ, _≤_, _-_}
