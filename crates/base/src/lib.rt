@@ -2,6 +2,7 @@
 //
 // One public call answers every input: `base`. Its promise cites `base_of` of specs/Base; what follows from it, for whoever stands above, is specs/BaseLaws.
 // The list is judged first, by crate centres, which leaves a mark for each hexagon that is listed.
+#![tactic(auto)]
 mod hexagons;
 
 ghost use Rattle.std.specs.Prelude.{◌≡◌};
@@ -13,7 +14,7 @@ use lattice::{BAD_LIST, DONE, NO_ROOM, NOT_IN_ORDER};
 use table::{clear, slots_of};
 
 // The number that document 01 gives, and the place of the first bad centre, else 0.
-#[derive(Drop)]
+#[derive(Clone, Copy)]
 pub struct Based {
     pub number: u8,
     pub place: usize,

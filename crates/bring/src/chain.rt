@@ -19,7 +19,7 @@ use mesh::subdivide_vertex;
 use table::{Looked, held_in};
 
 // A number, and how many slots are free after.
-#[derive(Drop)]
+#[derive(Clone, Copy)]
 pub struct Step {
     pub number: u8,
     pub free: usize,

@@ -6,7 +6,7 @@ use lattice::{Point, Record};
 use table::{Found, Looked, find, held_in};
 
 // What a search for a point finds: no record, or one, in a slot.
-#[derive(Drop)]
+#[derive(Clone, Copy)]
 pub enum Located {
     Nowhere,
     In(Record, usize),

@@ -1,6 +1,7 @@
 // Document 01's census program: standard input read, the text of its census written to standard output. `answer` is all that it does with
 // its input: its promise has the 5,461 slots and every byte of the text. `fill` promises that it stays within its room. What is read and written no
 // promise can say; the program's runs show it (.ci/census-runs). Where a read fails nothing is written.
+#![tactic(auto)]
 ghost use Rattle.std.specs.Prelude.{◌≡◌, ◌++◌, ◌≤◌, length, drop};
 ghost use Rattle.census.specs.Input.{Within};
 ghost use Rattle.census_text.specs.Census.{program_text};
@@ -21,7 +22,7 @@ const INPUT_ROOM: usize = 65537;
 const TEXT_ROOM: usize = 128;
 
 // How far standard input filled the space, to its end or to the space's; or a read failed.
-#[derive(Drop)]
+#[derive(Clone, Copy)]
 enum Filled {
     To(usize),
     Failed,

@@ -3,6 +3,7 @@
 // One public call answers every input: `census`. The input is read by `readers::read_full`, what that accepts is counted by `tally::tally`, and the text
 // written by texts.rt.
 // The promise cites specs/Census.
+#![tactic(auto)]
 ghost use Rattle.std.specs.Prelude.{◌≡◌, ◌≤◌, length};
 ghost use Rattle.readers.specs.Readers.{tables_after};
 ghost use Rattle.census_text.specs.Census.{text_of, read_input_of, put, result, census_of};

@@ -9,7 +9,7 @@ use lattice::{DONE, SHORT};
 use text::{FEED, TAB, width, write_bytes, write_number};
 
 // The number that a census gives back, and the bytes of its text, 0 where the output is shorter.
-#[derive(Drop)]
+#[derive(Clone, Copy)]
 pub struct Census {
     pub number: u8,
     pub written: u64,

@@ -22,7 +22,7 @@ use lattice::{ANSWER_NUMBERS, Record, point_at, ring};
 use table::{Slot, read_slot};
 
 // Faces and sides, and whether the corners are plain: whole, and a face is counted at the first of its vertices that have a star.
-#[derive(Drop)]
+#[derive(Clone, Copy)]
 pub struct Counted {
     pub faces: u32,
     pub sides: u32,

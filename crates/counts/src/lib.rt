@@ -3,6 +3,7 @@
 // `survey` gives them all. corners.rt counts each face and each side once, at the first vertex that has it (`firsts`, sides.rt), with no memory but a few
 // words.
 // The promise cites specs/Counts.
+#![tactic(auto)]
 ghost use Rattle.std.specs.Prelude.{◌≡◌};
 ghost use Rattle.table.specs.Slots.{slots_of};
 ghost use Rattle.table.specs.Order.{InOrder};
@@ -17,7 +18,7 @@ use crate::corners::count_corners;
 pub use degrees::{Degrees, count_degrees, one_if};
 
 // The numbers of a census: V, E, F, and the records by degree.
-#[derive(Drop)]
+#[derive(Clone, Copy)]
 pub struct Counts {
     pub vertices: u32,
     pub edges: u32,
@@ -30,7 +31,7 @@ pub struct Counts {
 }
 
 // What is counted, and whether every corner of the table is plain.
-#[derive(Drop)]
+#[derive(Clone, Copy)]
 pub struct Surveyed {
     pub counts: Counts,
     pub plain: bool,

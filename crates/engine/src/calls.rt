@@ -9,7 +9,7 @@ use centres::MARK_BYTES;
 use lattice::{DONE, NO_RECORD, Record, blank, normalise};
 
 // The number that the call gives, and the vertex: all zeros where it is refused.
-#[derive(Drop)]
+#[derive(Clone, Copy)]
 pub struct Answered {
     pub number: u8,
     pub vertex: Record,

@@ -9,7 +9,7 @@ ghost use Rattle.engine.specs.Scan.{Depths, unseen, see_of, seen_of};
 use lattice::{Level, Point, normalise, same_point};
 
 // What a record turns on: how often its point was subdivided, which of three parents were at a level, and whether the maker was at the level of entry.
-#[derive(Drop)]
+#[derive(Clone, Copy)]
 pub struct Wanted {
     pub at: Point,
     pub first: Point,
@@ -21,7 +21,7 @@ pub struct Wanted {
 }
 
 // Which of that was seen.
-#[derive(Drop)]
+#[derive(Clone, Copy)]
 pub struct Seen {
     pub first: bool,
     pub second: bool,

@@ -15,7 +15,7 @@ use centres::MARK_BYTES;
 use lattice::{Level, Point, Record, birth, parent, rank, valid};
 
 // The record at a point, or none.
-#[derive(Drop)]
+#[derive(Clone, Copy)]
 pub enum Vertex {
     Absent,
     Is(Record),

@@ -2,6 +2,7 @@
 //
 // One public call answers every table, list and output: `join`. line.rt parses a line of the list, lists.rt judges them all, texts.rt has the two kinds of
 // lines of the joined list, keys.rt sorts, lines.rt lays and writes. The promises cite specs/Findings.
+#![tactic(auto)]
 ghost use Rattle.std.specs.Prelude.{◌≡◌};
 ghost use Rattle.table.specs.Slots.{slots_of};
 ghost use Rattle.table.specs.Order.{InOrder};
@@ -21,7 +22,7 @@ use lattice::{BAD_FINDING, DONE, NOT_IN_ORDER, SHORT};
 use table::{in_order, slots_of};
 
 // The number that document 02 gives, the first malformed line, else 0, and the bytes written, 0 if refused.
-#[derive(Drop)]
+#[derive(Clone, Copy)]
 pub struct Joined {
     pub number: u8,
     pub line: u64,

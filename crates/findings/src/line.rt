@@ -11,7 +11,7 @@ const MOST_NUMBER: u32 = 999999;
 const LONGEST_NOTE: usize = 80;
 
 // A finding: its number, its point as written, where its line stands, where its note does, and where the next line.
-#[derive(Drop)]
+#[derive(Clone, Copy)]
 pub struct Finding {
     pub number: u32,
     pub at: Point,
@@ -21,7 +21,7 @@ pub struct Finding {
 }
 
 // What stands where a line is looked for: a finding; no line of one; nothing, the list being at its end.
-#[derive(Drop)]
+#[derive(Clone, Copy)]
 pub enum Entry {
     Good(Finding),
     Bad,

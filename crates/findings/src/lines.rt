@@ -21,7 +21,7 @@ use sorting::{key, put_key};
 use table::is_there;
 
 // How many keys are laid, and where the lost lines end.
-#[derive(Drop)]
+#[derive(Clone, Copy)]
 pub struct Ends {
     pub keys: usize,
     pub lost: usize,

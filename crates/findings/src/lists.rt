@@ -11,14 +11,14 @@ use crate::texts::{lost_length, point_of, stands_length};
 use table::is_there;
 
 // How long the two parts of a joined list are: the lines of the findings on the plan, and those of the lost ones.
-#[derive(Drop)]
+#[derive(Clone, Copy)]
 pub struct Parts {
     pub stands: usize,
     pub lost: usize,
 }
 
 // A list judged: some line is malformed, and this is the first; or none is, and the parts are so long.
-#[derive(Drop)]
+#[derive(Clone, Copy)]
 pub enum Judged {
     Faulty(u64),
     Sound(Parts),

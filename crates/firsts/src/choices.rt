@@ -8,7 +8,7 @@ use crate::earlier::{Placed, with_slot};
 use lattice::{Record, Spot, first_of, second_of};
 
 // The opposite that a corner has: the first one if that is in the table, else the second if that is.
-#[derive(Drop)]
+#[derive(Clone, Copy)]
 pub enum Choice {
     Is(bool, Placed),
     Neither,

@@ -12,7 +12,7 @@ use lattice::{ANSWER_NUMBERS, Point, Record, point_at};
 use table::{Found, Looked, find, held_in};
 
 // A point and the slot of its record, or the number of slots where it has none.
-#[derive(Drop)]
+#[derive(Clone, Copy)]
 pub struct Placed {
     pub at: Point,
     pub slot: usize,

@@ -16,7 +16,7 @@ use table::Looked;
 
 // A face: its four vertices in their order round, from one of them on. Round a vertex: itself, the adjacent point of a corner, the opposite, the next
 // adjacent point.
-#[derive(Drop)]
+#[derive(Clone, Copy)]
 pub struct Face {
     pub at: Point,
     pub adjacent: Point,

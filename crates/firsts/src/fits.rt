@@ -16,7 +16,7 @@ use table::Looked;
 
 // Of the vertices at the adjacent point, the opposite and the next adjacent point: 0 where nothing is known, 1 where they have their two sides of the
 // face, 2 where they name it too.
-#[derive(Drop)]
+#[derive(Clone, Copy)]
 pub struct Fits {
     pub adjacent: u8,
     pub opposite: u8,

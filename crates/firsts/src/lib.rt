@@ -5,6 +5,7 @@
 // `spot_is` for a corner (choices.rt, faces.rt), and `face_seen` for its face, after `fits_of`: what the other vertices have of it is asked of their strides
 // first (fits.rt, strides.rt).
 // The promises cite specs/: Faces, Earlier, Strides, Choices.
+#![tactic(auto)]
 mod choices;
 pub mod earlier;
 mod faces;

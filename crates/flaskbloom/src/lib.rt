@@ -5,6 +5,7 @@
 // The header is the manual. points.rt has the calls that give points, meshes.rt those that make and
 // change a table, files.rt those that write one, read one, count one or salvage one, vertices.rt those without any table; numbers.rt puts points and
 // records in a row.
+#![tactic(auto)]
 mod files;
 mod meshes;
 mod numbers;

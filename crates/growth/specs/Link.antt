@@ -140,19 +140,19 @@ module _ (c : Counts) where
     assoc4 true false y z = refl
     assoc4 false x y z = refl
 
-    full_at : (p : Pt) (f : ℕ) → rank p ≡ f → full_at H (at c) p f ≡ full_of H c p.at
+    full_at_lem : (p : Pt) (f : ℕ) → rank p ≡ f → full_at H (at c) p f ≡ full_of H c p.at
     unfolding full_at rank
-    full_at p zero f =
+    full_at_lem p zero f =
         unfold int_at in (int_is p zero f)
         ∙ sym (full-opened p ∙ ap (λ (b : Bool). internal_of H p.at && cond b true (three p.at)) (eq-eqb (rank_of p.at) 0 f)
         ∙ and-true (internal_of H p.at))
-    full_at p (suc b) f =
+    full_at_lem p (suc b) f =
         assoc4 (int_at H p (suc b)) (T (at c) (par p 0 b) b) (T (at c) (par p 1 b) b) (T (at c) (par p 2 b) b)
         ∙ (λ j. int_is p (suc b) f j && (par-split p 0 b f j && (par-split p 1 b f j && par-split p 2 b f j)))
         ∙ sym (full-opened p ∙ ap (λ (b : Bool). internal_of H p.at && cond b true (three p.at)) (ne_eqb (rank_of p.at) 0 (omega arith)))
 
     pub full_is : (p : Pt) → full_at H (at c) p (rank p) ≡ full_of H c p.at
-    full_is p = full_at p (rank p) refl
+    full_is p = full_at_lem p (rank p) refl
 
     pub full-normal : (p : Point) → D.T (full_of H c p) → D.T (is_normal p)
     unfolding full_of

@@ -1,1 +1,2 @@
 // No function: the mathematics of grown meshes. specs/Lib.antt is the index, docs/MODEL.md the page that explains it.
+#![tactic(auto)]

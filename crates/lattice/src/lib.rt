@@ -4,6 +4,7 @@
 // Two public calls answer every input: `normalise` and `star`. The other functions serve the proved floors above and ask for bounds.
 // The promises cite specs/: Points, Records, Patterns, Stars, Subdivision, and Ranks for the model of grown meshes; what is asked of bounds is in Bounds
 // and RecordLaws.
+#![tactic(auto)]
 mod arms;
 mod numbers;
 mod patterns;

@@ -9,14 +9,14 @@ ghost use Rattle.lattice.specs.Rows.{held, point_of, part_of, orient_row};
 use crate::points::{Depth, Point};
 
 // A point that may be missing.
-#[derive(Drop)]
+#[derive(Clone, Copy)]
 pub enum Spot {
     At(Point),
     Nothing,
 }
 
 // A point [a, b, m] in bytes: every numerator of the tables is within 6 of zero.
-#[derive(Drop)]
+#[derive(Clone, Copy)]
 struct P(i8, i8, u8);
 
 // The constant tables, one a degree, a row a line: adjacent | first opposite | second opposite, three numbers each. The places stand in counter-clockwise

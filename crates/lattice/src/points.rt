@@ -5,10 +5,10 @@ ghost use Rattle.lattice.specs.Terms.{terms_of, added_of, Light};
 ghost use Rattle.lattice.specs.Bounds.{Small};
 
 // How often the denominator holds the factor 3. It belongs to a point and never changes.
-#[derive(Drop)]
+#[derive(Clone, Copy)]
 pub struct Depth(pub u8);
 
-#[derive(Drop)]
+#[derive(Clone, Copy)]
 pub struct Point {
     pub a: i32,
     pub b: i32,
@@ -93,7 +93,7 @@ fn deeper(m: u8, n: u8) -> u8
 }
 
 // Two points over one denominator, to be added: [a, b, m] and [x, y, m].
-#[derive(Drop)]
+#[derive(Clone, Copy)]
 pub struct Terms {
     pub a: i32,
     pub b: i32,

@@ -6,11 +6,11 @@ ghost use Rattle.lattice.specs.Records.{within, orientations_of, suits_of, valid
 use crate::points::{Depth, Point, both3};
 
 // The level of a star. It belongs to the star and may rise; a depth is no level.
-#[derive(Drop)]
+#[derive(Clone, Copy)]
 pub struct Level(pub u8);
 
 // A vertex: its point, degree, orientation and level. Degree 0 marks a boundary vertex.
-#[derive(Drop)]
+#[derive(Clone, Copy)]
 pub struct Record {
     pub at: Point,
     pub d: u8,

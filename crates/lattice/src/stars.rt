@@ -16,7 +16,7 @@ use crate::records::{Level, Record, valid};
 use crate::rows::{ANSWER_NUMBERS, put_point, refuse_row};
 
 // What the star call and the queries answer: document 01's number, the count, and six points of which the unused are [0, 0, 0].
-#[derive(Drop)]
+#[derive(Clone, Copy)]
 pub struct Answer {
     pub number: u8,
     pub count: u8,

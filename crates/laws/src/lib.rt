@@ -1,1 +1,2 @@
 // No function: laws that every floor cites. specs/Lib.antt is the index.
+#![tactic(auto)]

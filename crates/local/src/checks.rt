@@ -41,7 +41,7 @@ fn passes(t: &[u8], r: Record, n: usize) -> bool
 }
 
 // A slot: whether it holds a record, and whether it is free or its record passes.
-#[derive(Drop)]
+#[derive(Clone, Copy)]
 pub struct Judged {
     pub holds: bool,
     pub passes: bool,

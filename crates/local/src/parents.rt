@@ -12,7 +12,7 @@ use lattice::{Depth, Point, birth, foremost, parent, rank, turn60};
 use table::{Looked, look_up};
 
 // The parents of a point, in their order: 0 where none is there, n + 2 where it has degree 6 and level n, else 1.
-#[derive(Drop)]
+#[derive(Clone, Copy)]
 pub struct Parents {
     pub first: u32,
     pub second: u32,

@@ -1,6 +1,7 @@
 // Searches in a row, so that outside/bench can time them: no call of the C interface searches alone.
 //
 // One call answers every input: `fb_lookups`. Its promise cites specs/Lookups.
+#![tactic(auto)]
 ghost use Rattle.std.specs.Prelude.{◌≡◌, ◌+◌, ◌*◌, ◌<◌, length};
 ghost use Rattle.table.specs.Slots.{Table};
 ghost use Rattle.table.specs.Entries.{holds};

@@ -1,6 +1,8 @@
 // One bit for each of many places, in lent bytes: eight places a byte.
 //
 // `marked` reads a bit, `mark` sets it; specs/Marks says what marks are, and what one call after another makes of them.
+#![tactic(auto)]
+
 ghost use Rattle.std.specs.Prelude.{◌≡◌, ◌/◌, ◌^◌, ◌<◌, eqb, length};
 ghost use Rattle.marks.specs.Marks.{marked_at, with_bit, Marks};
 

@@ -107,7 +107,7 @@ fn subdivide_triple(t: &mut [u8], points: &[i32], i: usize, n: usize, free: usiz
 }
 
 // What `subdivide_all` made: the number of the refusal that ended it, 0 where all were made, and how many were.
-#[derive(Drop)]
+#[derive(Clone, Copy)]
 pub struct Made {
     pub number: u8,
     pub done: u64,

@@ -17,7 +17,7 @@ use firsts::{
 use lattice::{Record, adjacent_of};
 
 // A face that no earlier vertex has, and the slot of its opposite, or none. The slot only guides the search for a number.
-#[derive(Drop)]
+#[derive(Clone, Copy)]
 pub enum Fresh {
     Is(Face, usize),
     Not,

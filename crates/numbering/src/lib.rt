@@ -3,6 +3,7 @@
 // The floor above takes a vertex's number from `number_near`, which tries a guess and else searches the sorted keys; `put_guesses` stores the guesses, by
 // slot, where `base_of` finds room, and `guess` reads one. Before any byte is written `widths_of` and `number_width` tell how many digits a number has.
 // The promises cite specs/: Numbering, Ranks, Guesses.
+#![tactic(auto)]
 mod guesses;
 mod numbers;
 

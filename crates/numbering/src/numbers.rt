@@ -22,7 +22,7 @@ pub const PLACES: u64 = 65536;
 const ORDERS: u64 = 1924145348608;
 
 // The orders from which on vertex numbers have two, three, four and five digits.
-#[derive(Drop)]
+#[derive(Clone, Copy)]
 pub struct Widths {
     pub two: u64,
     pub three: u64,

@@ -18,7 +18,7 @@ use text::ordered;
 use undoing::undo_at;
 
 // A number, and how many slots are free after.
-#[derive(Drop)]
+#[derive(Clone, Copy)]
 pub struct Step {
     pub number: u8,
     pub free: usize,
@@ -83,7 +83,7 @@ fn pass(table: &mut [u8], scratch: &mut [u8], o: Outline, level: u8, n: usize, f
 }
 
 // What the passes made: the number of the refusal that ended them, 0 where all were made, and how many were.
-#[derive(Drop)]
+#[derive(Clone, Copy)]
 pub struct Refined {
     pub number: u8,
     pub done: u64,

@@ -1,5 +1,6 @@
 // The worked example of docs/WORKED.md: three hexagons, the vertex between them subdivided twice, its two files, and the census of the plan and
 // of what comes back from its reduced file.
+#![tactic(auto)]
 use libc::STDOUT_FILENO;
 
 // 40 slots of 12 bytes.

@@ -16,7 +16,7 @@ use lattice::{
 use table::{Looked, held_in, in_order, slot_by_guess, slots_of, stands};
 
 // What is asked of a vertex.
-#[derive(Drop)]
+#[derive(Clone, Copy)]
 pub enum Query {
     Neighbours,
     Faces,

@@ -4,6 +4,7 @@
 // 14 and 7 in that order. The in-order test reads the whole table at each call. After it come at most 19 searches: the vertex, six adjacent points,
 // two opposites at each of six corners. `chosen`, the opposite of one corner in a table in order, is for the floors above.
 // The promises of the three cite specs/: Queries.
+#![tactic(auto)]
 mod answers;
 mod many;
 mod opposites;

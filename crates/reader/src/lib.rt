@@ -3,6 +3,7 @@
 // The reader holds the file, so the prover does not walk the functions over it by itself, and each is proved by hand. They are thin: each takes the
 // reader apart, and the work is `text::parse_line`'s, on the slice and a number. Who has to know the line that he is on calls `line_at`, whose
 // parameters are plain; who reads a file again that was read before, as restoring does, calls `parse_line`.
+#![tactic(auto)]
 ghost use Rattle.std.specs.Prelude.{◌≡◌, ◌+◌, ◌<◌, ◌^◌};
 ghost use Rattle.text.specs.Line.{line_at};
 ghost use Rattle.reader.specs.Met.{numbered, met_at};
@@ -11,7 +12,7 @@ use lattice::Record;
 use text::{Line, parse_line};
 
 // A reader on a line: the file, where the line begins in it, and the line's number.
-#[derive(Drop)]
+#[derive(Clone, Copy)]
 struct Reader<'a> {
     file: &'a [u8],
     at: usize,
@@ -19,7 +20,7 @@ struct Reader<'a> {
 }
 
 // What a reader meets on its line: a record, where the next line begins and that line's number; a fault, and its own number; the end of the file.
-#[derive(Drop)]
+#[derive(Clone, Copy)]
 pub enum Met {
     Entry(Record, usize, u64),
     Fault(u64),

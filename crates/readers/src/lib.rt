@@ -3,6 +3,7 @@
 // Two public calls answer every input: `read_full` and `read_reduced`. Their promises cite `read_full_of` and `read_reduced_of` of specs/Readers; what follows
 // from them, for whoever stands above, is in specs/ReadLaws, RestoreLaws and Outcomes. `prepare` is how both begin, for a call that refuses more than they do
 // (the census): the length test, and both tables cleared.
+#![tactic(auto)]
 mod begin;
 mod complete;
 mod lines;

@@ -11,7 +11,7 @@ use reader::{Met, line_at};
 use table::{Found, enter};
 
 // What a reader gives back: document 01's number, and the line at fault, else 0.
-#[derive(Drop)]
+#[derive(Clone, Copy)]
 pub struct ReadBack {
     pub number: u8,
     pub line: u64,
@@ -25,7 +25,7 @@ pub fn answer(number: u8, line: u64) -> ReadBack
 
 // What became of a line: its record is entered, and the next line stands at a position and has a number; there is none; or it is refused with a number,
 // and this line is at fault.
-#[derive(Drop)]
+#[derive(Clone, Copy)]
 pub enum Step {
     Entered(Record, usize, u64),
     Over,

@@ -16,7 +16,7 @@ use table::{Found, Looked, clear, copy, find, held_in, write_slot};
 use text::{Line, parse_line};
 
 // What restoring came to: a number, and where it is 0 whether the file has a record that it should have left out.
-#[derive(Drop)]
+#[derive(Clone, Copy)]
 pub struct Mended {
     pub number: u8,
     pub kept: bool,

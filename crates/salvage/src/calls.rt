@@ -16,7 +16,7 @@ use table::{check_order, clear};
 use writers::{MARK_BYTES, is_short, write_kept};
 
 // The number that document 02 gives, and the bytes of both outputs, 0 if refused.
-#[derive(Drop)]
+#[derive(Clone, Copy)]
 pub struct Salvaged {
     pub number: u8,
     pub written: u64,

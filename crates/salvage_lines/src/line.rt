@@ -10,7 +10,7 @@ const LAST_TURN: u8 = 11;
 
 // What is salvaged of a line: its record, normalised, whether that changed a number, and where the next line begins; nothing, and where the next line
 // begins; there is no line, the file being at its end.
-#[derive(Drop)]
+#[derive(Clone, Copy)]
 pub enum Piece {
     Kept(Record, bool, usize),
     Dropped(usize),

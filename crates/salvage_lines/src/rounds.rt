@@ -18,7 +18,7 @@ use lattice::Record;
 use table::{Found, Looked, Slot, clear, enter, look_up, read_slot};
 
 // What became of a record: its point is held with another one; the same is held; it is entered; it is absent, and no slot is free.
-#[derive(Drop)]
+#[derive(Clone, Copy)]
 pub enum Taken {
     Against,
     Again,
@@ -28,7 +28,7 @@ pub enum Taken {
 
 // What became of a line: there is none; its record goes against what is held; no slot is free for it; or the next one begins at a position, and so many
 // records were entered.
-#[derive(Drop)]
+#[derive(Clone, Copy)]
 pub enum Step {
     Over,
     Clash,
@@ -37,7 +37,7 @@ pub enum Step {
 }
 
 // What became of the lines from a position on: all are taken; two clash; or the room is used up, and the lines from another position on are left.
-#[derive(Drop)]
+#[derive(Clone, Copy)]
 pub enum Gathered {
     All,
     Clashing,

@@ -11,7 +11,7 @@ use crate::slots::{Slot, read_slot, write_slot};
 use lattice::{Point, Record};
 
 // What a table holds at a point.
-#[derive(Drop)]
+#[derive(Clone, Copy)]
 pub enum Looked {
     Absent,
     Held(Record),

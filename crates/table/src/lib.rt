@@ -6,6 +6,7 @@
 // search tells the slot where it ended: a record is written there, and a search for the same point may go on from there when others have entered.
 // Whoever knows that a table is in order asks `stands` and `slot_by_guess`, which need not search.
 // The promises cite specs/: Slots, Search, Told, Order, Entries. What follows from them, for whoever stands above, is specs/MapLaws.
+#![tactic(auto)]
 mod bytes;
 mod entries;
 mod groups;

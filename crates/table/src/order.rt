@@ -83,7 +83,7 @@ fn placed(t: &[u8], i: usize, n: usize, run: usize) -> bool
 }
 
 // Whether bytes are a table in order, and if so how many slots are free.
-#[derive(Drop)]
+#[derive(Clone, Copy)]
 pub struct Ordered {
     pub ok: bool,
     pub free: usize,

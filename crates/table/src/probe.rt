@@ -14,7 +14,7 @@ use lattice::Point;
 const TWO_ONES: u64 = 18446744073709551615;
 
 // Where a search ends: at the slot of its point, at a free slot, or nowhere, all slots being taken by others.
-#[derive(Drop)]
+#[derive(Clone, Copy)]
 pub enum Found {
     At(usize),
     Free(usize),
@@ -22,7 +22,7 @@ pub enum Found {
 }
 
 // What a search meets in one slot: its point, no record, or another point's record.
-#[derive(Drop)]
+#[derive(Clone, Copy)]
 pub enum Meet {
     Hit,
     Gap,

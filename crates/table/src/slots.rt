@@ -7,7 +7,7 @@ use crate::bytes::{as_signed, as_word, put_bytes, put_word, word};
 use lattice::{Depth, Level, Point, Record};
 
 // What a slot holds.
-#[derive(Drop)]
+#[derive(Clone, Copy)]
 pub enum Slot {
     Free,
     Holds(Record),

@@ -4,6 +4,7 @@
 // `tally` gives what `counts` would, with no look at a star. It is for the proved floors above, and asks that the table is grown. `surveyed` is for any
 // table in order: it tallies where the local check passes, and surveys elsewhere. `count`, in rows.rt, is for any bytes.
 // The promises cite specs/Count and together's specs/Tally.
+#![tactic(auto)]
 ghost use Rattle.std.specs.Prelude.{◌≡◌, cond, ◌≤◌, ◌<◌, nat_abs, ◌+ℤ◌};
 ghost use Rattle.lattice.specs.Bounds.{Small};
 ghost use Rattle.lattice.specs.Points.{pt};
@@ -25,7 +26,7 @@ pub use rows::{COUNTS, count};
 use table::{Slot, is_there, read_slot};
 
 // What the slots of a table add up to: hexagons by their centres, vertices of depth 0, pairs of hexagons side by side.
-#[derive(Drop)]
+#[derive(Clone, Copy)]
 struct Sums {
     hexagons: u32,
     ground: u32,

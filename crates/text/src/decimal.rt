@@ -8,14 +8,14 @@ ghost use Rattle.text.specs.Reading.{is_digit, plainly, begins, number_at, signe
 use lattice::size;
 
 // What stands where a number is looked for: a number and the position past the byte that ends it, or none.
-#[derive(Drop)]
+#[derive(Clone, Copy)]
 pub enum Number {
     Natural(u32, usize),
     NoNumber,
 }
 
 // The same with a sign.
-#[derive(Drop)]
+#[derive(Clone, Copy)]
 pub enum Signed {
     Whole(i32, usize),
     NoWhole,

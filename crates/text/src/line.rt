@@ -18,14 +18,14 @@ const FAR: u32 = 9999999;
 const NEAR: u32 = 255;
 
 // What stands where a point is looked for: a point and the position past its last tab, or none.
-#[derive(Drop)]
+#[derive(Clone, Copy)]
 pub enum Place {
     At(Point, usize),
     Nowhere,
 }
 
 // What stands where a line is looked for: a record and the position past its line feed; no line of a record; nothing, the file being at its end.
-#[derive(Drop)]
+#[derive(Clone, Copy)]
 pub enum Line {
     Good(Record, usize),
     Bad,

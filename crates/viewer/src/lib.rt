@@ -3,6 +3,7 @@
 // Two public calls answer every table and output: `write_off` and `write_obj`, both over a style. Each face once, and where 7 comes from, are `mesh_faces`',
 // the vertices' numbers `numbering`'s, the lines `viewer_lines`'; keys.rt has the faces' keys.
 // The promises cite specs/Viewer.
+#![tactic(auto)]
 ghost use Rattle.std.specs.Prelude.{◌≡◌, true, false, List, ◌++◌, ℕ, ◌+◌, ◌≤◌, ltb, length, drop};
 ghost use Rattle.table.specs.Slots.{slots_of};
 ghost use Rattle.table.specs.Order.{InOrder};
@@ -36,7 +37,7 @@ use viewer_lines::{
 const FACE_MOST: usize = 26;
 
 // The number that document 02 gives, and the bytes written, 0 if refused.
-#[derive(Drop)]
+#[derive(Clone, Copy)]
 pub struct Viewed {
     pub number: u8,
     pub bytes: u64,

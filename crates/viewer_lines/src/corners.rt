@@ -6,7 +6,7 @@ ghost use Rattle.viewer_lines.specs.Packed.{packed, unpacked, Small};
 use numbering::PLACES;
 
 // The numbers of a face's vertices, in their order round.
-#[derive(Drop)]
+#[derive(Clone, Copy)]
 pub struct Corners {
     pub a: u64,
     pub b: u64,

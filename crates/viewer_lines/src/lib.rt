@@ -4,6 +4,7 @@
 // `put_vertices` stores the vertices' keys, `least_first` and `pack` make a face's key of its `Corners` (corners.rt); `write_head`, `write_vertices` and
 // `write_faces` write the lines of sorted keys from the last back, `keys_length` tells how long those of faces are (lines.rt).
 // The promises cite specs/: ViewerLines, Packed, Lines.
+#![tactic(auto)]
 mod corners;
 mod lengths;
 mod lines;

@@ -1,7 +1,7 @@
 // The two formats: what they share takes a style.
 
 // A head or none, `v` before a vertex or nothing, what stands before a face, and the first number.
-#[derive(Drop)]
+#[derive(Clone, Copy)]
 pub struct Style {
     pub head: bool,
     pub marked: bool,

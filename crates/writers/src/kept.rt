@@ -57,7 +57,7 @@ pub fn file_length(table: &[u8], marks: &[u8; MARK_BYTES], n: usize) -> usize
 }
 
 // How many keys were stored, and the bytes of their lines.
-#[derive(Drop)]
+#[derive(Clone, Copy)]
 pub struct Amount {
     pub keys: usize,
     pub bytes: usize,

@@ -2,6 +2,7 @@
 //
 // Two public calls answer every table and output: `write_full` and `write_reduced`. kept.rt goes through the slots, named.rt says which records
 // are left out, keys.rt has what they are sorted by, lines.rt writes. The promises cite specs/Files.
+#![tactic(auto)]
 ghost use Rattle.std.specs.Prelude.{◌≡◌, ltb, length};
 ghost use Rattle.table.specs.Order.{InOrder};
 ghost use Rattle.table.specs.Slots.{slots_of, free_slots};
@@ -27,7 +28,7 @@ use table::{check_order, slots_of};
 const LONGEST: usize = 26;
 
 // The number that document 01 gives, and the bytes written, 0 if refused.
-#[derive(Drop)]
+#[derive(Clone, Copy)]
 pub struct Written {
     pub number: u8,
     pub bytes: u64,

@@ -14,5 +14,5 @@ returns c =
     let e = to_z-of_z w32 c.args.x c.ranges.x in
     (λ i. le_z (negsuc 249) (e i) && le_z (e i) (pos 250)) ∙ reach-is c.args.x
 
-pub in-reach-spec : {M : Type 1} → statement M
-in-reach-spec = tie.close (tie.spec returns)
+pub in_reach_spec : {M : Type 1} → statement M
+in_reach_spec = tie.close (tie.spec returns)

@@ -33,25 +33,25 @@ module _ (s : tie.Start) where
   unfolding number_of
   is = λ i. x-is i * 167 + y-is i / 3
 
-add-x : tie.Need-overflow-add-x
+add-x : tie.Need-overflow_add-x
 add-x c = need (x c.before.before) tt
 
-cast-x : tie.Need-overflow-cast-x
+cast-x : tie.Need-overflow_cast-x
 cast-x c = let s = c.before.before in need-nat w64 (x s) tt tt (raised_is s.args.p.a (good s).wide).2
 
-add-y : tie.Need-overflow-add-y
+add-y : tie.Need-overflow_add-y
 add-y c = need (y c.before.before.before.before) tt
 
-cast-y : tie.Need-overflow-cast-y
+cast-y : tie.Need-overflow_cast-y
 cast-y c = let s = c.before.before.before.before in need-nat w64 (y s) tt tt (raised_is s.args.p.b (good s).high).2
 
-mul-result : tie.Need-overflow-mul-result
+mul-result : tie.Need-overflow_mul-result
 mul-result c =
     let s = c.before.before.before.before in
     let b = (raised_is s.args.p.a (good s).wide).1 in
     subst (λ (n : ℕ). Fits w64 (n * 167)) (sym (x-is s)) (record { fits = omega arith })
 
-add-result : tie.Need-overflow-add-result
+add-result : tie.Need-overflow_add-result
 add-result c =
     let s = c.before.before.before.before in
     let b = number-below s.args.p (good s) in
@@ -60,5 +60,5 @@ add-result c =
 returns : tie.Need-returns
 returns c = let s = c.before.before.before.before in (is s, subst (λ (n : ℕ). n < places) (sym (is s)) (number-below s.args.p (good s)))
 
-pub number-spec : {M : Type 1} → statement M
-number-spec = tie.close (tie.spec add-x cast-x add-y cast-y mul-result add-result returns)
+pub number_spec : {M : Type 1} → statement M
+number_spec = tie.close (tie.spec add-x cast-x add-y cast-y mul-result add-result returns)

@@ -12,5 +12,5 @@ packed k h = rule 8 (λ k. 9241421688590303745 / 2 ^ (8 * k) % 256 ≡? 2 ^ k) t
 returns : tie.Need-returns
 returns c = packed c.args.k c.requires
 
-pub power-spec : {M : Type 1} → statement M
-power-spec = tie.close (tie.spec (λ c. search rules) (λ c. search rules) (λ c. search rules) returns)
+pub power_spec : {M : Type 1} → statement M
+power_spec = tie.close (tie.spec (λ c. search rules) (λ c. search rules) (λ c. search rules) returns)

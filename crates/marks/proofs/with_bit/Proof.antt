@@ -11,14 +11,14 @@ use Rattle.laws.specs.Bits.{bit_of, bit-room}
 use Rattle.marks.proofs.with_bit.Statement.{statement}
 use Rattle.marks.proofs.with_bit.Tie as tie
 
-clear : (e : tie.Else1) → bit_of e.before.args.byte e.before.args.k ≡ 0
+clear : (e : tie.Else-byte-k-eq1) → bit_of e.before.args.byte e.before.args.k ≡ 0
 clear e =
     let a = e.before.args in
     let l : bit_of a.byte a.k < 2 = mod-lt (a.byte / 2 ^ a.k) (lit< tt) in
-    let n = e.if1.false in
+    let n = e.if-byte-k-eq1.false in
     omega arith
 
-add-result : tie.Need-overflow-add-result
+add-result : tie.Need-overflow_add-result
 add-result c =
     let e = c.before in
     let s = e.before in
@@ -26,20 +26,20 @@ add-result c =
     let room = bit-room s.args.byte s.ranges.byte.fits s.args.k s.requires (clear e) in
     record { fits = omega arith }
 
-returns : tie.Need-returns
+returns : tie.Need-returns-then-byte-k-eq1
 returns c =
     let s = c.before in
     let x = s.args.byte in
-    (sym (ap (λ (b : Bool). cond b x (x + 2 ^ s.args.k)) (eq-eqb (bit_of x s.args.k) 1 c.if1.true)), s.ranges.byte.fits)
+    (sym (ap (λ (b : Bool). cond b x (x + 2 ^ s.args.k)) (eq-eqb (bit_of x s.args.k) 1 c.if-byte-k-eq1.true)), s.ranges.byte.fits)
 
-returns-2 : tie.Need-returns-2
+returns-2 : tie.Need-returns-else-byte-k-eq1
 returns-2 c =
     let s = c.before.before in
     let x = s.args.byte in (
       ap (λ (p : ℕ). x + p) c.power.ensures
-          ∙ sym (ap (λ (b : Bool). cond b x (x + 2 ^ s.args.k)) (ne_eqb (bit_of x s.args.k) 1 c.before.if1.false)),
+          ∙ sym (ap (λ (b : Bool). cond b x (x + 2 ^ s.args.k)) (ne_eqb (bit_of x s.args.k) 1 c.before.if-byte-k-eq1.false)),
       s.ranges.byte.fits,
     )
 
-pub with-bit-spec : {M : Type 1} → statement M
-with-bit-spec = tie.close (tie.spec (λ c. search rules) (λ c. search rules) (λ c κs. search rules) add-result returns returns-2)
+pub with_bit_spec : {M : Type 1} → statement M
+with_bit_spec = tie.close (tie.spec (λ c. search rules) (λ c. search rules) (λ c κs. search rules) add-result returns returns-2)

@@ -25,5 +25,5 @@ returns c =
     let s = k.before.before in
     c.brought.ensures ∙ arm-given s.args.v.at s.args.v.n s.args.p s.requires.0 s.requires.1 _ k.scaled.ensures
 
-pub arm-spec : {M : Type 1} → statement M
-arm-spec = tie.close (tie.spec (λ c κs. search rules) brought-requires returns)
+pub arm_spec : {M : Type 1} → statement M
+arm_spec = tie.close (tie.spec (λ c κs. search rules) brought-requires returns)

@@ -13,13 +13,13 @@ use Rattle.lattice.proofs.arms.far_arm.Tie as tie
 
 module _ (c : tie.After-farther) where
   abbrev v : Record
-  v = c.before.args.v
+  v = c.args.v
 
   i : Inner v
-  i = c.before.requires.0
+  i = c.requires.0
 
   regular : regular_of v.d ≡ true
-  regular = c.before.requires.1
+  regular = c.requires.1
 
   near : Near v.n c.farther.result
   near = subst (Near v.n) (sym c.farther.ensures) (far-bounded v regular 0 (omega (arith, i.low)) i)
@@ -30,5 +30,5 @@ arm-requires c κs = (inner-small (i c), near c)
 returns : tie.Need-returns
 returns c = let k = c.before in c.arm.ensures ∙ ap (arm_by (v k)) k.farther.ensures
 
-pub far-arm-spec : {M : Type 1} → statement M
-far-arm-spec = tie.close (tie.spec (λ c κs. search rules) arm-requires returns)
+pub far_arm_spec : {M : Type 1} → statement M
+far_arm_spec = tie.close (tie.spec (λ c κs. search rules) arm-requires returns)

@@ -14,10 +14,10 @@ use Rattle.lattice.proofs.arms.first_arm.Tie as tie
 
 module _ (c : tie.After-foremost) where
   abbrev v : Record
-  v = c.before.args.v
+  v = c.args.v
 
   i : Inner v
-  i = c.before.requires
+  i = c.requires
 
   is : c.foremost.result ≡ adjacent_of v.d v.k 0
   is = c.foremost.ensures ∙ foremost-adjacent v.d v.k i.low i.top
@@ -31,5 +31,5 @@ arm-requires c κs = (inner-small (i c), near c)
 returns : tie.Need-returns
 returns c = let k = c.before in c.arm.ensures ∙ ap (arm_by (v k)) (is k)
 
-pub first-arm-spec : {M : Type 1} → statement M
-first-arm-spec = tie.close (tie.spec (λ c κs. search rules) arm-requires returns)
+pub first_arm_spec : {M : Type 1} → statement M
+first_arm_spec = tie.close (tie.spec (λ c κs. search rules) arm-requires returns)

@@ -11,17 +11,17 @@ use Rattle.lattice.specs.declared.records.Record.{Record}
 use Rattle.lattice.proofs.arms.near_arm.Statement.{statement}
 use Rattle.lattice.proofs.arms.near_arm.Tie as tie
 
-module _ (c : tie.After-first-opposite) where
+module _ (c : tie.After-first_opposite) where
   abbrev v : Record
-  v = c.before.args.v
+  v = c.args.v
 
   i : Inner v
-  i = c.before.requires
+  i = c.requires
 
-  is : c.first-opposite.result ≡ first_opposite_of v.d v.k 0
-  is = c.first-opposite.ensures
+  is : c.first_opposite.result ≡ first_opposite_of v.d v.k 0
+  is = c.first_opposite.ensures
 
-  near : Near v.n c.first-opposite.result
+  near : Near v.n c.first_opposite.result
   near = subst (Near v.n) (sym is) (first-near v i 0 (omega (arith, i.low)))
 
 arm-requires : tie.Need-arm-requires
@@ -30,5 +30,5 @@ arm-requires c κs = (inner-small (i c), near c)
 returns : tie.Need-returns
 returns c = let k = c.before in c.arm.ensures ∙ ap (arm_by (v k)) (is k)
 
-pub near-arm-spec : {M : Type 1} → statement M
-near-arm-spec = tie.close (tie.spec (λ c κs. search rules) arm-requires returns)
+pub near_arm_spec : {M : Type 1} → statement M
+near_arm_spec = tie.close (tie.spec (λ c κs. search rules) arm-requires returns)

@@ -28,13 +28,13 @@ minus-sum s = whole (pos 0) 0 (lit≤ tt) -ᵐ sum s
 abbrev by : Terms → Bool → Terms
 by w b = record { a = w.a; b = w.b; x = neg_ℤ (cond b w.y (w.x +ℤ w.y)); y = cond b (w.x +ℤ w.y) w.x; m = w.m }
 
-add-sum : tie.Need-overflow-add-sum
+add-sum : tie.Need-overflow_add-sum
 add-sum c = need (sum c.before.before) tt
 
-sub-t6 : tie.Need-overflow-sub-t6
+sub-t6 : tie.Need-overflow_sub-result
 sub-t6 c = need (minus-y c.before.before.before.before.before.before) tt
 
-returns : tie.Need-returns
+returns : tie.Need-returns-then-d-eq6
 returns c =
     let s = c.before.before.before.before.before.before.before in
     let w = s.args.w in
@@ -48,10 +48,10 @@ returns c =
     })
     ∙ ap (by w) (sym (eq-eqb s.args.d 6 (omega arith)))
 
-sub-t7 : tie.Need-overflow-sub-t7
+sub-t7 : tie.Need-overflow_sub-result-2
 sub-t7 c = need (minus-sum c.before.before.before.before) tt
 
-returns-2 : tie.Need-returns-2
+returns-2 : tie.Need-returns
 returns-2 c =
     let s = c.before.before.before.before.before in
     let w = s.args.w in
@@ -65,5 +65,5 @@ returns-2 c =
     })
     ∙ ap (by w) (sym (ne_eqb s.args.d 6 (λ e. omega arith)))
 
-pub next-arm-spec : {M : Type 1} → statement M
-next-arm-spec = tie.close (tie.spec add-sum sub-t6 returns sub-t7 returns-2)
+pub next_arm_spec : {M : Type 1} → statement M
+next_arm_spec = tie.close (tie.spec add-sum sub-t6 returns sub-t7 returns-2)

@@ -21,9 +21,9 @@ returns c =
     let s = q.before in
     let k = s.args.k in
     c.point.ensures
-    ∙ c.before.turned.ensures
+    ∙ c.turned.ensures
     ∙ ap (turns (k / 2)) q.pattern.ensures
     ∙ orient-split k (pattern_of s.args.d s.args.j).adjacent
 
-pub adjacent-spec : {M : Type 1} → statement M
-adjacent-spec = tie.close (tie.spec (λ c κs. search rules) turned-requires (λ c κs. search rules) returns)
+pub adjacent_spec : {M : Type 1} → statement M
+adjacent_spec = tie.close (tie.spec (λ c κs. search rules) turned-requires (λ c κs. search rules) returns)

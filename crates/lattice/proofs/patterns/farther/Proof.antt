@@ -24,8 +24,8 @@ turned-requires c κs =
 returns : tie.Need-returns
 returns c =
     let q = c.before.before in
-    let k = q.before.args.k in
-    c.point.ensures ∙ c.before.turned.ensures ∙ ap (turns (k / 2)) q.pattern.ensures ∙ held-turned k (there q.before)
+    let k = q.args.k in
+    c.point.ensures ∙ c.turned.ensures ∙ ap (turns (k / 2)) q.pattern.ensures ∙ held-turned k (there q.before)
 
-pub farther-spec : {M : Type 1} → statement M
-farther-spec = tie.close (tie.spec (λ c κs. search rules) turned-requires (λ c κs. search rules) returns)
+pub farther_spec : {M : Type 1} → statement M
+farther_spec = tie.close (tie.spec (λ c κs. search rules) turned-requires (λ c κs. search rules) returns)

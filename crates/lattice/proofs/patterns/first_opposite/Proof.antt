@@ -21,9 +21,9 @@ returns c =
     let s = q.before in
     let k = s.args.k in
     c.point.ensures
-    ∙ c.before.turned.ensures
+    ∙ c.turned.ensures
     ∙ ap (turns (k / 2)) q.pattern.ensures
     ∙ orient-split k (pattern_of s.args.d s.args.j).first
 
-pub first-opposite-spec : {M : Type 1} → statement M
-first-opposite-spec = tie.close (tie.spec (λ c κs. search rules) turned-requires (λ c κs. search rules) returns)
+pub first_opposite_spec : {M : Type 1} → statement M
+first_opposite_spec = tie.close (tie.spec (λ c κs. search rules) turned-requires (λ c κs. search rules) returns)

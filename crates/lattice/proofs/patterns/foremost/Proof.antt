@@ -25,8 +25,8 @@ turned-requires c κs =
 
 returns : tie.Need-returns
 returns c =
-    let k = c.before.before.args.k in
-    c.point.ensures ∙ c.before.turned.ensures ∙ ap (turns (k / 2)) (kept k) ∙ orient-split k (pattern_of 6 0).adjacent
+    let k = c.args.k in
+    c.point.ensures ∙ c.turned.ensures ∙ ap (turns (k / 2)) (kept k) ∙ orient-split k (pattern_of 6 0).adjacent
 
-pub foremost-spec : {M : Type 1} → statement M
-foremost-spec = tie.close (tie.spec (λ c. search rules) turned-requires (λ c κs. search rules) returns)
+pub foremost_spec : {M : Type 1} → statement M
+foremost_spec = tie.close (tie.spec (λ c. search rules) turned-requires (λ c κs. search rules) returns)

@@ -20,23 +20,23 @@ placed s e =
     let q : number s / 2 ≡ s.args.j = omega arith in
     λ i. part_of s.args.c (orient_row (h i) (pattern_of (sym e i) (q i)))
 
-returns : tie.Need-returns
-returns c = let s = c.before.before in c.three.ensures ∙ placed s c.before.match.keys1
+returns : tie.Need-returns-in-3
+returns c = let s = c.before.before in c.three.ensures ∙ placed s c.in-3.is
 
-returns-2 : tie.Need-returns-2
-returns-2 c = let s = c.before.before in c.four.ensures ∙ placed s c.before.match.keys2
+returns-2 : tie.Need-returns-in-4
+returns-2 c = let s = c.before.before in c.four.ensures ∙ placed s c.in-4.is
 
-returns-3 : tie.Need-returns-3
-returns-3 c = let s = c.before.before in c.five.ensures ∙ placed s c.before.match.keys3
+returns-3 : tie.Need-returns-in-5
+returns-3 c = let s = c.before.before in c.five.ensures ∙ placed s c.in-5.is
 
-returns-4 : tie.Need-returns-4
+returns-4 : tie.Need-returns-in_default
 returns-4 c =
     let s = c.before.before in
-    let r = c.before.match.rest in
+    let r = c.in_default.in_default-own.rest in
     c.six.ensures ∙ placed s (omega (arith, s.requires.0.0, s.requires.0.1.0, r.0.0.1, r.0.1, r.1))
 
-pub pattern-spec : {M : Type 1} → statement M
-pattern-spec =
+pub pattern_spec : {M : Type 1} → statement M
+pattern_spec =
     tie.close
     (tie.spec
     (λ c. search rules)

@@ -11,18 +11,18 @@ use Rattle.lattice.proofs.patterns.point.Tie as tie
 abbrev wide : (z : ℤ) → SFits w8 z → Mx w32
 wide z f = cast (any {w = w8} z f)
 
-cast-t2 : tie.Need-overflow-cast-t2
-cast-t2 c = need (wide c.before.before.args.p.0 (record { sfits = omega (arith, c.struct_told.given) })) tt
+cast-t2 : tie.Need-overflow_cast-result
+cast-t2 c = need (wide c.args.p.0 (record { sfits = omega (arith, c.struct_told-1.given) })) tt
 
-cast-t3 : tie.Need-overflow-cast-t3
-cast-t3 c = need (wide c.before.before.before.before.args.p.1 (record { sfits = omega (arith, c.struct-told2.given) })) tt
+cast-t3 : tie.Need-overflow_cast-result-2
+cast-t3 c = need (wide c.args.p.1 (record { sfits = omega (arith, c.struct_told-2-1.given) })) tt
 
 returns : tie.Need-returns
 returns c =
     let s = c.before.before.before.before in
-    let a = wide s.args.p.0 (record { sfits = omega (arith, c.before.before.struct_told.given) }) in
-    let b = wide s.args.p.1 (record { sfits = omega (arith, c.struct-told2.given) }) in
+    let a = wide s.args.p.0 (record { sfits = omega (arith, c.struct_told-1.given) }) in
+    let b = wide s.args.p.1 (record { sfits = omega (arith, c.struct_told-2-1.given) }) in
     λ i. pt (back a tt i) (back b tt i) s.args.p.2
 
-pub point-spec : {M : Type 1} → statement M
-point-spec = tie.close (tie.spec cast-t2 cast-t3 returns)
+pub point_spec : {M : Type 1} → statement M
+point_spec = tie.close (tie.spec cast-t2 cast-t3 returns)

@@ -5,7 +5,7 @@ use Rattle.lattice.specs.RowLaws.{table-rule}
 use Rattle.lattice.proofs.patterns.six.Statement.{statement}
 use Rattle.lattice.proofs.patterns.six.Tie as tie
 
-cast-t40 : tie.Need-overflow-cast-t40
+cast-t40 : tie.Need-overflow_cast-result
 unfolding orient pattern_of rows_of six
 cast-t40 c = let s = c.before.before.before in (table-rule 6 tt).depth s.args.i s.args.c s.requires.0 s.requires.1
 
@@ -13,8 +13,8 @@ returns : tie.Need-returns
 unfolding orient pattern_of rows_of six
 returns c = let s = c.before.before.before in (table-rule 6 tt).part s.args.i s.args.c s.requires.0 s.requires.1
 
-pub six-spec : {M : Type 1} → statement M
-six-spec =
+pub six_spec : {M : Type 1} → statement M
+six_spec =
     tie.close
     (tie.spec
     (λ c. search rules)

@@ -5,7 +5,7 @@ use Rattle.lattice.specs.RowLaws.{table-rule}
 use Rattle.lattice.proofs.patterns.three.Statement.{statement}
 use Rattle.lattice.proofs.patterns.three.Tie as tie
 
-cast-t34 : tie.Need-overflow-cast-t34
+cast-t34 : tie.Need-overflow_cast-result
 unfolding orient pattern_of rows_of three
 cast-t34 c = let s = c.before.before.before in (table-rule 3 tt).depth s.args.i s.args.c s.requires.0 s.requires.1
 
@@ -13,8 +13,8 @@ returns : tie.Need-returns
 unfolding orient pattern_of rows_of three
 returns c = let s = c.before.before.before in (table-rule 3 tt).part s.args.i s.args.c s.requires.0 s.requires.1
 
-pub three-spec : {M : Type 1} → statement M
-three-spec =
+pub three_spec : {M : Type 1} → statement M
+three_spec =
     tie.close
     (tie.spec
     (λ c. search rules)

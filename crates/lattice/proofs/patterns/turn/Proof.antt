@@ -15,10 +15,10 @@ minus c = whole (pos 0) 0 (lit≤ tt) -ᵐ whole c.args.p.1 10 c.requires.b
 abbrev sum : tie.Start → Mx w8
 sum c = whole c.args.p.0 10 c.requires.a +ᵐ whole c.args.p.1 10 c.requires.b
 
-sub-t2 : tie.Need-overflow-sub-t2
+sub-t2 : tie.Need-overflow_sub-result
 sub-t2 c = need (minus c.before.before) tt
 
-add-t3 : tie.Need-overflow-add-t3
+add-t3 : tie.Need-overflow_add-result
 add-t3 c = need (sum c.before.before.before.before) tt
 
 returns : tie.Need-returns

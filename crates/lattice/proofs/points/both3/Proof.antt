@@ -8,5 +8,5 @@ use Rattle.lattice.proofs.points.both3.Tie as tie
 returns : tie.Need-returns
 returns c = simp (rem-test w32 c.args.x 3 c.ranges.x, rem-test w32 c.args.y 3 c.ranges.y)
 
-pub both3-spec : {M : Type 1} → statement M
-both3-spec = tie.close (tie.spec (λ c. search (rules, quot_fits)) (λ c. search (rules, quot_fits)) returns)
+pub both3_spec : {M : Type 1} → statement M
+both3_spec = tie.close (tie.spec (λ c. search (rules, quot_fits)) (λ c. search (rules, quot_fits)) returns)

@@ -33,26 +33,26 @@ q s = pt s.args.x s.args.y s.args.n.0
 times-requires : tie.Need-times-requires
 times-requires c κs =
     let s = c.before.before.before in
-    let e = c.before.before.deeper.ensures in
-    asked s.ranges.a c.before.power.ensures (omega arith) (small-wide (p s) _ (omega arith) s.requires.0)
+    let e = c.deeper-d.ensures in
+    asked s.ranges.a c.power-s.ensures (omega arith) (small-wide (p s) _ (omega arith) s.requires.0)
 
 times-requires-2 : tie.Need-times-requires-2
 times-requires-2 c κs =
     let s = c.before.before.before.before in
-    let e = c.before.before.before.deeper.ensures in
-    asked s.ranges.b c.before.before.power.ensures (omega arith) (small-high (p s) _ (omega arith) s.requires.0)
+    let e = c.deeper-d.ensures in
+    asked s.ranges.b c.power-s.ensures (omega arith) (small-high (p s) _ (omega arith) s.requires.0)
 
 times-requires-3 : tie.Need-times-requires-3
 times-requires-3 c κs =
     let s = c.before.before.before.before.before in
-    let e = c.before.before.before.before.deeper.ensures in
-    asked s.ranges.x c.before.before.power2.ensures (omega arith) (small-wide (q s) _ (omega arith) s.requires.1)
+    let e = c.deeper-d.ensures in
+    asked s.ranges.x c.power-t.ensures (omega arith) (small-wide (q s) _ (omega arith) s.requires.1)
 
 times-requires-4 : tie.Need-times-requires-4
 times-requires-4 c κs =
     let s = c.before.before.before.before.before.before in
-    let e = c.before.before.before.before.before.deeper.ensures in
-    asked s.ranges.y c.before.before.before.power2.ensures (omega arith) (small-high (q s) _ (omega arith) s.requires.1)
+    let e = c.deeper-d.ensures in
+    asked s.ranges.y c.power-t.ensures (omega arith) (small-high (q s) _ (omega arith) s.requires.1)
 
 returns : tie.Need-returns
 returns c =
@@ -63,15 +63,15 @@ returns c =
     let w1 = w2.before in
     let d = w1.before in
     let s = d.before in
-    let e = d.deeper.ensures in
-    let ea = given (record { sfits = t1.times.type-inv }) t1.times.ensures s.ranges.a w1.power.ensures (omega arith) in
-    let eb = given (record { sfits = t2.times2.type-inv }) t2.times2.ensures s.ranges.b w1.power.ensures (omega arith) in
-    let ex = given (record { sfits = t3.times3.type-inv }) t3.times3.ensures s.ranges.x w2.power2.ensures (omega arith) in
-    let ey = given (record { sfits = c.times4.type-inv }) c.times4.ensures s.ranges.y w2.power2.ensures (omega arith) in
-    (λ i. record { a = ea i; b = eb i; x = ex i; y = ey i; m = record { 0 = d.deeper.result } }) ∙ ap (terms_at (p s) (q s)) e
+    let e = d.deeper-d.ensures in
+    let ea = given (record { sfits = t1.times.type_inv }) t1.times.ensures s.ranges.a w1.power-s.ensures (omega arith) in
+    let eb = given (record { sfits = t2.times-2.type_inv }) t2.times-2.ensures s.ranges.b w1.power-s.ensures (omega arith) in
+    let ex = given (record { sfits = t3.times-3.type_inv }) t3.times-3.ensures s.ranges.x w2.power-t.ensures (omega arith) in
+    let ey = given (record { sfits = c.times-4.type_inv }) c.times-4.ensures s.ranges.y w2.power-t.ensures (omega arith) in
+    (λ i. record { a = ea i; b = eb i; x = ex i; y = ey i; m = record { 0 = d.deeper-d.result } }) ∙ ap (terms_at (p s) (q s)) e
 
-pub brought-spec : {M : Type 1} → statement M
-brought-spec =
+pub brought_spec : {M : Type 1} → statement M
+brought_spec =
     tie.close
     (tie.spec
     (λ c κs. search rules)

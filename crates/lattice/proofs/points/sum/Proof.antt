@@ -30,10 +30,10 @@ brought-is c =
     ∙ (λ i. terms_of (pt (to_z-of_z f.a i) (to_z-of_z f.b i) s.args.m.0) (pt (to_z-of_z f.x i) (to_z-of_z f.y i) s.args.n.0))
 
 added-requires : tie.Need-added-requires
-added-requires c κs = subst Light (sym (brought-is c)) (terms-light (p c.before) (q c.before) c.before.requires.0 c.before.requires.1)
+added-requires c κs = subst Light (sym (brought-is c)) (terms-light (p c.before) (q c.before) c.requires.0 c.requires.1)
 
 returns : tie.Need-returns
 returns c = c.added.ensures ∙ ap added_of (brought-is c.before)
 
-pub sum-spec : {M : Type 1} → statement M
-sum-spec = tie.close (tie.spec brought-requires added-requires returns)
+pub sum_spec : {M : Type 1} → statement M
+sum_spec = tie.close (tie.spec brought-requires added-requires returns)

@@ -11,11 +11,11 @@ use Rattle.lattice.proofs.points.times.Tie as tie
 product : (c : tie.Start) → SFits w32 (c.args.x *ℤ c.args.s)
 product c = fits w32 _ (omega (arith, abs-times c.args.x c.args.s))
 
-mul-result : tie.Need-overflow-mul-result
+mul-result : tie.Need-overflow_mul-result
 mul-result c = let fx = c.ranges.x in let fs = c.ranges.s in simp to_z-of_z (product c)
 
 returns : tie.Need-returns
 returns c = let fx = c.ranges.x in let fs = c.ranges.s in let p = product c in simp to_z-of_z
 
-pub times-spec : {M : Type 1} → statement M
-times-spec = tie.close (tie.spec mul-result returns)
+pub times_spec : {M : Type 1} → statement M
+times_spec = tie.close (tie.spec mul-result returns)

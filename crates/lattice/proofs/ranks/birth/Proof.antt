@@ -31,15 +31,15 @@ packed = rule2 3 3 (λ x y. 4832043521 / 2 ^ (4 * (3 * x + y)) % 16 ≡? above (
 class-requires : tie.Need-class-requires
 class-requires c κs = search rules
 
-returns : tie.Need-returns
+returns : tie.Need-returns-then-class-eq2
 unfolding birth_of
-returns c = let p = c.before.before.before.before.args.p in simp
-    (eq-eqb p.m.0 0 c.before.before.if1.true, eq-eqb (class_of p) 2 (sym c.before.class.ensures ∙ c.if2.true))
+returns c = let p = c.args.p in simp
+    (eq-eqb p.m.0 0 c.if-p-eq0.true, eq-eqb (class_of p) 2 (sym c.class.ensures ∙ c.if-class-eq2.true))
 
-returns-2 : tie.Need-returns-2
+returns-2 : tie.Need-returns-then-p-eq0
 unfolding birth_of
-returns-2 c = let p = c.before.before.before.before.args.p in simp
-    (eq-eqb p.m.0 0 c.before.before.if1.true, ne_eqb (class_of p) 2 (λ e. c.if2.false (c.before.class.ensures ∙ e)))
+returns-2 c = let p = c.args.p in simp
+    (eq-eqb p.m.0 0 c.if-p-eq0.true, ne_eqb (class_of p) 2 (λ e. c.if-class-eq2.false (c.class.ensures ∙ e)))
 
 left3-requires : tie.Need-left3-requires
 left3-requires c κs = search rules
@@ -48,29 +48,29 @@ left3-requires-2 : tie.Need-left3-requires-2
 left3-requires-2 c κs = search rules
 
 -- what the fields leave
-a-is : (c : tie.After-left3) → c.left3.result ≡ mod_z c.before.before.before.before.args.p.a 3
+a-is : (c : tie.After-left3) → c.left3.result ≡ mod_z c.args.p.a 3
 a-is c =
     let s = c.before in
-    let f : SFits w32 s.before.before.before.args.p.a = record { sfits = omega (arith, s.struct_told.given) } in
+    let f : SFits w32 s.args.p.a = record { sfits = omega (arith, s.struct_told-1.given) } in
     sym (asked (λ z. mod_z z 3) f c.left3.ensures.0)
 
-b-is : (c : tie.After-left32) → c.left32.result ≡ mod_z c.before.before.before.before.before.before.args.p.b 3
+b-is : (c : tie.After-left3-2) → c.left3-2.result ≡ mod_z c.args.p.b 3
 b-is c =
     let s = c.before in
-    let f : SFits w32 s.before.before.before.before.before.args.p.b = record { sfits = omega (arith, s.struct-told2.given) } in
-    sym (asked (λ z. mod_z z 3) f c.left32.ensures.0)
+    let f : SFits w32 s.args.p.b = record { sfits = omega (arith, s.struct_told-2-1.given) } in
+    sym (asked (λ z. mod_z z 3) f c.left3-2.ensures.0)
 
-returns-3 : tie.Need-returns-3
+returns-3 : tie.Need-returns
 returns-3 c =
     let first = c.before.before in
-    let p = first.before.before.before.before.args.p in
-    packed first.left3.result first.left3.ensures.1 c.left32.result c.left32.ensures.1
+    let p = first.args.p in
+    packed first.left3.result first.left3.ensures.1 c.left3-2.result c.left3-2.ensures.1
     ∙ (λ i. above ((a-is first i + 3 - b-is c i) % 3) (a-is first i))
     ∙ ap (λ n. above n (mod_z p.a 3)) (sym (left3-minus p.a p.b))
-    ∙ above-is p first.before.before.if1.false
+    ∙ above-is p first.if-p-eq0.false
 
-pub birth-spec : {M : Type 1} → statement M
-birth-spec =
+pub birth_spec : {M : Type 1} → statement M
+birth_spec =
     tie.close
     (tie.spec
     class-requires

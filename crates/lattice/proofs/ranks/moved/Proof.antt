@@ -11,29 +11,29 @@ use Rattle.lattice.specs.Bounds.{Near}
 use Rattle.lattice.proofs.ranks.moved.Statement.{statement}
 use Rattle.lattice.proofs.ranks.moved.Tie as tie
 
-abbrev start : tie.After-foremost → tie.Start
+abbrev start : tie.After-foremost-u → tie.Start
 start c = c.before.before
 
 -- what is stepped by
-is : (c : tie.After-foremost) → c.foremost.result ≡ orient (start c).args.e (pt (pos 1) (pos 0) 0)
-is c = c.foremost.ensures ∙ move-first (start c).args.e
+is : (c : tie.After-foremost-u) → c.foremost-u.result ≡ orient (start c).args.e (pt (pos 1) (pos 0) 0)
+is c = c.foremost-u.ensures ∙ move-first (start c).args.e
 
-near : (c : tie.After-foremost) → Near (start c).args.i c.foremost.result
+near : (c : tie.After-foremost-u) → Near (start c).args.i c.foremost-u.result
 near c =
     let s = start c in
-    subst (Near s.args.i) (sym (is c)) (move-near s.args.e s.args.i.0 s.pre.1.1.1 s.pre.1.1.0)
+    subst (Near s.args.i) (sym (is c)) (move-near s.args.e s.args.i.0 s.requires.1.1.1 s.requires.1.1.0)
 
 step-requires : tie.Need-step-requires
 step-requires c κs =
     let k = c.before.before.before.before.before in
     let s = start k in
-    step-asked s.args.p s.args.i k.foremost.result s.pre.0 (near k)
+    step-asked s.args.p s.args.i k.foremost-u.result s.requires.0 (near k)
 
 returns : tie.Need-returns
 returns c =
     let k = c.before.before.before.before.before.before in
     let s = start k in
-    c.step.ensures ∙ step_given s.args.p s.args.i k.foremost.result s.pre.0 (near k) ∙ ap (step_of s.args.p s.args.i) (is k)
+    c.step.ensures ∙ step_given s.args.p s.args.i k.foremost-u.result s.requires.0 (near k) ∙ ap (step_of s.args.p s.args.i) (is k)
 
-pub moved-spec : {M : Type 1} → statement M
-moved-spec = tie.close (tie.spec (λ c κs. search rules) step-requires returns)
+pub moved_spec : {M : Type 1} → statement M
+moved_spec = tie.close (tie.spec (λ c κs. search rules) step-requires returns)

@@ -7,31 +7,31 @@ use Rattle.lattice.specs.Points.{class_of}
 use Rattle.lattice.specs.Ranks.{rank_of}
 use Rattle.lattice.proofs.ranks.rank.Tie as tie
 
-class-requires : tie.Need-class-requires
+class-requires : tie.Need-class-c-requires
 class-requires c κs = search rules
 
-returns : tie.Need-returns
+returns : tie.Need-returns-then-c-eq1
 unfolding rank_of
-returns c = let p = c.before.before.before.args.p in simp
-    (eq-eqb p.m.0 0 c.before.if1.true, eq-eqb (class_of p) 1 (sym c.before.before.class.ensures ∙ c.if2.true))
+returns c = let p = c.args.p in simp
+    (eq-eqb p.m.0 0 c.if-m-eq0.true, eq-eqb (class_of p) 1 (sym c.class-c.ensures ∙ c.if-c-eq1.true))
 
-returns-2 : tie.Need-returns-2
+returns-2 : tie.Need-returns-then-m-eq0
 unfolding rank_of
-returns-2 c = let p = c.before.before.before.args.p in simp
-    (eq-eqb p.m.0 0 c.before.if1.true, ne_eqb (class_of p) 1 (λ e. c.if2.false (c.before.before.class.ensures ∙ e)))
+returns-2 c = let p = c.args.p in simp
+    (eq-eqb p.m.0 0 c.if-m-eq0.true, ne_eqb (class_of p) 1 (λ e. c.if-c-eq1.false (c.class-c.ensures ∙ e)))
 
-returns-3 : tie.Need-returns-3
+returns-3 : tie.Need-returns-then-c-eq0
 unfolding rank_of
-returns-3 c = let p = c.before.before.before.args.p in simp
-    (ne_eqb p.m.0 0 c.before.if1.false, eq-eqb (class_of p) 0 (sym c.before.before.class.ensures ∙ c.if3.true))
+returns-3 c = let p = c.args.p in simp
+    (ne_eqb p.m.0 0 c.if-m-eq0.false, eq-eqb (class_of p) 0 (sym c.class-c.ensures ∙ c.if-c-eq0.true))
 
-returns-4 : tie.Need-returns-4
+returns-4 : tie.Need-returns
 unfolding rank_of
-returns-4 c = let p = c.before.before.before.args.p in simp
-    (ne_eqb p.m.0 0 c.before.if1.false, ne_eqb (class_of p) 0 (λ e. c.if3.false (c.before.before.class.ensures ∙ e)))
+returns-4 c = let p = c.args.p in simp
+    (ne_eqb p.m.0 0 c.if-m-eq0.false, ne_eqb (class_of p) 0 (λ e. c.if-c-eq0.false (c.class-c.ensures ∙ e)))
 
-pub rank-spec : {M : Type 1} → statement M
-rank-spec =
+pub rank_spec : {M : Type 1} → statement M
+rank_spec =
     tie.close
     (tie.spec
     class-requires

@@ -14,8 +14,8 @@ returns c =
     let r = k.before in
     let s = r.before in
     let ea = k.size.ensures ∙ ap nat_abs (to_z-of_z s.ranges.a) in
-    let eb = c.size2.ensures ∙ ap nat_abs (to_z-of_z s.ranges.b) in
-    λ i. leb (ea i) (r.range.ensures i) && leb (eb i) (r.range.ensures i)
+    let eb = c.size-2.ensures ∙ ap nat_abs (to_z-of_z s.ranges.b) in
+    λ i. leb (ea i) (r.range-most.ensures i) && leb (eb i) (r.range-most.ensures i)
 
-pub in-range-spec : {M : Type 1} → statement M
-in-range-spec = tie.close (tie.spec (λ c κs. search rules) (λ c κs. search rules) (λ c κs. search rules) returns)
+pub in_range_spec : {M : Type 1} → statement M
+in_range_spec = tie.close (tie.spec (λ c κs. search rules) (λ c κs. search rules) (λ c κs. search rules) returns)

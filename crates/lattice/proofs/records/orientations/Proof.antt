@@ -13,13 +13,13 @@ use Rattle.lattice.proofs.records.orientations.Tie as tie
 packed : (d : ℕ) → d < 7 → 46940160 / 2 ^ (4 * d) % 16 ≡ orientations_of d
 packed d h = eqb-true _ _ (upto-each (λ d. eqb (46940160 / 2 ^ (4 * d) % 16) (orientations_of d)) 7 d refl h)
 
-returns : tie.Need-returns
+returns : tie.Need-returns-then-d-gt6
 returns c =
-    let d = c.before.args.d in
+    let d = c.args.d in
     simp (ne_eqb d 3 (λ e. omega arith), ne_eqb d 4 (λ e. omega arith), ne_eqb d 5 (λ e. omega arith), ne_eqb d 6 (λ e. omega arith))
 
-returns-2 : tie.Need-returns-2
-returns-2 c = packed c.before.args.d (omega arith)
+returns-2 : tie.Need-returns
+returns-2 c = packed c.args.d (omega arith)
 
-pub orientations-spec : {M : Type 1} → statement M
-orientations-spec = tie.close (tie.spec returns (λ c. search rules) (λ c. search rules) (λ c. search rules) (λ c. search rules) returns-2)
+pub orientations_spec : {M : Type 1} → statement M
+orientations_spec = tie.close (tie.spec returns (λ c. search rules) (λ c. search rules) (λ c. search rules) (λ c. search rules) returns-2)

@@ -19,7 +19,7 @@ use Rattle.lattice.proofs.rows.point_at.Statement.{statement}
 use Rattle.lattice.proofs.rows.point_at.Tie as tie
 
 -- the numbers are those of the adjacent point
-module _ (c : tie.After-m) where
+module _ (c : tie.After-m-1) where
   abbrev start : tie.Start
   start = c.before.before.before
 
@@ -33,30 +33,30 @@ module _ (c : tie.After-m) where
   number i = get_or start.args.row.now i (pos 0)
 
   a-is : number (3 * j + 1) ≡ (adjacent_at v j).a
-  a-is = ap (λ (l : List ℤ). get_or l (3 * j + 1) (pos 0)) start.pre.0 ∙ (ring-point v start.pre.1.0 j start.pre.1.1).0
+  a-is = ap (λ (l : List ℤ). get_or l (3 * j + 1) (pos 0)) start.requires.0 ∙ (ring-point v start.requires.1.0 j start.requires.1.1).0
 
   b-is : number (3 * j + 1 + 1) ≡ (adjacent_at v j).b
-  b-is = ap (λ (l : List ℤ). get_or l (3 * j + 1 + 1) (pos 0)) start.pre.0 ∙ (ring-point v start.pre.1.0 j start.pre.1.1).1
+  b-is = ap (λ (l : List ℤ). get_or l (3 * j + 1 + 1) (pos 0)) start.requires.0 ∙ (ring-point v start.requires.1.0 j start.requires.1.1).1
 
   m-is : to_z w32 (of_z w32 (number (3 * j + 1 + 2))) ≡ pos (adjacent_at v j).m.0
   m-is =
-      to_z-of_z (record { sfits = c.m.given })
-      ∙ ap (λ (l : List ℤ). get_or l (3 * j + 1 + 2) (pos 0)) start.pre.0
-      ∙ (ring-point v start.pre.1.0 j start.pre.1.1).2
+      to_z-of_z {w = w32} (record { sfits = c.m-1.given })
+      ∙ ap (λ (l : List ℤ). get_or l (3 * j + 1 + 2) (pos 0)) start.requires.0
+      ∙ (ring-point v start.requires.1.0 j start.requires.1.1).2
 
-cast-t17 : tie.Need-overflow-cast-t17
+cast-t17 : tie.Need-overflow_cast-result
 cast-t17 c =
     let s = start c in
-    subst (λ (z : ℤ). T (non_neg z) × Fits w8 (nat_abs z)) (sym (m-is c)) (tt, record { fits = adjacent-byte (v c) s.pre.1.0 (j c) s.pre.1.1 })
+    subst (λ (z : ℤ). T (non_neg z) × Fits w8 (nat_abs z)) (sym (m-is c)) (tt, record { fits = adjacent-byte (v c) s.requires.1.0 (j c) s.requires.1.1 })
 
 returns : tie.Need-returns
 returns c =
-    let a : to_z w32 (of_z w32 (number c (3 * j c + 1))) ≡ (adjacent_at (v c) (j c)).a = to_z-of_z (record { sfits = c.before.before.a.given }) ∙ a-is c in
-    let b : to_z w32 (of_z w32 (number c (3 * j c + 1 + 1))) ≡ (adjacent_at (v c) (j c)).b = to_z-of_z (record { sfits = c.before.b.given }) ∙ b-is c in
+    let a : to_z w32 (of_z w32 (number c (3 * j c + 1))) ≡ (adjacent_at (v c) (j c)).a = to_z-of_z {w = w32} (record { sfits = c.a-1.given }) ∙ a-is c in
+    let b : to_z w32 (of_z w32 (number c (3 * j c + 1 + 1))) ≡ (adjacent_at (v c) (j c)).b = to_z-of_z {w = w32} (record { sfits = c.b-1.given }) ∙ b-is c in
     λ i. pt (a i) (b i) (nat_abs (m-is c i))
 
-pub point-at-spec : {M : Type 1} → statement M
-point-at-spec =
+pub point_at_spec : {M : Type 1} → statement M
+point_at_spec =
     tie.close
     (tie.spec
     (λ c. search rules)

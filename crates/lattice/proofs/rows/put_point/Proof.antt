@@ -8,12 +8,12 @@ use Rattle.lattice.proofs.rows.put_point.Tie as tie
 returns : tie.Need-returns
 returns c =
     let k = c.before.before in
-    let a = k.before.args in
-    row_put a.p (record { sfits = omega (arith, k.struct_told.given) }) (record { sfits = omega (arith, k.struct_told.given) })
-    (omega (arith, k.struct_told.given)) a.out.now a.i
+    let a = k.args in
+    row_put a.p (record { sfits = omega (arith, k.struct_told-1.given) }) (record { sfits = omega (arith, k.struct_told-1.given) })
+    (omega (arith, k.struct_told-1.given)) a.out.now a.i
 
-pub put-point-spec : {M : Type 1} → statement M
-put-point-spec =
+pub put_point_spec : {M : Type 1} → statement M
+put_point_spec =
     tie.close
     (tie.spec
     (λ c. search rules)

@@ -4,5 +4,5 @@ use Rattle.lattice.specs.AnswerRowLaws.{row-zeros}
 use Rattle.lattice.proofs.rows.refuse_row.Statement.{statement}
 use Rattle.lattice.proofs.rows.refuse_row.Tie as tie
 
-pub refuse-row-spec : {M : Type 1} → statement M
-refuse-row-spec = tie.close (tie.spec (λ c. (refl, row-zeros _)))
+pub refuse_row_spec : {M : Type 1} → statement M
+refuse_row_spec = tie.close (tie.spec (λ c. (refl, row-zeros _)))

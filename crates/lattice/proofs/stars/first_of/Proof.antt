@@ -11,28 +11,28 @@ use Rattle.lattice.proofs.stars.first_of.Statement.{statement}
 use Rattle.lattice.proofs.stars.first_of.Tie as tie
 
 -- the record, and what is stepped by
-abbrev start : tie.After-first-opposite → tie.Start
+abbrev start : tie.After-first_opposite-p → tie.Start
 start c = c.before.before.before.before
 
-abbrev r : tie.After-first-opposite → Record
+abbrev r : tie.After-first_opposite-p → Record
 r c = (start c).args.r
 
-near : (c : tie.After-first-opposite) → Near (r c).n c.first-opposite.result
+near : (c : tie.After-first_opposite-p) → Near (r c).n c.first_opposite-p.result
 near c =
     let s = start c in
-    subst (Near (r c).n) (sym c.first-opposite.ensures) (first-near (r c) s.pre.0 s.args.j s.pre.1)
+    subst (Near (r c).n) (sym c.first_opposite-p.ensures) (first-near (r c) s.requires.0 s.args.j s.requires.1)
 
 step-requires : tie.Need-step-requires
 step-requires c κs =
     let k = c.before.before.before.before.before in
-    step-asked (r k).at (r k).n k.first-opposite.result (inner-small (start k).requires.0) (near k)
+    step-asked (r k).at (r k).n k.first_opposite-p.result (inner-small (start k).requires.0) (near k)
 
 returns : tie.Need-returns
 returns c =
     let k = c.before.before.before.before.before.before in
     c.step.ensures
-    ∙ step_given (r k).at (r k).n k.first-opposite.result (inner-small (start k).requires.0) (near k)
-    ∙ ap (step_of (r k).at (r k).n) k.first-opposite.ensures
+    ∙ step_given (r k).at (r k).n k.first_opposite-p.result (inner-small (start k).requires.0) (near k)
+    ∙ ap (step_of (r k).at (r k).n) k.first_opposite-p.ensures
 
-pub first-of-spec : {M : Type 1} → statement M
-first-of-spec = tie.close (tie.spec (λ c κs. search rules) step-requires returns)
+pub first_of_spec : {M : Type 1} → statement M
+first_of_spec = tie.close (tie.spec (λ c κs. search rules) step-requires returns)

@@ -13,67 +13,67 @@ use Rattle.lattice.specs.declared.records.Record.{Record}
 use Rattle.lattice.proofs.stars.put_regular.Statement.{statement}
 use Rattle.lattice.proofs.stars.put_regular.Tie as tie
 
-abbrev invariant-loop : tie.invariant-loop
-invariant-loop out₀ v d w₀ j₀ out w j = ArmsPut v j out w
+abbrev invariant-loop-j : tie.invariant-loop-j
+invariant-loop-j out₀ v d w₀ j₀ out w j = ArmsPut v j out w
 
-abbrev decreases-loop : tie.decreases-loop
-decreases-loop out₀ v d w₀ j₀ out w j = v.d - j
+abbrev decreases-loop-j : tie.decreases-loop-j
+decreases-loop-j out₀ v d w₀ j₀ out w j = v.d - j
 
-loop-holds : tie.Need-loop-init invariant-loop decreases-loop
-loop-holds c = arms_start c.before.args.v _ _ c.before.requires.1.1 c.first-arm.ensures
+loop-holds : tie.Need-loop-j-init invariant-loop-j decreases-loop-j
+loop-holds c = arms_start c.args.v _ _ c.requires.1.1 c.first_arm-w.ensures
 
 -- the place that is put
-module _ (a : tie.After-put-point-arg invariant-loop decreases-loop) where
-  abbrev start : tie.Start invariant-loop decreases-loop
+module _ (a : tie.After-put_point-arg-1 invariant-loop-j decreases-loop-j) where
+  abbrev start : tie.Start invariant-loop-j decreases-loop-j
   start = a.before.before.before.before
 
   abbrev v : Record
   v = start.args.v
 
   abbrev j : ℕ
-  j = a.before.before.loop.j
+  j = a.loop-j.j
 
-  so_far : ArmsPut v j a.before.before.loop.out a.before.before.loop.w
-  so_far = a.before.before.loop.inv
+  so_far : ArmsPut v j a.loop-j.out a.loop-j.w
+  so_far = a.loop-j.invariant
 
   below : j < v.d
-  below = omega (arith, a.before.loop-test.taken)
+  below = omega (arith, a.loop-j-test.true)
 
-added-requires : tie.Need-added-requires invariant-loop decreases-loop
+added-requires : tie.Need-added-requires invariant-loop-j decreases-loop-j
 added-requires c κs = arms-light (v c) (start c).requires.0 (j c) _ _ (so_far c) (below c)
 
-put-point-requires : tie.Need-put-point-requires invariant-loop decreases-loop
+put-point-requires : tie.Need-put_point-requires invariant-loop-j decreases-loop-j
 put-point-requires c κs = let a = c.before in omega (arith, below a, (start a).requires.0.top)
 
-next-arm-requires : tie.Need-next-arm-requires invariant-loop decreases-loop
+next-arm-requires : tie.Need-next_arm-w-requires invariant-loop-j decreases-loop-j
 next-arm-requires c κs = let a = c.before.before in arms-light (v a) (start a).requires.0 (j a) _ _ (so_far a) (below a)
 
-add-j : tie.Need-overflow-add-j invariant-loop decreases-loop
+add-j : tie.Need-overflow_add-j-in-loop-j invariant-loop-j decreases-loop-j
 add-j c = let a = c.before.before.before in omega (arith, below a, (start a).requires.0.top)
 
-loop-less : tie.Need-loop-smaller invariant-loop decreases-loop
+loop-less : tie.Need-loop-j-smaller invariant-loop-j decreases-loop-j
 loop-less c = omega (arith, below c.before.before.before)
 
-loop-again : tie.Need-loop-preserved invariant-loop decreases-loop
+loop-again : tie.Need-loop-j-preserved invariant-loop-j decreases-loop-j
 loop-again c =
     let p = c.before in
     let a = p.before.before in
-    let row : List ℤ = a.before.before.loop.out in
-    let e = p.put-point.ensures ∙ ap (λ (q : Point). sets row (3 * j a + 1) (point_numbers q)) p.before.added.ensures in
-    subst (λ (o : List ℤ). ArmsPut (v a) (j a + 1) o c.next-arm.result) (sym e)
-    (subst (ArmsPut (v a) (j a + 1) _) (sym c.next-arm.ensures) (arms_more (v a) (start a).requires.0 (start a).requires.1.0 (j a) _ _ (so_far a) (below a)))
+    let row : List ℤ = a.loop-j.out in
+    let e = p.put_point.ensures ∙ ap (λ (q : Point). sets row (3 * j a + 1) (point_numbers q)) p.added.ensures in
+    subst (λ (o : List ℤ). ArmsPut (v a) (j a + 1) o c.next_arm-w.result) (sym e)
+    (subst (ArmsPut (v a) (j a + 1) _) (sym c.next_arm-w.ensures) (arms_more (v a) (start a).requires.0 (start a).requires.1.0 (j a) _ _ (so_far a) (below a)))
 
-returns : tie.Need-returns invariant-loop decreases-loop
+returns : tie.Need-returns invariant-loop-j decreases-loop-j
 returns c =
     let l = c.before in
-    arms_end l.before.before.args.v l.loop.j _ _ l.loop.invariant (λ h. omega (arith, h, c.loop-test.false))
+    arms_end l.args.v l.loop-j.j _ _ l.loop-j.invariant (λ h. omega (arith, h, c.loop-j-test.false))
 
-pub put-regular-spec : {M : Type 1} → statement M
-put-regular-spec =
+pub put_regular_spec : {M : Type 1} → statement M
+put_regular_spec =
     tie.close
     (tie.spec
-    invariant-loop
-    decreases-loop
+    invariant-loop-j
+    decreases-loop-j
     (λ c κs. c.requires.0)
     loop-holds
     (λ c. search rules)

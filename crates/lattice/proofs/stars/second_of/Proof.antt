@@ -12,32 +12,30 @@ use Rattle.lattice.proofs.stars.second_of.Tie as tie
 
 step-requires : tie.Need-step-requires
 step-requires c κs =
-    let b = c.before.before.before.before.before.before in
-    let q = b.before.before in
+    let b = c.before.before.before.before.before in
+    let q = b.before in
     let s = q.before.before.before.before in
     let i = s.requires.0 in
     let r = s.args.r in
-    let p = b.p.given in
-    step-asked r.at r.n p.0.0 (inner-small i) (second-near r i s.args.j s.requires.1 p.0.0 (sym q.second-opposite.ensures ∙ p.1))
+    step-asked r.at r.n b.in-At.p (inner-small i) (second-near r i s.args.j s.requires.1 b.in-At.p (sym q.second_opposite.ensures ∙ b.in-At.is))
 
-returns : tie.Need-returns
+returns : tie.Need-returns-in-At
 returns c =
-    let b = c.before.before.before.before.before.before.before in
-    let q = b.before.before in
+    let b = c.before.before.before.before.before.before in
+    let q = b.before in
     let s = q.before.before.before.before in
     let i = s.requires.0 in
     let r = s.args.r in
-    let p = b.p.given in
-    let e = sym q.second-opposite.ensures ∙ p.1 in
-    ap At (c.step.ensures ∙ step_given r.at r.n p.0.0 (inner-small i) (second-near r i s.args.j s.requires.1 p.0.0 e))
+    let e = sym q.second_opposite.ensures ∙ b.in-At.is in
+    ap At (c.step.ensures ∙ step_given r.at r.n b.in-At.p (inner-small i) (second-near r i s.args.j s.requires.1 b.in-At.p e))
     ∙ ap (on_spot (step_of r.at r.n)) (sym e)
 
-returns-2 : tie.Need-returns-2
+returns-2 : tie.Need-returns-in-Nothing
 returns-2 c =
-    let q = c.before.before in
-    let r = q.before.before.before.before.args.r in
-    ap (on_spot (step_of r.at r.n)) (sym c.enum_told.given.1 ∙ q.second-opposite.ensures)
+    let q = c.before in
+    let r = q.args.r in
+    ap (on_spot (step_of r.at r.n)) (sym c.in-Nothing.is ∙ q.second_opposite.ensures)
 
-pub second-of-spec : {M : Type 1} → statement M
-second-of-spec =
+pub second_of_spec : {M : Type 1} → statement M
+second_of_spec =
     tie.close (tie.spec (λ c κs. search rules) (λ c. search rules) step-requires (λ c. search rules) returns returns-2)

@@ -5,25 +5,25 @@ use Rattle.laws.specs.Signs.{minus-fits, word-signed}
 use Rattle.table.proofs.bytes.as_signed.Statement.{statement}
 use Rattle.table.proofs.bytes.as_signed.Tie as tie
 
-cast-result : tie.Need-overflow-cast-result
+cast-result : tie.Need-overflow_cast-result
 cast-result c = search rules
 
-sub-result : tie.Need-overflow-sub-result
+sub-result : tie.Need-overflow_sub-result
 sub-result c = search rules
 
-cast-result-2 : tie.Need-overflow-cast-result-2
+cast-result-2 : tie.Need-overflow_cast-result-else-u-lt-NEGATIVE
 cast-result-2 c = search rules
 
-sub-result-2 : tie.Need-overflow-sub-result-2
-sub-result-2 c = minus-fits c.before.args.u c.if1.false c.before.ranges.u.fits
+sub-result-2 : tie.Need-overflow_sub-result-else-u-lt-NEGATIVE
+sub-result-2 c = minus-fits c.args.u c.if-u-lt-NEGATIVE.false c.ranges.u.fits
 
-returns : tie.Need-returns
+returns : tie.Need-returns-then-u-lt-NEGATIVE
 returns c = refl
 
-returns-2 : tie.Need-returns-2
-returns-2 c = word-signed c.before.args.u c.if1.false c.before.ranges.u.fits
+returns-2 : tie.Need-returns-else-u-lt-NEGATIVE
+returns-2 c = word-signed c.args.u c.if-u-lt-NEGATIVE.false c.ranges.u.fits
 
-pub as-signed-spec : {M : Type 1} → statement M
-as-signed-spec =
+pub as_signed_spec : {M : Type 1} → statement M
+as_signed_spec =
     tie.close
     (tie.spec cast-result sub-result cast-result-2 sub-result-2 returns returns-2)

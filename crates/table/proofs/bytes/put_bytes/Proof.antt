@@ -6,8 +6,8 @@ use borrow.Author.Rules.{rules}
 use Rattle.table.proofs.bytes.put_bytes.Statement.{statement}
 use Rattle.table.proofs.bytes.put_bytes.Tie as tie
 
-pub put-bytes-spec : {M : Type 1} → statement M
-put-bytes-spec =
+pub put_bytes_spec : {M : Type 1} → statement M
+put_bytes_spec =
     tie.close
     (tie.spec
     (λ c. search rules)

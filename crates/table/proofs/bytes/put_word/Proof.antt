@@ -6,8 +6,8 @@ use borrow.Author.Rules.{rules}
 use Rattle.table.proofs.bytes.put_word.Statement.{statement}
 use Rattle.table.proofs.bytes.put_word.Tie as tie
 
-pub put-word-spec : {M : Type 1} → statement M
-put-word-spec =
+pub put_word_spec : {M : Type 1} → statement M
+put_word_spec =
     tie.close
     (tie.spec
     (λ c. search rules)

@@ -8,8 +8,8 @@ returns : tie.Need-returns
 unfolding word_at
 returns c = record { is = search rules; byte0 = search rules; byte1 = search rules; byte2 = search rules; byte3 = search rules }
 
-pub word-spec : {M : Type 1} → statement M
-word-spec =
+pub word_spec : {M : Type 1} → statement M
+word_spec =
     tie.close
     (tie.spec
     (λ c. search rules)

@@ -4,7 +4,7 @@ use Rattle.table.specs.EntryLaws.{home-reached}
 use Rattle.table.proofs.entries.enter.Statement.{statement}
 use Rattle.table.proofs.entries.enter.Tie as tie
 
-enter-from-requires : tie.Need-enter-from-requires
+enter-from-requires : tie.Need-enter_from-requires
 enter-from-requires c κs =
     let s = c.before.before.before in
     (s.requires, home-reached s.args.t.now s.args.n s.requires s.args.r.at c.home.result c.home.ensures.0)

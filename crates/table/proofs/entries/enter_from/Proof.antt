@@ -8,41 +8,41 @@ use Rattle.table.specs.declared.probe.Found.TheVariants as found
 use Rattle.table.proofs.entries.enter_from.Statement.{statement}
 use Rattle.table.proofs.entries.enter_from.Tie as tie
 
-abbrev st : tie.After-find-from → tie.Start
-st c = c.before.before.before.before
+abbrev st : tie.After-find_from-f → tie.Start
+st c = c.before.before.before
 
 -- past the search, by what it found
-past : (c : tie.After-find-from) (o : Found) → c.find-from.result ≡ o
+past : (c : tie.After-find_from-f) (o : Found) → c.find_from-f.result ≡ o
     → enter_at (st c).args.t.now (st c).args.r o ≡ enter_of (st c).args.t.now (st c).args.r
 unfolding enter_of
-past c o e = ap (enter_at (st c).args.t.now (st c).args.r) (sym e ∙ c.find-from.ensures.0)
+past c o e = ap (enter_at (st c).args.t.now (st c).args.r) (sym e ∙ c.find_from-f.ensures.0)
 
-write-slot-requires : tie.Need-write-slot-requires
+write-slot-requires : tie.Need-write_slot-requires
 write-slot-requires c κs =
-    let k = c.before.before in
-    let f = k.before.before in
-    free-room (st f).args.t.now (st f).args.n (st f).requires.0 (st f).args.r.at k.f2.given.0.0 (sym f.find-from.ensures.0 ∙ k.f2.given.1)
-
-returns : tie.Need-returns
-returns c =
     let k = c.before in
-    let f = k.before.before in
-    (sym k.f.given.1 ∙ f.find-from.ensures.0, past f (found.At k.f.given.0.0) k.f.given.1)
+    let f = k.before in
+    free-room (st f).args.t.now (st f).args.n (st f).requires.0 (st f).args.r.at k.in-Free.j (sym f.find_from-f.ensures.0 ∙ k.in-Free.is)
 
-returns-2 : tie.Need-returns-2
+returns : tie.Need-returns-in-At
+returns c =
+    let k = c in
+    let f = k.before in
+    (sym k.in-At.is ∙ f.find_from-f.ensures.0, past f (found.At k.in-At.j) k.in-At.is)
+
+returns-2 : tie.Need-returns-in-Free
 returns-2 c =
     let w = c.before.before in
-    let k = w.before.before.before in
-    let f = k.before.before in
-    (sym k.f2.given.1 ∙ f.find-from.ensures.0, w.write-slot.ensures ∙ past f (found.Free k.f2.given.0.0) k.f2.given.1)
+    let k = w.before.before in
+    let f = k.before in
+    (sym k.in-Free.is ∙ f.find_from-f.ensures.0, w.write_slot.ensures ∙ past f (found.Free k.in-Free.j) k.in-Free.is)
 
-returns-3 : tie.Need-returns-3
+returns-3 : tie.Need-returns-in-Full
 returns-3 c =
-    let f = c.before.before in
-    (sym c.enum_told.given.1 ∙ f.find-from.ensures.0, past f found.Full c.enum_told.given.1)
+    let f = c.before in
+    (sym c.in-Full.is ∙ f.find_from-f.ensures.0, past f found.Full c.in-Full.is)
 
-pub enter-from-spec : {M : Type 1} → statement M
-enter-from-spec =
+pub enter_from_spec : {M : Type 1} → statement M
+enter_from_spec =
     tie.close
     (tie.spec
     (λ c κs. search rules)

@@ -5,11 +5,11 @@ use Rattle.table.specs.Entries.{held_in}
 use Rattle.table.proofs.entries.held_in.Statement.{statement}
 use Rattle.table.proofs.entries.held_in.Tie as tie
 
-returns : tie.Need-returns
-returns c = ap held_in (sym c.enum_told.given.1 ∙ c.before.before.read-slot.ensures)
+returns : tie.Need-returns-in-Free
+returns c = ap held_in (sym c.in-Free.is ∙ c.read_slot-s.ensures)
 
-returns-2 : tie.Need-returns-2
-returns-2 c = ap held_in (sym c.before.s.given.1 ∙ c.before.before.before.read-slot.ensures)
+returns-2 : tie.Need-returns-in-Holds
+returns-2 c = ap held_in (sym c.in-Holds.is ∙ c.read_slot-s.ensures)
 
-pub held-in-spec : {M : Type 1} → statement M
-held-in-spec = tie.close (tie.spec (λ c κs. search rules) (λ c. search rules) (λ c. search rules) returns returns-2)
+pub held_in_spec : {M : Type 1} → statement M
+held_in_spec = tie.close (tie.spec (λ c κs. search rules) (λ c. search rules) (λ c. search rules) returns returns-2)

@@ -8,26 +8,26 @@ use Rattle.table.specs.declared.probe.Found.TheVariants as found
 use Rattle.table.proofs.entries.look_up.Statement.{statement}
 use Rattle.table.proofs.entries.look_up.Tie as tie
 
-held-in-requires : tie.Need-held-in-requires
+held-in-requires : tie.Need-held_in-requires
 held-in-requires c κs =
-    let f = c.before.before.before in
+    let f = c.before in
     let st = f.before.before in
-    at_room st.args.t.now st.args.n st.requires st.args.p c.before.f.given.0.0 (sym f.find.ensures.0 ∙ c.before.f.given.1)
+    at_room st.args.t.now st.args.n st.requires st.args.p c.in-At.i (sym f.find-f.ensures.0 ∙ c.in-At.is)
 
 -- past the search, by what it found
-past : (c : tie.After-find) (o : Found) → c.find.result ≡ o
-    → looked_at c.before.before.args.t.now o ≡ look_up c.before.before.args.t.now c.before.before.args.p
+past : (c : tie.After-find-f) (o : Found) → c.find-f.result ≡ o
+    → looked_at c.args.t.now o ≡ look_up c.args.t.now c.args.p
 unfolding look_up
-past c o e = ap (looked_at c.before.before.args.t.now) (sym e ∙ c.find.ensures.0)
+past c o e = ap (looked_at c.args.t.now) (sym e ∙ c.find-f.ensures.0)
 
-returns : tie.Need-returns
+returns : tie.Need-returns-in-At
 returns c =
-    let k = c.before.before in
-    let f = k.before.before in
-    c.held_in.ensures ∙ past f (found.At k.f.given.0.0) k.f.given.1
+    let k = c.before in
+    let f = k.before in
+    c.held_in.ensures ∙ past f (found.At k.in-At.i) k.in-At.is
 
-pub look-up-spec : {M : Type 1} → statement M
-look-up-spec =
+pub look_up_spec : {M : Type 1} → statement M
+look_up_spec =
     tie.close
     (tie.spec
     (λ c κs. search rules)
@@ -36,5 +36,5 @@ look-up-spec =
     (λ c. search rules)
     (λ c. search rules)
     returns
-    (λ c. past c.before.before (found.Free _) c.enum_told.given.1)
-    (λ c. past c.before.before found.Full c.enum-told2.given.1))
+    (λ c. past c.before (found.Free _) c.in-Free.is)
+    (λ c. past c.before found.Full c.in-Full.is))

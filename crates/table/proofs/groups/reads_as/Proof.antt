@@ -24,12 +24,12 @@ returns c =
     let st = f.before.before in
     let x = st.args in
     let paired : k.pair.result ≡ pair_of (of_z w32 x.a) (of_z w32 x.b) =
-    k.pair.ensures ∙ ap₂ pair_of (a.as-word.ensures ∙ ap (of_z w32) (to_z-of_z st.ranges.a)) (b.as-word2.ensures ∙ ap (of_z w32) (to_z-of_z st.ranges.b)) in
-    ap (λ (y : ℕ). eqb f.first-words.result y && eqb (get_or x.t.now (slot_width * x.i + 8) 0) x.m) paired
-    ∙ hit-both x.t.now (slot_width * x.i) f.first-words.result f.first-words.ensures (pt x.a x.b x.m) st.ranges.a st.ranges.b
+    k.pair.ensures ∙ ap₂ pair_of (a.as_word.ensures ∙ ap (of_z w32) (to_z-of_z st.ranges.a)) (b.as_word-2.ensures ∙ ap (of_z w32) (to_z-of_z st.ranges.b)) in
+    ap (λ (y : ℕ). eqb f.first_words.result y && eqb (get_or x.t.now (slot_width * x.i + 8) 0) x.m) paired
+    ∙ hit-both x.t.now (slot_width * x.i) f.first_words.result f.first_words.ensures (pt x.a x.b x.m) st.ranges.a st.ranges.b
 
-pub reads-as-spec : {M : Type 1} → statement M
-reads-as-spec =
+pub reads_as_spec : {M : Type 1} → statement M
+reads_as_spec =
     tie.close
     (tie.spec
     (λ c. search rules)

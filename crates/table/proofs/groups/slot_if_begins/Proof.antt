@@ -17,10 +17,10 @@ use Rattle.table.specs.PairLaws.{hit-both}
 use Rattle.table.proofs.groups.slot_if_begins.Statement.{statement}
 use Rattle.table.proofs.groups.slot_if_begins.Tie as tie
 
-returns : tie.Need-returns
+returns : tie.Need-returns-then-first_words-pair
 returns c ne = absurd (ne refl)
 
-returns-2 : tie.Need-returns-2
+returns-2 : tie.Need-returns-else-first_words-pair
 returns-2 c ne =
     let k = c.before in
     let b = k.before in
@@ -30,18 +30,18 @@ returns-2 c ne =
     let x = st.args in
     let t = x.t.now in
     let paired : k.pair.result ≡ pair_of (of_z w32 x.a) (of_z w32 x.b) =
-    k.pair.ensures ∙ ap₂ pair_of (a.as-word.ensures ∙ ap (of_z w32) (to_z-of_z st.ranges.a)) (b.as-word2.ensures ∙ ap (of_z w32) (to_z-of_z st.ranges.b)) in
-    let differ = ne_eqb f.first-words.result (pair_of (of_z w32 x.a) (of_z w32 x.b)) (λ e. c.if1.false (e ∙ sym paired)) in (
+    k.pair.ensures ∙ ap₂ pair_of (a.as_word.ensures ∙ ap (of_z w32) (to_z-of_z st.ranges.a)) (b.as_word-2.ensures ∙ ap (of_z w32) (to_z-of_z st.ranges.b)) in
+    let differ = ne_eqb f.first_words.result (pair_of (of_z w32 x.a) (of_z w32 x.b)) (λ e. c.if-first_words-pair.false (e ∙ sym paired)) in (
       refl,
       λ m j l.
           let here : x.i + j ≡ x.i = omega arith in
           ap (reads_as t (pt x.a x.b m)) here
-          ∙ sym (hit-both t (slot_width * x.i) f.first-words.result f.first-words.ensures (pt x.a x.b m) st.ranges.a st.ranges.b)
+          ∙ sym (hit-both t (slot_width * x.i) f.first_words.result f.first_words.ensures (pt x.a x.b m) st.ranges.a st.ranges.b)
           ∙ ap (λ (y : Bool). y && eqb (get_or t (slot_width * x.i + 8) 0) m) differ,
     )
 
-pub slot-if-begins-spec : {M : Type 1} → statement M
-slot-if-begins-spec =
+pub slot_if_begins_spec : {M : Type 1} → statement M
+slot_if_begins_spec =
     tie.close
     (tie.spec
     (λ c. search rules)

@@ -13,10 +13,10 @@ use Rattle.table.proofs.home.low.Tie as tie
 abbrev sum : tie.Start → Mx w64
 sum c = whole c.args.s over (omega (arith, c.requires)) +ᵐ whole (pos over) over (lit≤ tt)
 
-add-result : tie.Need-overflow-add-result
+add-result : tie.Need-overflow_add-result
 add-result c = need (sum c) tt
 
-cast-result : tie.Need-overflow-cast-result
+cast-result : tie.Need-overflow_cast-result
 cast-result c = lift-fits c.args.s _ c.requires (back (sum c) tt)
 
 returns : tie.Need-returns
@@ -24,5 +24,5 @@ returns c =
     let e = lift-is c.args.s _ c.requires (back (sum c) tt) in
     (e, mod-lt _ (omega arith))
 
-pub low-spec : {M : Type 1} → statement M
-low-spec = tie.close (tie.spec add-result cast-result returns)
+pub low_spec : {M : Type 1} → statement M
+low_spec = tie.close (tie.spec add-result cast-result returns)

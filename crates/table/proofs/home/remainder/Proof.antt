@@ -6,31 +6,31 @@ use borrow.Author.Rules.{rules}
 use Rattle.table.proofs.home.remainder.Statement.{statement}
 use Rattle.table.proofs.home.remainder.Tie as tie
 
-cast-w : tie.Need-overflow-cast-w
+cast-w : tie.Need-overflow_cast-w
 cast-w c = search rules
 
-rem-r : tie.Need-nonzero-rem-r
+rem-r : tie.Need-nonzero_rem-r
 rem-r c = rem-asked c.args.s c.args.n c.ranges.s c.requires.0 c.requires.1
 
-add-result : tie.Need-overflow-add-result
-add-result c = sum_fits c.before.args.s c.before.args.n c.before.ranges.s c.before.requires.0 c.before.requires.1 c.if1.true
+add-result : tie.Need-overflow_add-result
+add-result c = sum_fits c.args.s c.args.n c.ranges.s c.requires.0 c.requires.1 c.if-r-lt0.true
 
-cast-result : tie.Need-overflow-cast-result
-cast-result c = sum-cast c.before.args.s c.before.args.n c.before.ranges.s c.before.requires.0 c.before.requires.1 c.if1.true
+cast-result : tie.Need-overflow_cast-result
+cast-result c = sum-cast c.args.s c.args.n c.ranges.s c.requires.0 c.requires.1 c.if-r-lt0.true
 
-cast-result-2 : tie.Need-overflow-cast-result-2
-cast-result-2 c = rem-cast c.before.args.s c.before.args.n c.before.ranges.s c.before.requires.0 c.before.requires.1 c.if1.false
+cast-result-2 : tie.Need-overflow_cast-result-else-r-lt0
+cast-result-2 c = rem-cast c.args.s c.args.n c.ranges.s c.requires.0 c.requires.1 c.if-r-lt0.false
 
-returns : tie.Need-returns
+returns : tie.Need-returns-then-r-lt0
 returns c =
-    let e = sum_is c.before.args.s c.before.args.n c.before.ranges.s c.before.requires.0 c.before.requires.1 c.if1.true in
-    (e, subst (λ (k : ℕ). k < c.before.args.n) (sym e) (mod_below c.before.args.s c.before.args.n c.before.requires.0))
+    let e = sum_is c.args.s c.args.n c.ranges.s c.requires.0 c.requires.1 c.if-r-lt0.true in
+    (e, subst (λ (k : ℕ). k < c.args.n) (sym e) (mod_below c.args.s c.args.n c.requires.0))
 
-returns-2 : tie.Need-returns-2
+returns-2 : tie.Need-returns-else-r-lt0
 returns-2 c =
-    let e = rem_is c.before.args.s c.before.args.n c.before.ranges.s c.before.requires.0 c.before.requires.1 c.if1.false in
-    (e, subst (λ (k : ℕ). k < c.before.args.n) (sym e) (mod_below c.before.args.s c.before.args.n c.before.requires.0))
+    let e = rem_is c.args.s c.args.n c.ranges.s c.requires.0 c.requires.1 c.if-r-lt0.false in
+    (e, subst (λ (k : ℕ). k < c.args.n) (sym e) (mod_below c.args.s c.args.n c.requires.0))
 
-pub remainder-spec : {M : Type 1} → statement M
-remainder-spec =
+pub remainder_spec : {M : Type 1} → statement M
+remainder_spec =
     tie.close (tie.spec cast-w rem-r add-result cast-result cast-result-2 returns returns-2)

@@ -22,29 +22,29 @@ abbrev 7919a : tie.Start → Mx w64
 abbrev 104729b : tie.Start → Mx w64
 104729b c = whole (pos 104729) 104729 (lit≤ tt) *ᵐ b c
 
-cast-result : tie.Need-overflow-cast-result
+cast-result : tie.Need-overflow_cast-result
 cast-result c = need (a c) tt
 
-mul-result : tie.Need-overflow-mul-result
+mul-result : tie.Need-overflow_mul-result
 mul-result c = need (7919a c) tt
 
-cast-result-2 : tie.Need-overflow-cast-result-2
+cast-result-2 : tie.Need-overflow_cast-result-2
 cast-result-2 c = need (b c) tt
 
-mul-result-2 : tie.Need-overflow-mul-result-2
+mul-result-2 : tie.Need-overflow_mul-result-2
 mul-result-2 c = need (104729b c) tt
 
-add-result : tie.Need-overflow-add-result
+add-result : tie.Need-overflow_add-result
 add-result c = need (7919a c +ᵐ 104729b c) tt
 
-cast-result-3 : tie.Need-overflow-cast-result-3
+cast-result-3 : tie.Need-overflow_cast-result-3
 cast-result-3 c = need (m c) tt
 
-add-result-2 : tie.Need-overflow-add-result-2
+add-result-2 : tie.Need-overflow_add-result-2
 add-result-2 c = need (7919a c +ᵐ 104729b c +ᵐ m c) tt
 
 returns : tie.Need-returns
 returns c = back (7919a c +ᵐ 104729b c +ᵐ m c) tt
 
-pub weight-spec : {M : Type 1} → statement M
-weight-spec = tie.close (tie.spec cast-result mul-result cast-result-2 mul-result-2 add-result cast-result-3 add-result-2 returns)
+pub weight_spec : {M : Type 1} → statement M
+weight_spec = tie.close (tie.spec cast-result mul-result cast-result-2 mul-result-2 add-result cast-result-3 add-result-2 returns)

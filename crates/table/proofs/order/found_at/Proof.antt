@@ -11,44 +11,44 @@ use Rattle.table.proofs.order.found_at.Statement.{statement}
 use Rattle.table.proofs.order.found_at.Tie as tie
 
 -- the search comes to its home
-begun : (c : tie.After-home) → let a = c.before.before.args in Reaches a.t.now a.p c.home.result
+begun : (c : tie.After-home-h) → let a = c.args in Reaches a.t.now a.p c.home-h.result
 begun c =
     let st = c.before.before in
-    home-reached st.args.t.now st.args.n st.requires.0.0 st.args.p c.home.result c.home.ensures.0
+    home-reached st.args.t.now st.args.n st.requires.0.0 st.args.p c.home-h.result c.home-h.ensures.0
 
 -- and ends at slot i, if it comes there
 ends : (st : tie.Start) → let a = st.args in Reaches a.t.now a.p a.i → true ≡ is_at (find_of a.t.now a.p) a.i
 ends st r = let a = st.args in reached-found a.t.now a.n st.requires.0.0 a.p a.i r st.requires.1.0
 
-returns : tie.Need-returns
+returns : tie.Need-returns-then-h-i
 returns c =
     let h = c.before in
     let st = h.before.before in
-    ends st (subst (Reaches st.args.t.now st.args.p) c.if1.true (begun h))
+    ends st (subst (Reaches st.args.t.now st.args.p) c.if-h-i.true (begun h))
 
-group-reaches-requires : tie.Need-group-reaches-requires
+group-reaches-requires : tie.Need-group_reaches-requires
 group-reaches-requires c κs =
     let h = c.before in
     let st = h.before.before in
-    (st.requires.0, (h.home.ensures, st.requires.1.1))
+    (st.requires.0, (h.home-h.ensures, st.requires.1.1))
 
-returns-2 : tie.Need-returns-2
+returns-2 : tie.Need-returns-then-group_reaches
 returns-2 c =
     let g = c.before in
-    ends g.before.before.before.before (g.group-reaches.ensures c.if2.true)
+    ends g.before.before.before.before (g.group_reaches.ensures c.if-group_reaches.true)
 
-find-from-requires : tie.Need-find-from-requires
+find-from-requires : tie.Need-find_from-requires
 find-from-requires c κs =
     let h = c.before.before.before in
-    (h.before.before.requires.0.0, begun h)
+    (h.requires.0.0, begun h)
 
-returns-3 : tie.Need-returns-3
+returns-3 : tie.Need-returns
 returns-3 c =
     let f = c.before in
     let st = f.before.before.before.before.before.before in
-    c.is-at.ensures ∙ ap (λ (x : Found). is_at x st.args.i) f.find-from.ensures.0
+    c.is_at.ensures ∙ ap (λ (x : Found). is_at x st.args.i) f.find_from.ensures.0
 
-pub found-at-spec : {M : Type 1} → statement M
-found-at-spec =
+pub found_at_spec : {M : Type 1} → statement M
+found_at_spec =
     tie.close
     (tie.spec (λ c κs. search rules) returns group-reaches-requires returns-2 find-from-requires (λ c κs. search rules) returns-3)

@@ -18,29 +18,29 @@ use Rattle.table.proofs.order.group_reaches.Tie as tie
 short : (st : tie.Start) → st.args.run ≤ st.args.i
 short st = omega (arith, st.requires.1.1, run-most (slot_at st.args.t.now) st.args.i)
 
-near : (c : tie.Then1) → let a = c.before.before.args in Near a.h a.i a.run group
-near c = let a = c.before.before.args in near-test a.h a.i a.run group c.if1.true
+near : (c : tie.Then-h-i) → let a = c.args in Near a.h a.i a.run group
+near c = let a = c.args in near-test a.h a.i a.run group c.if-h-i.true
 
-returns : tie.Need-returns
+returns : tie.Need-returns-then-h-i
 returns c v =
     let s = c.before in
     let h = s.before.before in
     let st = h.before.before in
     let a = st.args in
-    let fa : SFits w32 a.p.a = record { sfits = omega (arith, s.struct-told2.given) } in
-    let fb : SFits w32 a.p.b = record { sfits = omega (arith, s.struct-told2.given) } in
-    let past : c.guess-in-group.result ≡ a.i - group + group = eqb-true c.guess-in-group.result a.i v ∙ omega (arith, near h) in
+    let fa : SFits w32 a.p.a = record { sfits = omega (arith, s.struct_told-then-h-i-1.given) } in
+    let fb : SFits w32 a.p.b = record { sfits = omega (arith, s.struct_told-then-h-i-1.given) } in
+    let past : c.guess_in_group.result ≡ a.i - group + group = eqb-true c.guess_in_group.result a.i v ∙ omega (arith, near h) in
     run-group a.t.now a.p a.n st.requires.0.0 a.h a.i group st.requires.0.1 st.requires.1.0.0
     (subst (λ (r : ℕ). Near a.h a.i r group) st.requires.1.1 (near h))
-    (λ m j l. asked₂ (λ x y. reads_as a.t.now (pt x y m) (a.i - group + j)) fa fb (sym (c.guess-in-group.ensures.1 past m j l)))
+    (λ m j l. asked₂ (λ x y. reads_as a.t.now (pt x y m) (a.i - group + j)) fa fb (sym (c.guess_in_group.ensures.1 past m j l)))
 
-pub group-reaches-spec : {M : Type 1} → statement M
-group-reaches-spec =
+pub group_reaches_spec : {M : Type 1} → statement M
+group_reaches_spec =
     tie.close
     (tie.spec
-    (λ c. omega (arith, c.before.requires, short c.before))
-    (λ c. omega (arith, c.before.requires))
+    (λ c. omega (arith, c.requires, short c.before))
+    (λ c. omega (arith, c.requires))
     (λ c. (near c).3)
-    (λ c κs. omega (arith, near c.before.before, c.before.before.before.before.requires.0.0.long, c.before.before.before.before.requires.0.1))
+    (λ c κs. omega (arith, near c.before.before, c.requires.0.0.long, c.requires.0.1))
     returns
     (λ c e. absurd (not-both e refl)))

@@ -4,7 +4,7 @@ use Rattle.table.proofs.order.in_order.Statement.{statement}
 use Rattle.table.proofs.order.in_order.Tie as tie
 
 returns : tie.Need-returns
-returns c = c.check-order.ensures.0
+returns c = c.check_order-checked.ensures.0
 
-pub in-order-spec : {M : Type 1} → statement M
-in-order-spec = tie.close (tie.spec (λ c κs. search rules) returns)
+pub in_order_spec : {M : Type 1} → statement M
+in_order_spec = tie.close (tie.spec (λ c κs. search rules) returns)

@@ -6,8 +6,8 @@ use Rattle.table.specs.declared.probe.Found.{Found}
 use Rattle.table.proofs.order.is_at.Statement.{statement}
 use Rattle.table.proofs.order.is_at.Tie as tie
 
-returns : tie.Need-returns
-returns c = ap (λ (x : Found). is_at x c.before.before.before.args.i) (sym c.before.f.given.1)
+returns : tie.Need-returns-in-At
+returns c = ap (λ (x : Found). is_at x c.args.i) (sym c.in-At.is)
 
-pub is-at-spec : {M : Type 1} → statement M
-is-at-spec = tie.close (tie.spec (λ c. search rules) (λ c. search rules) (λ c. search rules) returns (λ c. search rules) (λ c. search rules))
+pub is_at_spec : {M : Type 1} → statement M
+is_at_spec = tie.close (tie.spec (λ c. search rules) (λ c. search rules) (λ c. search rules) returns (λ c. search rules) (λ c. search rules))

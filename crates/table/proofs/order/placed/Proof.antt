@@ -11,46 +11,46 @@ use Rattle.table.proofs.order.placed.Statement.{statement}
 use Rattle.table.proofs.order.placed.Tie as tie
 
 -- the test of what was read
-module _ (c : tie.After-read-slot) where
-  at_slot : (x : Slot) → c.read-slot.result ≡ x
-      → placed_slot c.before.before.args.t.now c.before.before.args.i x ≡ placed_at c.before.before.args.t.now c.before.before.args.i
+module _ (c : tie.After-read_slot-s) where
+  at_slot : (x : Slot) → c.read_slot-s.result ≡ x
+      → placed_slot c.args.t.now c.args.i x ≡ placed_at c.args.t.now c.args.i
   unfolding placed_at
-  at_slot x e = ap (placed_slot c.before.before.args.t.now c.before.before.args.i) (sym e ∙ c.read-slot.ensures)
+  at_slot x e = ap (placed_slot c.args.t.now c.args.i) (sym e ∙ c.read_slot-s.ensures)
 
-returns : tie.Need-returns
-returns c = at_slot c.before.before Free c.enum_told.given.1
+returns : tie.Need-returns-in-Free
+returns c = at_slot c.before Free c.in-Free.is
 
-found-at-requires : tie.Need-found-at-requires
+found-at-requires : tie.Need-found_at-requires
 found-at-requires c κs =
-    let k = c.before.before.before.before in
-    let r = k.before.before in
+    let k = c.before.before.before in
+    let r = k.before in
     let st = r.before.before in
-    (st.requires.0, (own-hit _ k.s.given.0.0 (sym r.read-slot.ensures ∙ k.s.given.1), st.requires.1))
+    (st.requires.0, (own-hit _ k.in-Holds.r (sym r.read_slot-s.ensures ∙ k.in-Holds.is), st.requires.1))
 
-returns-2 : tie.Need-returns-2
+returns-2 : tie.Need-returns-then-valid
 returns-2 c =
     let th = c.before.before in
     let v = th.before in
-    let k = v.before.before in
-    let r = k.before.before in
-    let a = r.before.before.args in
-    let rec = k.s.given.0.0 in
+    let k = v.before in
+    let r = k.before in
+    let a = r.args in
+    let rec = k.in-Holds.r in
     c.found_at.ensures
-    ∙ ap (λ (b : Bool). b && is_at (find_of a.t.now rec.at) a.i) (sym (sym v.valid.ensures ∙ th.if1.true))
-    ∙ at_slot r (Holds rec) k.s.given.1
+    ∙ ap (λ (b : Bool). b && is_at (find_of a.t.now rec.at) a.i) (sym (sym v.valid.ensures ∙ th.if-valid.true))
+    ∙ at_slot r (Holds rec) k.in-Holds.is
 
-returns-3 : tie.Need-returns-3
+returns-3 : tie.Need-returns-else-valid
 returns-3 c =
     let v = c.before in
-    let k = v.before.before in
-    let r = k.before.before in
-    let a = r.before.before.args in
-    let rec = k.s.given.0.0 in
-    ap (λ (b : Bool). b && is_at (find_of a.t.now rec.at) a.i) (sym (sym v.valid.ensures ∙ c.if1.false))
-    ∙ at_slot r (Holds rec) k.s.given.1
+    let k = v.before in
+    let r = k.before in
+    let a = r.args in
+    let rec = k.in-Holds.r in
+    ap (λ (b : Bool). b && is_at (find_of a.t.now rec.at) a.i) (sym (sym v.valid.ensures ∙ c.if-valid.false))
+    ∙ at_slot r (Holds rec) k.in-Holds.is
 
-pub placed-spec : {M : Type 1} → statement M
-placed-spec =
+pub placed_spec : {M : Type 1} → statement M
+placed_spec =
     tie.close
     (tie.spec
     (λ c κs. search rules)

@@ -4,14 +4,14 @@ use borrow.Author.Tests.{eq-eqb, ne_eqb}
 use Rattle.table.proofs.probe.after.Statement.{statement}
 use Rattle.table.proofs.probe.after.Tie as tie
 
-add-j : tie.Need-overflow-add-j
+add-j : tie.Need-overflow_add-j
 add-j c = search rules
 
-returns : tie.Need-returns
-returns c = rw (eq-eqb _ _ c.if1.true)
+returns : tie.Need-returns-then-j-n
+returns c = rw (eq-eqb _ _ c.if-j-n.true)
 
-returns-2 : tie.Need-returns-2
-returns-2 c = rw (ne_eqb _ _ c.if1.false)
+returns-2 : tie.Need-returns-else-j-n
+returns-2 c = rw (ne_eqb _ _ c.if-j-n.false)
 
-pub after-spec : {M : Type 1} → statement M
-after-spec = tie.close (tie.spec add-j returns returns-2)
+pub after_spec : {M : Type 1} → statement M
+after_spec = tie.close (tie.spec add-j returns returns-2)

@@ -23,27 +23,27 @@ module _ (t : List ℕ) (i : ℕ) (p : Point) where
   at-record e b h =
       sym (ap (λ (f : Bool). meets (cond f Free (Holds (record_at t (slot_width * i)))) p) e ∙ ap (λ (x : Bool). cond x Hit Other) h)
 
-returns : tie.Need-returns
+returns : tie.Need-returns-then-is_gap
 returns c =
     let g = c.before in
     let st = g.before.before.before in
-    at_gap st.args.t.now st.args.i st.args.p (sym g.is-gap.ensures ∙ c.if1.true)
+    at_gap st.args.t.now st.args.i st.args.p (sym g.is_gap.ensures ∙ c.if-is_gap.true)
 
-returns-2 : tie.Need-returns-2
+returns-2 : tie.Need-returns-then-is_hit
 returns-2 c =
     let h = c.before in
     let l = h.before in
     let g = l.before in
     let st = g.before.before.before in
-    at-record st.args.t.now st.args.i st.args.p (sym g.is-gap.ensures ∙ l.if1.false) true (sym h.is-hit.ensures ∙ c.if2.true)
+    at-record st.args.t.now st.args.i st.args.p (sym g.is_gap.ensures ∙ l.if-is_gap.false) true (sym h.is_hit.ensures ∙ c.if-is_hit.true)
 
-returns-3 : tie.Need-returns-3
+returns-3 : tie.Need-returns
 returns-3 c =
     let h = c.before in
     let l = h.before in
     let g = l.before in
     let st = g.before.before.before in
-    at-record st.args.t.now st.args.i st.args.p (sym g.is-gap.ensures ∙ l.if1.false) false (sym h.is-hit.ensures ∙ c.if2.false)
+    at-record st.args.t.now st.args.i st.args.p (sym g.is_gap.ensures ∙ l.if-is_gap.false) false (sym h.is_hit.ensures ∙ c.if-is_hit.false)
 
 pub look_spec : {M : Type 1} → statement M
 look_spec =

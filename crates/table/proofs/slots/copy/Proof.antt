@@ -23,65 +23,65 @@ ended [] (y ∷ ys) e = absurd (omega arith)
 ended (x ∷ xs) [] e = absurd (omega arith)
 ended (x ∷ xs) (y ∷ ys) e = ap (λ (l : List ℕ). x ∷ l) (ended xs ys (omega arith))
 
-abbrev invariant-loop : tie.invariant-loop
-invariant-loop from to₀ i₀ to i = (to ≡ take i from ++ drop i to₀) × (i ≤ length from) × (length to ≡ length to₀)
+abbrev invariant-loop-i : tie.invariant-loop-i
+invariant-loop-i from to₀ i₀ to i = (to ≡ take i from ++ drop i to₀) × (i ≤ length from) × (length to ≡ length to₀)
 
-abbrev decreases-loop : tie.decreases-loop
-decreases-loop from to₀ i₀ to i = length from - i
+abbrev decreases-loop-i : tie.decreases-loop-i
+decreases-loop-i from to₀ i₀ to i = length from - i
 
-loop-holds : tie.Need-loop-init invariant-loop decreases-loop
+loop-holds : tie.Need-loop-i-init invariant-loop-i decreases-loop-i
 loop-holds c = (refl, omega arith, refl)
 
-shared-slice-read-to : tie.Need-shared-slice-read-to invariant-loop decreases-loop
-shared-slice-read-to c = c.before.loop-test.true
+shared-slice-read-to : tie.Need-bounds-from-i invariant-loop-i decreases-loop-i
+shared-slice-read-to c = c.loop-i-test.true
 
-slice-write-to : tie.Need-slice-write-to invariant-loop decreases-loop
+slice-write-to : tie.Need-bounds-to-i invariant-loop-i decreases-loop-i
 slice-write-to c =
     let l = c.before.before in
-    let e = l.before.requires in
-    let h = c.before.loop-test.true in omega (arith, l.loop.invariant.2)
+    let e = l.requires in
+    let h = c.loop-i-test.true in omega (arith, l.loop-i.invariant.2)
 
-add-i : tie.Need-overflow-add-i invariant-loop decreases-loop
+add-i : tie.Need-overflow_add-i invariant-loop-i decreases-loop-i
 add-i c = search rules
 
-loop-less : tie.Need-loop-smaller invariant-loop decreases-loop
-loop-less c = let h = c.before.loop-test.true in omega arith
+loop-less : tie.Need-loop-i-smaller invariant-loop-i decreases-loop-i
+loop-less c = let h = c.loop-i-test.true in omega arith
 
-loop-again : tie.Need-loop-preserved invariant-loop decreases-loop
+loop-again : tie.Need-loop-i-preserved invariant-loop-i decreases-loop-i
 loop-again c =
     let l = c.before.before in
     let s = l.before in
     let from = s.args.from.now in
     let to = s.args.to.now in
-    let i = l.loop.i in
-    let h : i < length from = c.before.loop-test.true in
+    let i = l.loop-i.i in
+    let h : i < length from = c.loop-i-test.true in
     let e = s.requires in
     let one : suc i ≡ i + 1 = omega arith in (
-      ap (λ (x : List ℕ). set x i (get_or from i 0)) l.loop.invariant.0 ∙ store from to i h (omega arith) ∙ ap (λ (k : ℕ). take k from ++ drop k to) one,
+      ap (λ (x : List ℕ). set x i (get_or from i 0)) l.loop-i.invariant.0 ∙ store from to i h (omega arith) ∙ ap (λ (k : ℕ). take k from ++ drop k to) one,
       omega arith,
-      length-set l.loop.to i (get_or from i 0) ∙ l.loop.invariant.2,
+      length-set l.loop-i.to i (get_or from i 0) ∙ l.loop-i.invariant.2,
     )
 
-same_length : tie.Need-same-length invariant-loop decreases-loop
-same_length c = c.before.loop.invariant.2
+same_length : tie.Need-shape_of-to invariant-loop-i decreases-loop-i
+same_length c = c.loop-i.invariant.2
 
-returns : tie.Need-returns invariant-loop decreases-loop
+returns : tie.Need-returns invariant-loop-i decreases-loop-i
 returns c =
     let l = c.before in
     let s = l.before in
     let from = s.args.from.now in
     let to = s.args.to.now in
-    let h = c.loop-test.false in
-    let e : l.loop.i ≡ length from = omega (arith, l.loop.invariant.1) in
+    let h = c.loop-i-test.false in
+    let e : l.loop-i.i ≡ length from = omega (arith, l.loop-i.invariant.1) in
     let k = s.requires in
-    l.loop.invariant.0 ∙ ap (λ (k : ℕ). take k from ++ drop k to) e ∙ ended from to s.requires
+    l.loop-i.invariant.0 ∙ ap (λ (k : ℕ). take k from ++ drop k to) e ∙ ended from to s.requires
 
 pub copy_spec : {M : Type 1} → statement M
 copy_spec =
     tie.close
     (tie.spec
-    invariant-loop
-    decreases-loop
+    invariant-loop-i
+    decreases-loop-i
     loop-holds
     shared-slice-read-to
     slice-write-to

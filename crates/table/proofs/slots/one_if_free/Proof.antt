@@ -6,11 +6,11 @@ use Rattle.table.specs.Slots.{is_free}
 use Rattle.table.proofs.slots.one_if_free.Statement.{statement}
 use Rattle.table.proofs.slots.one_if_free.Tie as tie
 
-returns : tie.Need-returns
-returns c = (ap is_free (sym c.enum_told.given.1 ∙ c.before.before.read-slot.ensures), omega arith)
+returns : tie.Need-returns-in-Free
+returns c = (ap is_free (sym c.in-Free.is ∙ c.read_slot-s.ensures), omega arith)
 
-returns-2 : tie.Need-returns-2
-returns-2 c = (ap is_free (sym c.enum-told2.given.1 ∙ c.before.before.read-slot.ensures), omega arith)
+returns-2 : tie.Need-returns-in-Holds
+returns-2 c = (ap is_free (sym c.in-Holds.is ∙ c.read_slot-s.ensures), omega arith)
 
-pub one-if-free-spec : {M : Type 1} → statement M
-one-if-free-spec = tie.close (tie.spec (λ c κs. search rules) (λ c. search rules) (λ c. search rules) returns returns-2)
+pub one_if_free_spec : {M : Type 1} → statement M
+one_if_free_spec = tie.close (tie.spec (λ c κs. search rules) (λ c. search rules) (λ c. search rules) returns returns-2)

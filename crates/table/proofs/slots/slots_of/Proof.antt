@@ -4,21 +4,21 @@ use Rattle.table.specs.Slots.{slots_in}
 use Rattle.table.proofs.slots.slots_of.Statement.{statement}
 use Rattle.table.proofs.slots.slots_of.Tie as tie
 
-returns : tie.Need-returns
+returns : tie.Need-returns-then-l-ne0
 unfolding slots_in
-returns c = rw (ne_eqb _ _ c.if1.true)
+returns c = rw (ne_eqb _ _ c.if-l-ne0.true)
 
-returns-2 : tie.Need-returns-2
+returns-2 : tie.Need-returns-then-n-lt-FEWEST
 unfolding slots_in
-returns-2 c = rw (eq-eqb _ _ c.before.if1.false, lt-leb _ _ c.if2.true)
+returns-2 c = rw (eq-eqb _ _ c.if-l-ne0.false, lt-leb _ _ c.if-n-lt-FEWEST.true)
 
-returns-3 : tie.Need-returns-3
+returns-3 : tie.Need-returns-then-n-gt-MOST
 unfolding slots_in
-returns-3 c = rw (eq-eqb _ _ c.before.before.if1.false, le-leb _ _ c.before.if2.false, lt-leb _ _ c.if3.true)
+returns-3 c = rw (eq-eqb _ _ c.if-l-ne0.false, le-leb _ _ c.if-n-lt-FEWEST.false, lt-leb _ _ c.if-n-gt-MOST.true)
 
-returns-4 : tie.Need-returns-4
+returns-4 : tie.Need-returns
 unfolding slots_in
-returns-4 c = rw (eq-eqb _ _ c.before.before.if1.false, le-leb _ _ c.before.if2.false, le-leb _ _ c.if3.false)
+returns-4 c = rw (eq-eqb _ _ c.if-l-ne0.false, le-leb _ _ c.if-n-lt-FEWEST.false, le-leb _ _ c.if-n-gt-MOST.false)
 
-pub slots-of-spec : {M : Type 1} → statement M
-slots-of-spec = tie.close (tie.spec returns returns-2 returns-3 returns-4)
+pub slots_of_spec : {M : Type 1} → statement M
+slots_of_spec = tie.close (tie.spec returns returns-2 returns-3 returns-4)

@@ -21,19 +21,19 @@ returns c =
     let w1 = a2.before.before.before.before.before in
     let a1 = w1.before in
     let told = a1.before in
-    let a = told.before.before.before.before.args in
-    let fa : SFits w32 a.r.at.a = record { sfits = omega (arith, told.struct_told.given) } in
-    let fb : SFits w32 a.r.at.b = record { sfits = omega (arith, told.struct_told.given) } in
-    slot-written a.t.now w1.put_word.new.0 w2.put-word2.new.0 pb.put-bytes.new.0 a.i a.r
+    let a = told.args in
+    let fa : SFits w32 a.r.at.a = record { sfits = omega (arith, told.struct_told-1.given) } in
+    let fb : SFits w32 a.r.at.b = record { sfits = omega (arith, told.struct_told-1.given) } in
+    slot-written a.t.now w1.put_word.new.t w2.put_word-2.new.t pb.put_bytes.new.t a.i a.r
     (w1.put_word.ensures
-    ∙ ap (λ (u : ℕ). sets a.t.now (slot_width * a.i) (word_bytes u)) (a1.as-word.ensures ∙ ap (of_z w32) (to_z-of_z w32 a.r.at.a fa)))
-    (w2.put-word2.ensures
-    ∙ ap (λ (u : ℕ). sets w1.put_word.new.0 (slot_width * a.i + 4) (word_bytes u))
-    (a2.as-word2.ensures ∙ ap (of_z w32) (to_z-of_z w32 a.r.at.b fb)))
-    pb.put-bytes.ensures
+    ∙ ap (λ (u : ℕ). sets a.t.now (slot_width * a.i) (word_bytes u)) (a1.as_word.ensures ∙ ap (of_z w32) (to_z-of_z w32 a.r.at.a fa)))
+    (w2.put_word-2.ensures
+    ∙ ap (λ (u : ℕ). sets w1.put_word.new.t (slot_width * a.i + 4) (word_bytes u))
+    (a2.as_word-2.ensures ∙ ap (of_z w32) (to_z-of_z w32 a.r.at.b fb)))
+    pb.put_bytes.ensures
 
-pub write-slot-spec : {M : Type 1} → statement M
-write-slot-spec =
+pub write_slot_spec : {M : Type 1} → statement M
+write_slot_spec =
     tie.close
     (tie.spec
     (λ c. search rules)

@@ -15,14 +15,14 @@ zero = whole (pos 0) 0 (lit≤ tt)
 abbrev size : tie.Start → Mx w32
 size c = value c.args.n (pos c.args.n) 2147483647 (to_z_pos w32 c.args.n c.requires) (omega arith)
 
-cast-z : tie.Need-overflow-cast-z
+cast-z : tie.Need-overflow_cast-z
 cast-z c = search rules
 
-sub-result : tie.Need-overflow-sub-result
+sub-result : tie.Need-overflow_sub-result
 sub-result c = need (zero -ᵐ size c) tt
 
 returns : tie.Need-returns
 returns c = back (zero -ᵐ size c) tt ∙ +ℤ_idl (neg_ℤ (pos c.args.n))
 
-pub negative-spec : {M : Type 1} → statement M
-negative-spec = tie.close (tie.spec cast-z sub-result returns)
+pub negative_spec : {M : Type 1} → statement M
+negative_spec = tie.close (tie.spec cast-z sub-result returns)

@@ -17,5 +17,5 @@ at_most : (t : Bool) → bool_byte t ≤ 1
 at_most true = omega arith
 at_most false = omega arith
 
-pub past-spec : {M : Type 1} → statement M
-past-spec = tie.close (tie.spec (λ c. search rules) (λ c. let t = ltb c.args.most c.args.n in (as_number t, at_most t)))
+pub past_spec : {M : Type 1} → statement M
+past_spec = tie.close (tie.spec (λ c. search rules) (λ c. let t = ltb c.args.most c.args.n in (as_number t, at_most t)))

@@ -17,31 +17,31 @@ z c = any c.args.z c.ranges.z
 abbrev zero : Mx w32
 zero = whole (pos 0) 0 (lit≤ tt)
 
-sized : (c : tie.After-size) → c.size.result ≡ nat_abs c.before.args.z
-sized c = c.size.ensures ∙ ap nat_abs (to_z-of_z c.before.ranges.z)
+sized : (c : tie.After-size) → c.size.result ≡ nat_abs c.args.z
+sized c = c.size.ensures ∙ ap nat_abs (to_z-of_z c.ranges.z)
 
 size-requires : tie.Need-size-requires
 size-requires c κs = search rules
 
-width-requires : tie.Need-width-requires
+width-requires : tie.Need-width-w-requires
 width-requires c κs = search rules
 
-add-result : tie.Need-overflow-add-result
+add-result : tie.Need-overflow_add-result
 add-result c = search rules
 
-returns : tie.Need-returns
+returns : tie.Need-returns-then-z-lt0
 returns c =
     let w = c.before in
     let s = w.before.before in
-    let e = ap length (numeral-minus s.args.z w.before.size.result (sym (lt-flag (z s) zero tt tt) ∙ c.if1.true) (sized w.before)) in
-    omega (arith, w.width.ensures)
+    let e = ap length (numeral-minus s.args.z w.size.result (sym (lt-flag (z s) zero tt tt) ∙ c.if-z-lt0.true) (sized w.before)) in
+    omega (arith, w.width-w.ensures)
 
-returns-2 : tie.Need-returns-2
+returns-2 : tie.Need-returns-else-z-lt0
 returns-2 c =
     let w = c.before in
     let s = w.before.before in
-    let e = ap length (numeral-plus s.args.z w.before.size.result (sym (lt-flag (z s) zero tt tt) ∙ c.if1.false) (sized w.before)) in
-    omega (arith, w.width.ensures)
+    let e = ap length (numeral-plus s.args.z w.size.result (sym (lt-flag (z s) zero tt tt) ∙ c.if-z-lt0.false) (sized w.before)) in
+    omega (arith, w.width-w.ensures)
 
-pub signed-width-spec : {M : Type 1} → statement M
-signed-width-spec = tie.close (tie.spec size-requires width-requires add-result returns returns-2)
+pub signed_width_spec : {M : Type 1} → statement M
+signed_width_spec = tie.close (tie.spec size-requires width-requires add-result returns returns-2)

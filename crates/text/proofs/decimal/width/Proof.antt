@@ -7,7 +7,7 @@ use Rattle.text.specs.DecimalLaws.{width-tens, digits-some, width-below}
 use Rattle.text.proofs.decimal.width.Statement.{statement}
 use Rattle.text.proofs.decimal.width.Tie as tie
 
-returns : tie.Need-returns
+returns : tie.Need-returns-then-n-lt-MILLION
 returns c =
     let d = c.before in
     let e = d.before in
@@ -15,8 +15,8 @@ returns c =
     let g = f.before in
     let s = g.before.before in
     let n = s.args.n in
-    let top = g.before.if1.true in
-    let is = (λ i. 1 + g.past.ensures.0 i + f.past2.ensures.0 i + e.past3.ensures.0 i + d.past4.ensures.0 i + c.past5.ensures.0 i)
+    let top = g.if-n-lt-MILLION.true in
+    let is = (λ i. 1 + g.past.ensures.0 i + f.past-then-n-lt-MILLION.ensures.0 i + e.past-then-n-lt-MILLION-2.ensures.0 i + d.past-then-n-lt-MILLION-3.ensures.0 i + c.past-then-n-lt-MILLION-4.ensures.0 i)
     ∙ width-tens n top in
     (is, (omega (arith, is, digits-some n), omega (arith, is, width-below 6 n (omega arith) (omega arith))))
 

@@ -11,28 +11,28 @@ use Rattle.text.proofs.decimal.write_number.Statement.{statement}
 use Rattle.text.proofs.decimal.write_number.Tie as tie
 
 -- how long the number and its end are
-long : (c : tie.After-width) → length (ended (digits c.before.before.args.n) c.before.before.args.stop) ≡ c.width.result + 1
+long : (c : tie.After-width) → length (ended (digits c.args.n) c.args.stop) ≡ c.width.result + 1
 long c = let s = c.before.before in omega (arith, length-append (digits s.args.n) (s.args.stop ∷ []), c.width.ensures.0)
 
-add-end : tie.Need-overflow-add-end
-add-end c = omega (arith, long c, c.before.before.requires)
+add-end : tie.Need-overflow_add-end
+add-end c = omega (arith, long c, c.requires)
 
-add-end-2 : tie.Need-overflow-add-end-2
-add-end-2 c = omega (arith, long c, c.before.before.requires)
+add-end-2 : tie.Need-overflow_add-end-2
+add-end-2 c = omega (arith, long c, c.requires)
 
-number-back-requires : tie.Need-number-back-requires
+number-back-requires : tie.Need-number_back-requires
 number-back-requires c κs =
     let w = c.before in
-    (omega (arith, long w), omega (arith, long w, w.before.before.requires))
+    (omega (arith, long w), omega (arith, long w, w.requires))
 
 returns : tie.Need-returns
 returns c =
     let b = c.before.before in
     let w = b.before.before in
-    let a = w.before.before.args in
-    let e : b.number-back.result ≡ a.at = omega (arith, long w, b.number-back.ensures.past) in
-    subst (λ (p : ℕ). Wrote a.out.now p (ended (digits a.n) a.stop) b.number-back.new.0 (a.at + w.width.result + 1)) e
-    b.number-back.ensures
+    let a = w.args in
+    let e : b.number_back.result ≡ a.at = omega (arith, long w, b.number_back.ensures.past) in
+    subst (λ (p : ℕ). Wrote a.out.now p (ended (digits a.n) a.stop) b.number_back.new.out (a.at + w.width.result + 1)) e
+    b.number_back.ensures
 
-pub write-number-spec : {M : Type 1} → statement M
-write-number-spec = tie.close (tie.spec (λ c κs. search rules) add-end add-end-2 number-back-requires (λ c. search rules) returns)
+pub write_number_spec : {M : Type 1} → statement M
+write_number_spec = tie.close (tie.spec (λ c κs. search rules) add-end add-end-2 number-back-requires (λ c. search rules) returns)

@@ -13,21 +13,21 @@ use Rattle.text.proofs.limits.in_limits.Statement.{statement}
 use Rattle.text.proofs.limits.in_limits.Tie as tie
 
 -- how far the point is, each way
-size-a : (c : tie.After-size) → c.size.result ≡ nat_abs c.before.before.args.p.a
+size-a : (c : tie.After-size) → c.size.result ≡ nat_abs c.args.p.a
 size-a c =
-    let f : SFits w32 c.before.before.args.p.a = record { sfits = omega (arith, c.before.struct_told.given) } in
+    let f : SFits w32 c.args.p.a = record { sfits = omega (arith, c.struct_told-1.given) } in
     c.size.ensures ∙ ap nat_abs (to_z-of_z f)
 
-size-b : (c : tie.After-size2) → c.size2.result ≡ nat_abs c.before.before.before.before.args.p.b
+size-b : (c : tie.After-size-2) → c.size-2.result ≡ nat_abs c.args.p.b
 size-b c =
-    let f : SFits w32 c.before.before.before.before.args.p.b = record { sfits = omega (arith, c.before.struct-told2.given) } in
-    c.size2.ensures ∙ ap nat_abs (to_z-of_z f)
+    let f : SFits w32 c.args.p.b = record { sfits = omega (arith, c.struct_told-2-1.given) } in
+    c.size-2.ensures ∙ ap nat_abs (to_z-of_z f)
 
 returns : tie.Need-returns
 returns c =
     let b = c.before in
     let a = b.before.before in
-    λ i. leb (size-a a i) farthest && (leb (size-b b i) farthest && leb a.before.before.args.p.m.0 deepest)
+    λ i. leb (size-a a i) farthest && (leb (size-b b i) farthest && leb a.args.p.m.0 deepest)
 
-pub in-limits-spec : {M : Type 1} → statement M
-in-limits-spec = tie.close (tie.spec (λ c κs. search rules) (λ c κs. search rules) returns)
+pub in_limits_spec : {M : Type 1} → statement M
+in_limits_spec = tie.close (tie.spec (λ c κs. search rules) (λ c κs. search rules) returns)

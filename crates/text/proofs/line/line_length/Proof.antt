@@ -10,19 +10,19 @@ returns c =
     let w₃ = c.before in
     let w₂ = w₃.before.before in
     let w₁ = w₂.before.before in
-    let r = w₁.before.before.args.r in
+    let r = w₁.args.r in
     omega (
       arith,
       line-halves r,
       star-long r.d r.k r.n.0,
-      c.point-length.ensures.0,
+      c.point_length.ensures.0,
       w₁.width.ensures.0,
-      w₂.width2.ensures.0,
-      w₃.width3.ensures.0,
+      w₂.width-2.ensures.0,
+      w₃.width-3.ensures.0,
     )
 
-pub line-length-spec : {M : Type 1} → statement M
-line-length-spec =
+pub line_length_spec : {M : Type 1} → statement M
+line_length_spec =
     tie.close
     (tie.spec
     (λ c. search rules)

@@ -13,26 +13,26 @@ use Rattle.text.proofs.line.point_length.Statement.{statement}
 use Rattle.text.proofs.line.point_length.Tie as tie
 
 -- the widths of the numerators
-long-a : (c : tie.After-signed-width) → c.signed-width.result ≡ length (numeral c.before.before.args.p.a)
+long-a : (c : tie.After-signed_width) → c.signed_width.result ≡ length (numeral c.args.p.a)
 long-a c =
-    let f : SFits w32 c.before.before.args.p.a = record { sfits = omega (arith, c.before.struct_told.given) } in
-    c.signed-width.ensures.0 ∙ ap (λ (z : ℤ). length (numeral z)) (to_z-of_z f)
+    let f : SFits w32 c.args.p.a = record { sfits = omega (arith, c.struct_told-1.given) } in
+    c.signed_width.ensures.0 ∙ ap (λ (z : ℤ). length (numeral z)) (to_z-of_z f)
 
-long-b : (c : tie.After-signed-width2) → c.signed-width2.result ≡ length (numeral c.before.before.before.before.args.p.b)
+long-b : (c : tie.After-signed_width-2) → c.signed_width-2.result ≡ length (numeral c.args.p.b)
 long-b c =
-    let f : SFits w32 c.before.before.before.before.args.p.b = record { sfits = omega (arith, c.before.struct-told2.given) } in
-    c.signed-width2.ensures.0 ∙ ap (λ (z : ℤ). length (numeral z)) (to_z-of_z f)
+    let f : SFits w32 c.args.p.b = record { sfits = omega (arith, c.struct_told-2-1.given) } in
+    c.signed_width-2.ensures.0 ∙ ap (λ (z : ℤ). length (numeral z)) (to_z-of_z f)
 
 returns : tie.Need-returns
 returns c =
     let b = c.before.before in
     let a = b.before.before in (
-      omega (arith, long-a a, long-b b, c.width.ensures.0, point-long a.before.before.args.p),
-      omega (arith, a.signed-width.ensures.1, b.signed-width2.ensures.1, c.width.ensures.1),
+      omega (arith, long-a a, long-b b, c.width.ensures.0, point-long a.args.p),
+      omega (arith, a.signed_width.ensures.1, b.signed_width-2.ensures.1, c.width.ensures.1),
     )
 
-pub point-length-spec : {M : Type 1} → statement M
-point-length-spec =
+pub point_length_spec : {M : Type 1} → statement M
+point_length_spec =
     tie.close
     (tie.spec
     (λ c κs. search rules)

@@ -19,50 +19,50 @@ use Rattle.text.proofs.line.read_point.Statement.{statement}
 use Rattle.text.proofs.line.read_point.Tie as tie
 
 -- what the fields' readers found
-a_read : (c : tie.After-a) → (let r = c.before.before in let s = r.before.before in signed_at s.args.t.now s.args.at far tab
-    ≡ Whole c.a.given.0.0 c.a.given.0.1.0)
-a_read c = let r = c.before.before in sym r.read-signed.ensures ∙ c.a.given.1
+a_read : (c : tie.In-Whole) → (let r = c.before in let s = r.before.before in signed_at s.args.t.now s.args.at far tab
+    ≡ Whole c.in-Whole.a c.in-Whole.past_a)
+a_read c = let r = c.before in sym r.read_signed.ensures ∙ c.in-Whole.is
 
-b-read : (c : tie.After-b) → (let r = c.before.before in let a = r.before.before in signed_at a.before.before.before.before.args.t.now
-    a.a.given.0.1.0 far tab ≡ Whole c.b.given.0.0 c.b.given.0.1.0)
-b-read c = let r = c.before.before in sym r.read-signed2.ensures ∙ c.b.given.1
+b-read : (c : tie.In-Whole-read_signed) → (let r = c.before in let a = r.before in signed_at a.args.t.now
+    a.in-Whole.past_a far tab ≡ Whole c.in-Whole-read_signed.b c.in-Whole-read_signed.past_b)
+b-read c = let r = c.before in sym r.read_signed-in-Whole.ensures ∙ c.in-Whole-read_signed.is
 
-m-read : (c : tie.After-m) → (let r = c.before.before in let b = r.before.before in let a = b.before.before.before.before in
-    number_at a.before.before.before.before.args.t.now b.b.given.0.1.0 near tab ≡ Natural c.m.given.0.0 c.m.given.0.1.0)
-m-read c = let r = c.before.before in sym r.read_number.ensures ∙ c.m.given.1
+m-read : (c : tie.In-Natural) → (let r = c.before in let b = r.before in let a = b.before.before in
+    number_at a.args.t.now b.in-Whole-read_signed.past_b near tab ≡ Natural c.in-Natural.m c.in-Natural.past_m)
+m-read c = let r = c.before in sym r.read_number.ensures ∙ c.in-Natural.is
 
-cast-t15 : tie.Need-overflow-cast-t15
-cast-t15 c = omega (arith, number-most _ _ _ _ _ _ (m-read c.before))
+cast-t15 : tie.Need-overflow_cast-result
+cast-t15 c = omega (arith, number-most _ _ _ _ _ _ (m-read c))
 
-returns : tie.Need-returns
+returns : tie.Need-returns-in-NoWhole
 unfolding place_at
-returns c = rw (sym c.before.before.read-signed.ensures ∙ c.enum_told.given.1)
+returns c = rw (sym c.read_signed.ensures ∙ c.in-NoWhole.is)
 
-returns-2 : tie.Need-returns-2
+returns-2 : tie.Need-returns-in-NoWhole-read_signed
 unfolding place_at
 returns-2 c =
-    let r = c.before.before in
-    rw (a_read r.before.before, sym r.read-signed2.ensures ∙ c.enum-told2.given.1)
+    let r = c.before in
+    rw (a_read r.before, sym r.read_signed-in-Whole.ensures ∙ c.in-NoWhole-read_signed.is)
 
-returns-3 : tie.Need-returns-3
+returns-3 : tie.Need-returns-in-NoNumber
 unfolding place_at
 returns-3 c =
-    let r = c.before.before in
-    let b = r.before.before in
-    rw (a_read b.before.before.before.before, b-read b, sym r.read_number.ensures ∙ c.enum-told3.given.1)
+    let r = c.before in
+    let b = r.before in
+    rw (a_read b.before.before, b-read b, sym r.read_number.ensures ∙ c.in-NoNumber.is)
 
-returns-4 : tie.Need-returns-4
+returns-4 : tie.Need-returns-in-Natural
 unfolding place_at
 returns-4 c =
-    let m = c.before in
-    let b = m.before.before.before.before in
-    let a = b.before.before.before.before in
-    let fa : SFits w32 a.a.given.0.0 = fits w32 a.a.given.0.0 (omega (arith, (signed-read _ _ _ _ _ _ (a_read a)).1)) in
-    let fb : SFits w32 b.b.given.0.0 = fits w32 b.b.given.0.0 (omega (arith, (signed-read _ _ _ _ _ _ (b-read b)).1)) in
-    (λ i. At (pt (to_z-of_z fa i) (to_z-of_z fb i) m.m.given.0.0) m.m.given.0.1.0) ∙ rw (a_read a, b-read b, m-read m)
+    let m = c in
+    let b = m.before.before in
+    let a = b.before.before in
+    let fa : SFits w32 a.in-Whole.a = fits w32 a.in-Whole.a (omega (arith, (signed-read _ _ _ _ _ _ (a_read a)).1)) in
+    let fb : SFits w32 b.in-Whole-read_signed.b = fits w32 b.in-Whole-read_signed.b (omega (arith, (signed-read _ _ _ _ _ _ (b-read b)).1)) in
+    (λ i. At (pt (to_z-of_z fa i) (to_z-of_z fb i) m.in-Natural.m) m.in-Natural.past_m) ∙ rw (a_read a, b-read b, m-read m)
 
-pub read-point-spec : {M : Type 1} → statement M
-read-point-spec =
+pub read_point_spec : {M : Type 1} → statement M
+read_point_spec =
     tie.close
     (tie.spec
     (λ c κs. search rules)

@@ -7,18 +7,18 @@ use Rattle.text.specs.Back.{wrote-before}
 use Rattle.text.proofs.line.write_line_back.Statement.{statement}
 use Rattle.text.proofs.line.write_line_back.Tie as tie
 
-star-back-requires : tie.Need-star-back-requires
+star-back-requires : tie.Need-star_back-past_m-requires
 star-back-requires c κs = let s = c.before.before.before in (omega (arith, line-halves s.args.r, s.requires.0), s.requires.1)
 
-point-back-requires : tie.Need-point-back-requires
+point-back-requires : tie.Need-point_back-requires
 point-back-requires c κs =
     let w = c.before.before.before in
     let s = w.before.before.before.before in (
-      omega (arith, line-halves s.args.r, s.requires.0, w.star-back.ensures.past),
-      omega (arith, s.requires.1, w.star-back.ensures.past, w.star-back.auto.0),
+      omega (arith, line-halves s.args.r, s.requires.0, w.star_back-past_m.ensures.past),
+      omega (arith, s.requires.1, w.star_back-past_m.ensures.past, w.star_back-past_m.auto.out),
     )
 
-same_length : tie.Need-same-length
+same_length : tie.Need-shape_of-out
 same_length c = search rules
 
 returns : tie.Need-returns
@@ -26,7 +26,7 @@ unfolding line_of
 returns c =
     let w₂ = c.before.before in
     let w₁ = w₂.before.before.before.before in
-    wrote-before w₁.star-back.ensures w₂.point-back.ensures
+    wrote-before w₁.star_back-past_m.ensures w₂.point_back.ensures
 
-pub write-line-back-spec : {M : Type 1} → statement M
-write-line-back-spec = tie.close (tie.spec star-back-requires point-back-requires same_length returns)
+pub write_line_back_spec : {M : Type 1} → statement M
+write_line_back_spec = tie.close (tie.spec star-back-requires point-back-requires same_length returns)

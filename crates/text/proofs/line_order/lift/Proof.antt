@@ -15,10 +15,10 @@ use Rattle.text.proofs.line_order.lift.Tie as tie
 abbrev moved : tie.Start → Mx w32
 moved c = whole c.args.z widest c.requires +ᵐ whole (pos middle) middle (lit≤ tt)
 
-add-result : tie.Need-overflow-add-result
+add-result : tie.Need-overflow_add-result
 add-result c = need (moved c) tt
 
-cast-result : tie.Need-overflow-cast-result
+cast-result : tie.Need-overflow_cast-result
 cast-result c =
     let z = c.args.z in
     need-nat w64 (moved c) tt tt (omega (arith, c.requires, add_is z (pos middle), abs_is z, apart z, apart (z +ℤ pos middle)))
@@ -28,5 +28,5 @@ returns c =
     let e = ap nat_abs (back (moved c) tt) in
     (e, subst (λ (x : ℕ). x < span) (sym e) (lift-below c.args.z c.requires))
 
-pub lift-spec : {M : Type 1} → statement M
-lift-spec = tie.close (tie.spec add-result cast-result returns)
+pub lift_spec : {M : Type 1} → statement M
+lift_spec = tie.close (tie.spec add-result cast-result returns)

@@ -19,14 +19,14 @@ returns c =
     let t₁ = l₁.before in
     let s = t₁.before.before in
     let p = s.args.p in
-    let fa : SFits w32 p.a = record { sfits = omega (arith, t₁.struct_told.given) } in
-    let fb : SFits w32 p.b = record { sfits = omega (arith, t₂.struct-told2.given) } in
-    let a : l₁.lift.result ≡ lifted p.a = l₁.lift.ensures.0 ∙ ap (λ (z : ℤ). lifted z) (to_z-of_z w32 p.a fa) in
-    let b : c.lift2.result ≡ lifted p.b = c.lift2.ensures.0 ∙ ap (λ (z : ℤ). lifted z) (to_z-of_z w32 p.b fb) in
-    (λ i. (p.m.0 * span + a i) * span + b i, omega (arith, s.requires.m, l₁.lift.ensures.1, c.lift2.ensures.1))
+    let fa : SFits w32 p.a = record { sfits = omega (arith, t₁.struct_told-1.given) } in
+    let fb : SFits w32 p.b = record { sfits = omega (arith, t₂.struct_told-2-1.given) } in
+    let a : l₁.lift-x.result ≡ lifted p.a = l₁.lift-x.ensures.0 ∙ ap (λ (z : ℤ). lifted z) (to_z-of_z w32 p.a fa) in
+    let b : c.lift-y.result ≡ lifted p.b = c.lift-y.ensures.0 ∙ ap (λ (z : ℤ). lifted z) (to_z-of_z w32 p.b fb) in
+    (λ i. (p.m.0 * span + a i) * span + b i, omega (arith, s.requires.m, l₁.lift-x.ensures.1, c.lift-y.ensures.1))
 
-pub order-spec : {M : Type 1} → statement M
-order-spec =
+pub order_spec : {M : Type 1} → statement M
+order_spec =
     tie.close
     (tie.spec
     (λ c. search rules)

@@ -11,10 +11,10 @@ use Rattle.text.proofs.line_order.ordered.Tie as tie
 returns : tie.Need-returns
 returns c =
     let l = c.before in
-    let n = l.before.args.n in
-    let fa = to_z-of_z (record { sfits = l.lower.type-inv }) in
-    let fb = to_z-of_z (record { sfits = c.lower2.type-inv }) in
-    λ i. pt ((fa ∙ l.lower.ensures) i) ((fb ∙ c.lower2.ensures) i) (n / (span * span) % 256)
+    let n = l.args.n in
+    let fa = to_z-of_z {w = mir.Syntax.w32} (record { sfits = l.lower-a.type_inv }) in
+    let fb = to_z-of_z {w = mir.Syntax.w32} (record { sfits = c.lower-b.type_inv }) in
+    λ i. pt ((fa ∙ l.lower-a.ensures) i) ((fb ∙ c.lower-b.ensures) i) (n / (span * span) % 256)
 
-pub ordered-spec : {M : Type 1} → statement M
-ordered-spec = tie.close (tie.spec (λ c κs. search rules) (λ c κs. search rules) (λ c. search rules) returns)
+pub ordered_spec : {M : Type 1} → statement M
+ordered_spec = tie.close (tie.spec (λ c κs. search rules) (λ c κs. search rules) (λ c. search rules) returns)
