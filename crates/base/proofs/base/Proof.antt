@@ -19,9 +19,9 @@ use Rattle.base.specs.LayLaws.{base-unfit, base-unpaired, base-bad, base-laid, l
 use Rattle.base.proofs.base.Tie as tie
 
 -- past the first test: the length fits
-module _ (c : tie.Else1) where
+module _ (c : tie.Else-n-eq0) where
   abbrev s : tie.Start
-  s = c.before.before.before.before
+  s = c.before.before.before
 
   abbrev t : List ℕ
   t = s.args.table.now
@@ -30,112 +30,112 @@ module _ (c : tie.Else1) where
   cs = s.args.centres.now
 
   abbrev n : ℕ
-  n = c.before.slots-of.result
+  n = c.slots_of-n.result
 
   table : Table t n
-  table = slots-table t n c.before.slots-of.ensures c.if1.false
+  table = slots-table t n c.slots_of-n.ensures c.if-n-eq0.false
 
   fit : fits_length (length t) ≡ true
   fit = table-test t n table
 
 -- past the clearing
-module _ (c : tie.After-slice-known2) where
-  abbrev e : tie.Else1
+module _ (c : tie.After-slice_known-2-1) where
+  abbrev e : tie.Else-n-eq0
   e = c.before.before.before.before
 
   abbrev v : List ℕ
-  v = c.before.before.clear.new.0
+  v = c.clear.new.t
 
   cleared : v ≡ cleared_of (t e)
-  cleared = c.before.before.clear.ensures
+  cleared = c.clear.ensures
 
 -- past the tests of the list's length
-module _ (c : tie.After-first-bad) where
-  abbrev k : tie.After-slice-known2
+module _ (c : tie.After-first_bad-bad) where
+  abbrev k : tie.After-slice_known-2-1
   k = c.before.before.before.before
 
   paired : unpaired (cs (e k)) ≡ false
-  paired = list-even (cs (e k)) c.before.before.before.if2.false c.before.before.if3.false
+  paired = list-even (cs (e k)) c.if-l-eq0.false c.if-l-ne0.false
 
-  first : c.first-bad.result ≡ bad_place (cs (e k))
-  first = c.first-bad.ensures.0
+  first : c.first_bad-bad.result ≡ bad_place (cs (e k))
+  first = c.first_bad-bad.ensures.0
 
 -- past the judgement
-module _ (c : tie.After-lay-all) where
-  abbrev q : tie.Else4
+module _ (c : tie.After-lay_all) where
+  abbrev q : tie.Else-bad-l
   q = c.before.before.before
 
-  abbrev b : tie.After-first-bad
+  abbrev b : tie.After-first_bad-bad
   b = q.before
 
   abbrev u : List ℕ
-  u = c.lay-all.new.0
+  u = c.lay_all.new.table
 
   good : centres_in (cs (e (k b))) ≤ bad_place (cs (e (k b)))
-  good = let x = first b in omega (arith, q.if4.left)
+  good = let x = first b in omega (arith, q.if-bad-l.false)
 
-  laid : laid_by c.lay-all.result u ≡ laid_of (t (e (k b))) (cs (e (k b)))
+  laid : laid_by c.lay_all.result u ≡ laid_of (t (e (k b))) (cs (e (k b)))
   laid =
-      c.lay-all.ensures ∙ ap (λ (x : List ℕ). lay_all (cs (e (k b))) (centres_in (cs (e (k b)))) (Room x)) (cleared (k b))
+      c.lay_all.ensures ∙ ap (λ (x : List ℕ). lay_all (cs (e (k b))) (centres_in (cs (e (k b)))) (Room x)) (cleared (k b))
       ∙ laid-is (t (e (k b))) (cs (e (k b)))
 
-  by-laid : (w : Bool) → c.lay-all.result ≡ w → from_laid (t (e (k b))) (laid_by w u) ≡ base_of (t (e (k b))) (cs (e (k b)))
+  by-laid : (w : Bool) → c.lay_all.result ≡ w → from_laid (t (e (k b))) (laid_by w u) ≡ base_of (t (e (k b))) (cs (e (k b)))
   by-laid w h = base-laid (t (e (k b))) (cs (e (k b))) (fit (e (k b))) (paired b) good (laid_by w u) (sym (ap (λ (x : Bool). laid_by x u) h) ∙ laid)
 
-returns : tie.Need-returns
+returns : tie.Need-returns-then-n-eq0
 returns c =
     let k = c.before.before in
-    let a = k.before.before.before.args in
+    let a = k.args in
     (λ i. base_after (c.answer.ensures.0 i) (c.answer.ensures.1 i) a.table.now)
-    ∙ base-unfit a.table.now a.centres.now (no-slots a.table.now (sym k.slots-of.ensures ∙ c.before.if1.true))
+    ∙ base-unfit a.table.now a.centres.now (no-slots a.table.now (sym k.slots_of-n.ensures ∙ c.if-n-eq0.true))
 
-returns-2 : tie.Need-returns-2
+returns-2 : tie.Need-returns-then-l-eq0
 returns-2 c =
     let k = c.before.before in
-    (λ i. base_after (c.answer2.ensures.0 i) (c.answer2.ensures.1 i) (cleared k i))
-    ∙ base-unpaired (t (e k)) (cs (e k)) (fit (e k)) (list-empty (cs (e k)) c.before.if2.true)
+    (λ i. base_after (c.answer-then-l-eq0.ensures.0 i) (c.answer-then-l-eq0.ensures.1 i) (cleared k i))
+    ∙ base-unpaired (t (e k)) (cs (e k)) (fit (e k)) (list-empty (cs (e k)) c.if-l-eq0.true)
 
-returns-3 : tie.Need-returns-3
+returns-3 : tie.Need-returns-then-l-ne0
 returns-3 c =
     let o = c.before in
     let k = o.before.before in
-    (λ i. base_after (c.answer3.ensures.0 i) (c.answer3.ensures.1 i) (cleared k i))
-    ∙ base-unpaired (t (e k)) (cs (e k)) (fit (e k)) (list-odd (cs (e k)) o.before.if2.false o.if3.true)
+    (λ i. base_after (c.answer-then-l-ne0.ensures.0 i) (c.answer-then-l-ne0.ensures.1 i) (cleared k i))
+    ∙ base-unpaired (t (e k)) (cs (e k)) (fit (e k)) (list-odd (cs (e k)) o.if-l-eq0.false o.if-l-ne0.true)
 
-first-bad-requires : tie.Need-first-bad-requires
+first-bad-requires : tie.Need-first_bad-bad-requires
 first-bad-requires c κs = (omega arith, marks-none mark_bytes (cs (e c.before.before.before)))
 
-returns-4 : tie.Need-returns-4
+returns-4 : tie.Need-returns-then-bad-l
 returns-4 c =
     let b = c.before.before in
     let x = first b in
-    (λ i. base_after (c.answer4.ensures.0 i) ((c.answer4.ensures.1 ∙ x) i) (cleared (k b) i))
-    ∙ base-bad (t (e (k b))) (cs (e (k b))) (fit (e (k b))) (paired b) (omega (arith, c.before.if4.true))
+    (λ i. base_after (c.answer-then-bad-l.ensures.0 i) ((c.answer-then-bad-l.ensures.1 ∙ x) i) (cleared (k b) i))
+    ∙ base-bad (t (e (k b))) (cs (e (k b))) (fit (e (k b))) (paired b) (omega (arith, c.if-bad-l.true))
 
-lay-all-requires : tie.Need-lay-all-requires
+lay-all-requires : tie.Need-lay_all-requires
 lay-all-requires c κs =
     let q = c.before.before in
     let b = q.before in (
       subst (λ (x : List ℕ). Table x (n (e (k b)))) (sym (cleared (k b))) (clear-table (t (e (k b))) (n (e (k b))) (table (e (k b)))),
-      b.first-bad.ensures.1 (omega (arith, q.if4.false)),
+      b.first_bad-bad.ensures.1 (omega (arith, q.if-bad-l.false)),
     )
 
-returns-5 : tie.Need-returns-5
+returns-5 : tie.Need-returns-then-lay_all
 returns-5 c =
     let a = c.before.before.before.before in
-    (λ i. base_after (c.answer5.ensures.0 i) (c.answer5.ensures.1 i) (u a)) ∙ by-laid a true c.before.if5.true
+    (λ i. base_after (c.answer-then-lay_all.ensures.0 i) (c.answer-then-lay_all.ensures.1 i) (u a)) ∙ by-laid a true c.if-lay_all.true
 
-returns-6 : tie.Need-returns-6
+returns-6 : tie.Need-returns
 returns-6 c =
     let z = c.before.before.before in
     let o = z.before.before in
     let a = o.before.before.before in
-    let h : length (u a) ≡ length (t (e (k (b a)))) = omega (arith, a.lay-all.auto, (k (b a)).before.before.clear.kept) in
-    (λ i. base_after (c.answer6.ensures.0 i) (c.answer6.ensures.1 i) ((z.clear2.ensures ∙ ap (λ (l : ℕ). replicate l 255) h) i))
-    ∙ by-laid a false o.if5.false
+    let h : length (u a) ≡ length (t (e (k (b a)))) = omega (arith, a.lay_all.auto, (k (b a)).before.before.clear.auto) in
+    (λ i. base_after (c.answer-2.ensures.0 i) (c.answer-2.ensures.1 i) ((z.clear-2.ensures ∙ ap (λ (l : ℕ). replicate l 255) h) i))
+    ∙ by-laid a false o.if-lay_all.false
 
-pub base-spec : {M : Type 1} → statement M
-base-spec =
+pub base_spec : {M : Type 1} → statement M
+base_spec =
     tie.close
     (tie.spec
     (λ c κs. search rules)

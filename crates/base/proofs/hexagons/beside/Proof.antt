@@ -12,12 +12,12 @@ module _ (s : tie.Start) where
   x = whole s.args.p.a 251 s.requires.0.wide +ᵐ whole s.args.step.a 1 s.requires.1.wide
 
   abbrev y : Mx w32
-  y = whole s.args.p.b 251 s.pre.0.high +ᵐ whole s.args.step.b 1 s.pre.1.high
+  y = whole s.args.p.b 251 s.requires.0.high +ᵐ whole s.args.step.b 1 s.requires.1.high
 
-add_a : tie.Need-overflow-add-a
+add_a : tie.Need-overflow_add-a
 add_a c = need (x c.before.before.before.before) tt
 
-add-b : tie.Need-overflow-add-b
+add-b : tie.Need-overflow_add-b
 add-b c = need (y c.before.before.before.before.before.before.before.before) tt
 
 returns : tie.Need-returns
@@ -25,5 +25,5 @@ returns c =
     let s = c.before.before.before.before.before.before.before.before in
     (λ i. pt (back (x s) tt i) (back (y s) tt i) 0) ∙ beside-is s.args.p s.args.step s.requires.0.depth s.requires.1.depth
 
-pub beside-spec : {M : Type 1} → statement M
-beside-spec = tie.close (tie.spec add_a add-b returns)
+pub beside_spec : {M : Type 1} → statement M
+beside_spec = tie.close (tie.spec add_a add-b returns)

@@ -17,9 +17,9 @@ use Rattle.base.specs.LayLaws.{corner-at, lay_at_lem}
 use Rattle.base.proofs.hexagons.lay_corner.Tie as tie
 
 -- past the search
-module _ (f : tie.After-find) where
+module _ (f : tie.After-find-f) where
   abbrev s : tie.Start
-  s = f.before.before.before
+  s = f.before.before
 
   abbrev t : List ℕ
   t = s.args.table.now
@@ -27,33 +27,33 @@ module _ (f : tie.After-find) where
   abbrev r : Record
   r = corner_record (in_marks s.args.marks.now) s.args.q
 
-  ended : (o : Found) → f.find.result ≡ o → find_of t r.at ≡ o
-  ended o e = ap (find_of t) (corner-at (in_marks s.args.marks.now) s.args.q) ∙ sym f.find.ensures.0 ∙ e
+  ended : (o : Found) → f.find-f.result ≡ o → find_of t r.at ≡ o
+  ended o e = ap (find_of t) (corner-at (in_marks s.args.marks.now) s.args.q) ∙ sym f.find-f.ensures.0 ∙ e
 
-write-slot-requires : tie.Need-write-slot-requires
+write-slot-requires : tie.Need-write_slot-requires
 write-slot-requires c κs =
-    let k = c.before.before.before in
-    let f = k.before.before in
-    free-room (t f) (s f).args.n (s f).requires.0 (s f).args.q k.f.given.0.0 (sym f.find.ensures.0 ∙ k.f.given.1)
+    let k = c.before.before in
+    let f = k.before in
+    free-room (t f) (s f).args.n (s f).requires.0 (s f).args.q k.in-Free.i (sym f.find-f.ensures.0 ∙ k.in-Free.is)
 
-returns : tie.Need-returns
-returns c = let f = c.before.before in lay_at_lem (t f) (r f) (found.At _) (ended f (found.At _) c.enum_told.given.1)
+returns : tie.Need-returns-in-At
+returns c = let f = c.before in lay_at_lem (t f) (r f) (found.At _) (ended f (found.At _) c.in-At.is)
 
-returns-2 : tie.Need-returns-2
+returns-2 : tie.Need-returns-in-Free
 returns-2 c =
     let w = c.before.before in
     let u = w.before in
-    let k = u.before.before.before in
-    let f = k.before.before in
-    let i = k.f.given.0.0 in
-    let e = ended f (found.Free i) k.f.given.1 in
-    ap Room (w.write-slot.ensures ∙ ap (put_slot (t f) i) u.corner-record.ensures ∙ put-enter (t f) (r f) i e) ∙ lay_at_lem (t f) (r f) (found.Free i) e
+    let k = u.before.before in
+    let f = k.before in
+    let i = k.in-Free.i in
+    let e = ended f (found.Free i) k.in-Free.is in
+    ap Room (w.write_slot.ensures ∙ ap (put_slot (t f) i) u.corner_record.ensures ∙ put-enter (t f) (r f) i e) ∙ lay_at_lem (t f) (r f) (found.Free i) e
 
-returns-3 : tie.Need-returns-3
-returns-3 c = let f = c.before.before in lay_at_lem (t f) (r f) found.Full (ended f found.Full c.enum-told2.given.1)
+returns-3 : tie.Need-returns-in-Full
+returns-3 c = let f = c.before in lay_at_lem (t f) (r f) found.Full (ended f found.Full c.in-Full.is)
 
-pub lay-corner-spec : {M : Type 1} → statement M
-lay-corner-spec =
+pub lay_corner_spec : {M : Type 1} → statement M
+lay_corner_spec =
     tie.close
     (tie.spec
     (λ c κs. search rules)

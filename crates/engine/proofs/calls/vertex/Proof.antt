@@ -19,23 +19,23 @@ use Rattle.engine.specs.CallLaws.{call-refused, call-told}
 use Rattle.engine.proofs.calls.vertex.Statement.{statement}
 use Rattle.engine.proofs.calls.vertex.Tie as tie
 
-judge-requires : tie.Need-judge-requires
-judge-requires c κs = marks-none mark_bytes c.before.args.centres.now
+judge-requires : tie.Need-judge-number-requires
+judge-requires c κs = marks-none mark_bytes c.args.centres.now
 
-returns : tie.Need-returns
+returns : tie.Need-returns-then-number-ne-DONE
 returns c =
     let t = c.before in
     let j = t.before in
-    let a = j.before.before.args in
-    let e = j.judge.ensures.0 in
-    (λ i. vertex_after (e i) (c.blank.ensures i)) ∙ call-refused a.centres.now a.pairs.now a.a a.b a.m (λ z. t.if1.true (e ∙ z))
+    let a = j.args in
+    let e = j.judge-number.ensures.0 in
+    (λ i. vertex_after (e i) (c.blank.ensures i)) ∙ call-refused a.centres.now a.pairs.now a.a a.b a.m (λ z. t.if-number-ne-DONE.true (e ∙ z))
 
 -- past the judgement
 module _ (c : tie.After-normalise) where
-  abbrev l : tie.Else1
+  abbrev l : tie.Else-number-ne-DONE
   l = c.before.before
 
-  abbrev j : tie.After-judge
+  abbrev j : tie.After-judge-number
   j = l.before
 
   abbrev s : tie.Start
@@ -48,31 +48,31 @@ module _ (c : tie.After-normalise) where
   ps = s.args.pairs.now
 
   abbrev m : List ℕ
-  m = j.judge.last.1.1.0
+  m = j.judge-number.new.marks
 
   ready : Ready cs ps m
-  ready = j.judge.ensures.1 l.if1.left
+  ready = j.judge-number.ensures.1 l.if-number-ne-DONE.false
 
   point : c.normalise.result ≡ normal_of s.args.a s.args.b s.args.m
-  point = c.normalise.ensures ∙ (λ i. normal_of (to_z-of_z s.fits.a i) (to_z-of_z s.fits.b i) s.args.m)
+  point = c.normalise.ensures ∙ (λ i. normal_of (to_z-of_z s.ranges.a i) (to_z-of_z s.ranges.b i) s.args.m)
 
-record-at-requires : tie.Need-record-at-requires
+record-at-requires : tie.Need-record_at-requires
 record-at-requires c κs =
     let r = ready c in
     let a = (s c).args in
     (omega arith, (r.base, (r.judged, subst (λ (q : Point). T (is_normal q)) (sym (point c)) (of-true (form-normal a.a a.b a.m)))))
 
-returns-2 : tie.Need-returns-2
+returns-2 : tie.Need-returns
 returns-2 c =
     let q = c.before in
     let n = q.before in
     let a = (s n).args in
-    c.answer-of.ensures
-    ∙ ap tell_at (q.record-at.ensures ∙ (λ i. record_by ((ready n).marked i) (ps n) (pairs_in (ps n)) (point n i)))
-    ∙ call-told (cs n) (ps n) a.a a.b a.m (sym (j n).judge.ensures.0 ∙ (l n).if1.false)
+    c.answer_of.ensures
+    ∙ ap tell_at (q.record_at.ensures ∙ (λ i. record_by ((ready n).marked i) (ps n) (pairs_in (ps n)) (point n i)))
+    ∙ call-told (cs n) (ps n) a.a a.b a.m (sym (j n).judge-number.ensures.0 ∙ (l n).if-number-ne-DONE.false)
 
-pub vertex-spec : {M : Type 1} → statement M
-vertex-spec =
+pub vertex_spec : {M : Type 1} → statement M
+vertex_spec =
     tie.close
     (tie.spec
     judge-requires

@@ -16,10 +16,10 @@ use Rattle.engine.proofs.ground.round_marked.Tie as tie
 
 -- the direction is 0 or 2
 way : (c : tie.After-toward) → (c.toward.result ≤ 2) × (c.toward.result % 2 ≡ 0)
-way c = toward-even (eqb (class_of c.before.args.p) 1) c.toward.result c.toward.ensures
+way c = toward-even (eqb (class_of c.args.p) 1) c.toward.result c.toward.ensures
 
-add-moved : tie.Need-overflow-add-moved
-add-moved c = let w = (way c).0 in record { fits = omega (arith, w, c.before.requires.1.1.1) }
+add-moved : tie.Need-overflow_add-toward
+add-moved c = let w = (way c).0 in record { fits = omega (arith, w, c.requires.1.1.1) }
 
 moved-requires : tie.Need-moved-requires
 moved-requires c κs =
@@ -28,18 +28,18 @@ moved-requires c κs =
     (s.requires.0, (omega (arith, w.0, s.requires.1.1.1), (omega arith, omega (arith, w.1))))
 
 centre-is : (c : tie.After-moved)
-    → c.moved.result ≡ move_of c.before.before.args.p (cond (eqb (class_of c.before.before.args.p) 1) 2 0 + 4 * c.before.before.args.t) 0
-centre-is c = let s = c.before.before in c.moved.ensures ∙ (λ i. move_of s.args.p (c.before.toward.ensures i + 4 * s.args.t) 0)
+    → c.moved.result ≡ move_of c.args.p (cond (eqb (class_of c.args.p) 1) 2 0 + 4 * c.args.t) 0
+centre-is c = let s = c.before.before in c.moved.ensures ∙ (λ i. move_of s.args.p (c.toward.ensures i + 4 * s.args.t) 0)
 
-is-marked-requires : tie.Need-is-marked-requires
+is-marked-requires : tie.Need-is_marked-requires
 is-marked-requires c κs =
     let s = c.before.before in
     ap (λ (q : Point). q.m.0) (centre-is c) ∙ (hexagon-centre s.args.p s.requires.1.0 s.requires.1.1.0 s.args.t s.requires.1.1.1).0
 
 returns : tie.Need-returns
-returns c = let k = c.before in c.is-marked.ensures ∙ ap (in_marks k.before.before.args.marks.now) (centre-is k)
+returns c = let k = c.before in c.is_marked.ensures ∙ ap (in_marks k.args.marks.now) (centre-is k)
 
-pub round-marked-spec : {M : Type 1} → statement M
-round-marked-spec =
+pub round_marked_spec : {M : Type 1} → statement M
+round_marked_spec =
     tie.close
     (tie.spec (λ c κs. search rules) (λ c. search rules) add-moved moved-requires is-marked-requires returns)

@@ -10,52 +10,52 @@ use Rattle.engine.specs.ScanLaws.{judged-none, judged-more, judged-fails}
 use Rattle.engine.proofs.judge.all_fit.Statement.{statement}
 use Rattle.engine.proofs.judge.all_fit.Tie as tie
 
-abbrev invariant-loop : tie.invariant-loop
-invariant-loop marks pairs n j₀ j = (j ≤ n) × (judged_to (in_marks marks) pairs j ≡ true)
+abbrev invariant-loop-j : tie.invariant-loop-j
+invariant-loop-j marks pairs n j₀ j = (j ≤ n) × (judged_to (in_marks marks) pairs j ≡ true)
 
-abbrev decreases-loop : tie.decreases-loop
-decreases-loop marks pairs n j₀ j = n - j
+abbrev decreases-loop-j : tie.decreases-loop-j
+decreases-loop-j marks pairs n j₀ j = n - j
 
-loop-holds : tie.Need-loop-init invariant-loop decreases-loop
+loop-holds : tie.Need-loop-j-init invariant-loop-j decreases-loop-j
 loop-holds c = (omega arith, judged-none (in_marks c.args.marks.now) c.args.pairs.now)
 
-pair-fits-requires : tie.Need-pair-fits-requires invariant-loop decreases-loop
+pair-fits-requires : tie.Need-pair_fits-requires invariant-loop-j decreases-loop-j
 pair-fits-requires c κs =
     let l = c.before in
     let s = l.before in
-    (omega (arith, s.requires.0, c.loop-test.true), (s.requires.1, l.loop.invariant.1))
+    (omega (arith, s.requires.0, c.loop-j-test.true), (s.requires.1, l.loop-j.invariant.1))
 
-loop-again : tie.Need-loop-preserved invariant-loop decreases-loop
+loop-again : tie.Need-loop-j-preserved invariant-loop-j decreases-loop-j
 loop-again c =
     let f = c.before in
     let i = f.before in
     let l = i.before in
-    let a = l.before.args in (
-      omega (arith, i.loop-test.true),
-      judged-more (in_marks a.marks.now) a.pairs.now l.loop.j l.loop.invariant.1 (sym f.pair-fits.ensures ∙ c.if1.true),
+    let a = l.args in (
+      omega (arith, i.loop-j-test.true),
+      judged-more (in_marks a.marks.now) a.pairs.now l.loop-j.j l.loop-j.invariant.1 (sym f.pair_fits.ensures ∙ c.if-pair_fits.true),
     )
 
-returns : tie.Need-returns invariant-loop decreases-loop
+returns : tie.Need-returns-else-pair_fits invariant-loop-j decreases-loop-j
 returns c =
     let f = c.before in
     let i = f.before in
     let l = i.before in
-    let a = l.before.args in
-    sym (judged-fails (in_marks a.marks.now) a.pairs.now l.loop.j a.n i.loop-test.true (sym f.pair-fits.ensures ∙ c.if1.false))
+    let a = l.args in
+    sym (judged-fails (in_marks a.marks.now) a.pairs.now l.loop-j.j a.n i.loop-j-test.true (sym f.pair_fits.ensures ∙ c.if-pair_fits.false))
 
-returns-2 : tie.Need-returns-2 invariant-loop decreases-loop
+returns-2 : tie.Need-returns invariant-loop-j decreases-loop-j
 returns-2 c =
     let l = c.before in
-    let a = l.before.args in
-    let e : l.loop.j ≡ a.n = omega (arith, l.loop.invariant.0, c.loop-test.false) in
-    sym (ap (judged_to (in_marks a.marks.now) a.pairs.now) (sym e) ∙ l.loop.invariant.1)
+    let a = l.args in
+    let e : l.loop-j.j ≡ a.n = omega (arith, l.loop-j.invariant.0, c.loop-j-test.false) in
+    sym (ap (judged_to (in_marks a.marks.now) a.pairs.now) (sym e) ∙ l.loop-j.invariant.1)
 
-pub all-fit-spec : {M : Type 1} → statement M
-all-fit-spec =
+pub all_fit_spec : {M : Type 1} → statement M
+all_fit_spec =
     tie.close
     (tie.spec
-    invariant-loop
-    decreases-loop
+    invariant-loop-j
+    decreases-loop-j
     loop-holds
     pair-fits-requires
     (λ c. search rules)

@@ -21,7 +21,7 @@ use Rattle.engine.specs.ScanLaws.{fits_byte, fits-none}
 use Rattle.engine.proofs.judge.pair_fits.Statement.{statement}
 use Rattle.engine.proofs.judge.pair_fits.Tie as tie
 
-module _ (c : tie.After-z) where
+module _ (c : tie.After-z-1) where
   abbrev s : tie.Start
   s = c.before.before
 
@@ -35,48 +35,48 @@ module _ (c : tie.After-z) where
   j = s.args.j
 
   read : to_z w32 (of_z w32 (pair_depth ps j)) ≡ pair_depth ps j
-  read = to_z-of_z (record { sfits = c.before.m.given })
+  read = to_z-of_z {w = w32} (record { sfits = c.m-1.given })
 
-returns : tie.Need-returns
+returns : tie.Need-returns-then-m-lt0
 returns c =
     let k = c.before in
-    fits-none (H k) (ps k) (j k) (below-byte (pair_depth (ps k) (j k)) (ap (λ (z : ℤ). lt_z z (pos 0)) (sym (read k)) ∙ c.if1.true))
+    fits-none (H k) (ps k) (j k) (below-byte (pair_depth (ps k) (j k)) (ap (λ (z : ℤ). lt_z z (pos 0)) (sym (read k)) ∙ c.if-m-lt0.true))
 
-returns-2 : tie.Need-returns-2
+returns-2 : tie.Need-returns-then-m-gt255
 returns-2 c =
     let k = c.before.before in
-    fits-none (H k) (ps k) (j k) (above-byte (pair_depth (ps k) (j k)) (ap (λ (z : ℤ). lt_z (pos 255) z) (sym (read k)) ∙ c.if2.true))
+    fits-none (H k) (ps k) (j k) (above-byte (pair_depth (ps k) (j k)) (ap (λ (z : ℤ). lt_z (pos 255) z) (sym (read k)) ∙ c.if-m-gt255.true))
 
-byte : (c : tie.Else2) → let k = c.before.before in Byte (pair_depth (ps k) (j k))
+byte : (c : tie.Else-m-gt255) → let k = c.before.before in Byte (pair_depth (ps k) (j k))
 byte c =
     let k = c.before.before in
-    within-byte (pair_depth (ps k) (j k)) (ap (λ (z : ℤ). lt_z z (pos 0)) (sym (read k)) ∙ c.before.if1.false)
-    (ap (λ (z : ℤ). lt_z (pos 255) z) (sym (read k)) ∙ c.if2.false)
+    within-byte (pair_depth (ps k) (j k)) (ap (λ (z : ℤ). lt_z z (pos 0)) (sym (read k)) ∙ c.if-m-lt0.false)
+    (ap (λ (z : ℤ). lt_z (pos 255) z) (sym (read k)) ∙ c.if-m-gt255.false)
 
-pair-point-requires : tie.Need-pair-point-requires
-pair-point-requires c κs = ((s c.before.before).pre.0, (byte c).is)
+pair-point-requires : tie.Need-pair_point-requires
+pair-point-requires c κs = ((s c.before.before).requires.0, (byte c).is)
 
-record-at-requires : tie.Need-record-at-requires
+record-at-requires : tie.Need-record_at-requires
 record-at-requires c κs =
     let k = c.before.before.before in
     let p = (s k).requires in (
       omega (arith, p.0),
-      (p.1.0, (p.1.1, subst (λ (q : Point). T (is_normal q)) (sym c.pair-point.ensures) (pair-normal (ps k) (j k)))),
+      (p.1.0, (p.1.1, subst (λ (q : Point). T (is_normal q)) (sym c.pair_point.ensures) (pair-normal (ps k) (j k)))),
     )
 
-returns-3 : tie.Need-returns-3
+returns-3 : tie.Need-returns
 returns-3 c =
     let r = c.before in
     let p = r.before in
     let e = p.before in
     let k = e.before.before in
-    let f : SFits w32 (pair_level (ps k) (j k)) = record { sfits = k.z.given } in
-    c.is-six.ensures
-    ∙ (λ i. six_at (to_z-of_z f i) ((r.record-at.ensures ∙ ap (record_by (H k) (ps k) (j k)) p.pair-point.ensures) i))
+    let f : SFits w32 (pair_level (ps k) (j k)) = record { sfits = k.z-1.given } in
+    c.is_six.ensures
+    ∙ (λ i. six_at (to_z-of_z f i) ((r.record_at.ensures ∙ ap (record_by (H k) (ps k) (j k)) p.pair_point.ensures) i))
     ∙ fits_byte (H k) (ps k) (j k) (byte e).is
 
-pub pair-fits-spec : {M : Type 1} → statement M
-pair-fits-spec =
+pub pair_fits_spec : {M : Type 1} → statement M
+pair_fits_spec =
     tie.close
     (tie.spec
     (λ c. search rules)

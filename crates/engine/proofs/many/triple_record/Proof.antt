@@ -24,7 +24,7 @@ use Rattle.engine.proofs.many.triple_record.Statement.{statement}
 use Rattle.engine.proofs.many.triple_record.Tie as tie
 
 -- the triple, as the machine reads it
-module _ (c : tie.After-m) where
+module _ (c : tie.After-m-1) where
   abbrev s : tie.Start
   s = c.before.before.before
 
@@ -50,33 +50,33 @@ module _ (c : tie.After-m) where
   M = get_or qs (3 * i + 2) (pos 0)
 
   read_a : to_z w32 (of_z w32 A) ≡ A
-  read_a = to_z-of_z (record { sfits = c.before.before.a.given })
+  read_a = to_z-of_z {w = w32} (record { sfits = c.a-1.given })
 
   read-b : to_z w32 (of_z w32 B) ≡ B
-  read-b = to_z-of_z (record { sfits = c.before.b.given })
+  read-b = to_z-of_z {w = w32} (record { sfits = c.b-1.given })
 
   read : to_z w32 (of_z w32 M) ≡ M
-  read = to_z-of_z (record { sfits = c.m.given })
+  read = to_z-of_z {w = w32} (record { sfits = c.m-1.given })
 
-returns : tie.Need-returns
+returns : tie.Need-returns-then-m-lt0
 returns c =
     let t = c.before in
     let k = t.before in
-    c.blank.ensures ∙ row_by (H k) (ps k) (qs k) (i k) false (below-byte (M k) (ap (λ (z : ℤ). lt_z z (pos 0)) (sym (read k)) ∙ t.if1.true))
+    c.blank.ensures ∙ row_by (H k) (ps k) (qs k) (i k) false (below-byte (M k) (ap (λ (z : ℤ). lt_z z (pos 0)) (sym (read k)) ∙ t.if-m-lt0.true))
 
-returns-2 : tie.Need-returns-2
+returns-2 : tie.Need-returns-then-m-gt255
 returns-2 c =
     let t = c.before in
     let k = t.before.before in
-    c.blank2.ensures ∙ row_by (H k) (ps k) (qs k) (i k) false (above-byte (M k) (ap (λ (z : ℤ). lt_z (pos 255) z) (sym (read k)) ∙ t.if2.true))
+    c.blank-then-m-gt255.ensures ∙ row_by (H k) (ps k) (qs k) (i k) false (above-byte (M k) (ap (λ (z : ℤ). lt_z (pos 255) z) (sym (read k)) ∙ t.if-m-gt255.true))
 
-byte : (c : tie.Else2) → Byte (M c.before.before)
+byte : (c : tie.Else-m-gt255) → Byte (M c.before.before)
 byte c =
     let k = c.before.before in
-    within-byte (M k) (ap (λ (z : ℤ). lt_z z (pos 0)) (sym (read k)) ∙ c.before.if1.false)
-    (ap (λ (z : ℤ). lt_z (pos 255) z) (sym (read k)) ∙ c.if2.false)
+    within-byte (M k) (ap (λ (z : ℤ). lt_z z (pos 0)) (sym (read k)) ∙ c.if-m-lt0.false)
+    (ap (λ (z : ℤ). lt_z (pos 255) z) (sym (read k)) ∙ c.if-m-gt255.false)
 
-cast-normalise : tie.Need-overflow-cast-normalise
+cast-normalise : tie.Need-overflow_cast-m
 cast-normalise c =
     let k = c.before.before in
     let b = byte c in
@@ -85,24 +85,24 @@ cast-normalise c =
 point : (c : tie.After-normalise) → let k = c.before.before.before in c.normalise.result ≡ normal_of (A k) (B k) (nat_abs (M k))
 point c = let k = c.before.before.before in c.normalise.ensures ∙ (λ j. normal_of (read_a k j) (read-b k j) (nat_abs (read k j)))
 
-record-at-requires : tie.Need-record-at-requires
+record-at-requires : tie.Need-record_at-requires
 record-at-requires c κs =
     let k = c.before.before.before in
     let p = (s k).requires in
     (omega arith, (p.1.0, (p.1.1, subst (λ (q : Point). T (is_normal q)) (sym (point c)) (of-true (form-normal (A k) (B k) (nat_abs (M k)))))))
 
-returns-3 : tie.Need-returns-3
+returns-3 : tie.Need-returns
 returns-3 c =
     let r = c.before in
     let n = r.before in
     let e = n.before in
     let k = e.before.before in
-    c.record-or.ensures
-    ∙ (λ j. (tell_at ((r.record-at.ensures ∙ ap (record_by (H k) (ps k) (pairs_in (ps k))) (point n)) j)).vertex)
+    c.record_or.ensures
+    ∙ (λ j. (tell_at ((r.record_at.ensures ∙ ap (record_by (H k) (ps k) (pairs_in (ps k))) (point n)) j)).vertex)
     ∙ row_by (H k) (ps k) (qs k) (i k) true (byte e).is
 
-pub triple-record-spec : {M : Type 1} → statement M
-triple-record-spec =
+pub triple_record_spec : {M : Type 1} → statement M
+triple_record_spec =
     tie.close
     (tie.spec
     (λ c. search rules)

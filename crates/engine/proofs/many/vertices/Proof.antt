@@ -16,10 +16,10 @@ use Rattle.engine.specs.ManyLaws.{row_record, row-triple, rows_same, after-parts
 use Rattle.engine.proofs.many.vertices.Statement.{statement}
 use Rattle.engine.proofs.many.vertices.Tie as tie
 
-judge-requires : tie.Need-judge-requires
-judge-requires c κs = marks-none mark_bytes c.before.args.centres.now
+judge-requires : tie.Need-judge-number-requires
+judge-requires c κs = marks-none mark_bytes c.args.centres.now
 
-module _ (c : tie.After-judge) where
+module _ (c : tie.After-judge-number) where
   abbrev s : tie.Start
   s = c.before.before
 
@@ -35,35 +35,35 @@ module _ (c : tie.After-judge) where
   abbrev out : List ℤ
   out = s.args.records.now
 
-returns : tie.Need-returns
+returns : tie.Need-returns-then-number-ne-DONE
 returns c =
     let j = c.before in
-    let e = j.judge.ensures.0 in
-    let p = after-parts (many-refused (cs j) (ps j) (qs j) (out j) (λ z. c.if1.true (e ∙ z))) in
+    let e = j.judge-number.ensures.0 in
+    let p = after-parts (many-refused (cs j) (ps j) (qs j) (out j) (λ z. c.if-number-ne-DONE.true (e ∙ z))) in
     (e ∙ p.0, p.1)
 
-good : (c : tie.Else1) → judge_of (cs c.before) (ps c.before) ≡ 0
-good c = sym c.before.judge.ensures.0 ∙ c.if1.false
+good : (c : tie.Else-number-ne-DONE) → judge_of (cs c.before) (ps c.before) ≡ 0
+good c = sym c.judge-number.ensures.0 ∙ c.if-number-ne-DONE.false
 
-returns-2 : tie.Need-returns-2
+returns-2 : tie.Need-returns-then-records-count
 returns-2 c =
     let l = c.before in
     let j = l.before in
-    after-parts (many-short (cs j) (ps j) (qs j) (out j) (good l) (omega (arith, c.if2.true)))
+    after-parts (many-short (cs j) (ps j) (qs j) (out j) (good l) (omega (arith, c.if-records-count.true)))
 
-ready : (c : tie.Else1) → let j = c.before in Ready (cs j) (ps j) j.judge.new.1.1.0
-ready c = c.before.judge.ensures.1 c.if1.false
+ready : (c : tie.Else-number-ne-DONE) → let j = c.before in Ready (cs j) (ps j) j.judge-number.new.marks
+ready c = c.judge-number.ensures.1 c.if-number-ne-DONE.false
 
-room : (c : tie.Else2) → let j = c.before.before in row_width * triples_in (qs j) ≤ length (out j)
-room c = omega (arith, c.if2.false)
+room : (c : tie.Else-records-count) → let j = c.before.before in row_width * triples_in (qs j) ≤ length (out j)
+room c = omega (arith, c.if-records-count.false)
 
-put-records-requires : tie.Need-put-records-requires
+put-records-requires : tie.Need-put_records-requires
 put-records-requires c κs =
     let e = c.before.before in
     let r = ready e.before in
     (omega arith, (room e, (r.base, r.judged)))
 
-returns-3 : tie.Need-returns-3
+returns-3 : tie.Need-returns
 returns-3 c =
     let w = c.before in
     let e = w.before.before.before in
@@ -71,15 +71,15 @@ returns-3 c =
     let j = l.before in
     let p = after-parts (many-done (cs j) (ps j) (qs j) (out j) (good l) (room e)) in (
       p.0,
-      w.put-records.ensures
+      w.put_records.ensures
           ∙ (λ k. rows_in (row_record ((ready l).marked k) (ps j) (qs j)) (out j) (triples_in (qs j)))
           ∙ rows_same (row_record (is_listed (cs j)) (ps j) (qs j)) (triple_record (cs j) (ps j) (qs j)) (row-triple (cs j) (ps j) (qs j) (good l)) (out j)
           (triples_in (qs j))
           ∙ p.1,
     )
 
-pub vertices-spec : {M : Type 1} → statement M
-vertices-spec =
+pub vertices_spec : {M : Type 1} → statement M
+vertices_spec =
     tie.close
     (tie.spec
     judge-requires

@@ -12,7 +12,7 @@ use Rattle.engine.specs.ScanLaws.{see-else, see-parents}
 use Rattle.engine.proofs.pairs.see.Statement.{statement}
 use Rattle.engine.proofs.pairs.see.Tie as tie
 
-returns : tie.Need-returns
+returns : tie.Need-returns-then-not-at_level
 returns c =
     let l = c.before in
     let n = l.before in
@@ -21,11 +21,11 @@ returns c =
     let s = i.before in
     let a = s.args in
     let e4 = sym (asked (is_made a.w.maker a.w.entry.0 a.p) s.ranges.z i.is_made.ensures) in
-    let e5 = n.counted.ensures ∙ (λ j. a.s.times + cond (m.same_point.ensures j) 1 0) in
-    let off = asked (λ z. eq_z z (pos a.w.level.0)) s.ranges.z l.at_level.ensures ∙ not-true l.at_level.result c.if1.true in
+    let e5 = n.counted-times.ensures ∙ (λ j. a.s.times + cond (m.same_point.ensures j) 1 0) in
+    let off = asked (λ z. eq_z z (pos a.w.level.0)) s.ranges.z l.at_level.ensures ∙ not-true l.at_level.result c.if-not-at_level.true-raw in
     (λ j. seen_by a.s.first a.s.second a.s.third (e4 j || a.s.maker) (e5 j)) ∙ see-else a.s a.w a.p a.z off
 
-returns-2 : tie.Need-returns-2
+returns-2 : tie.Need-returns
 returns-2 c =
     let x3 = c.before in
     let x2 = x3.before.before in
@@ -38,14 +38,14 @@ returns-2 c =
     let s = i.before in
     let a = s.args in
     let e4 = sym (asked (is_made a.w.maker a.w.entry.0 a.p) s.ranges.z i.is_made.ensures) in
-    let e5 = n.counted.ensures ∙ (λ j. a.s.times + cond (m.same_point.ensures j) 1 0) in
-    let on = asked (λ z. eq_z z (pos a.w.level.0)) s.ranges.z l.at_level.ensures ∙ not-false l.at_level.result f.if1.false in
-    (λ j. seen_by (x1.same-point2.ensures j || a.s.first) (x2.same-point3.ensures j || a.s.second) (x3.same-point4.ensures j || a.s.third)
+    let e5 = n.counted-times.ensures ∙ (λ j. a.s.times + cond (m.same_point.ensures j) 1 0) in
+    let on = asked (λ z. eq_z z (pos a.w.level.0)) s.ranges.z l.at_level.ensures ∙ not-false l.at_level.result f.if-not-at_level.false-raw in
+    (λ j. seen_by (x1.same_point-2.ensures j || a.s.first) (x2.same_point-3.ensures j || a.s.second) (x3.same_point-4.ensures j || a.s.third)
     (e4 j || a.s.maker) (e5 j))
     ∙ see-parents a.s a.w a.p a.z on
 
-pub see-spec : {M : Type 1} → statement M
-see-spec =
+pub see_spec : {M : Type 1} → statement M
+see_spec =
     tie.close
     (tie.spec
     (λ c κs. search rules)

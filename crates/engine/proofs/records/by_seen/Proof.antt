@@ -8,19 +8,19 @@ use Rattle.engine.specs.ScanLaws.{deep-absent, deep-star}
 use Rattle.engine.proofs.records.by_seen.Statement.{statement}
 use Rattle.engine.proofs.records.by_seen.Tie as tie
 
-returns-2 : tie.Need-returns-2
+returns-2 : tie.Need-returns-then-not-s
 returns-2 c =
     let l = c.before.before in
-    let a = l.before.before.args in
-    deep-absent (in_marks a.marks.now) a.p a.s l.if1.false (not-true a.s.maker c.if2.true)
+    let a = l.args in
+    deep-absent (in_marks a.marks.now) a.p a.s l.if-p-eq0.false (not-true a.s.maker c.if-not-s.true)
 
-returns-3 : tie.Need-returns-3
+returns-3 : tie.Need-returns
 returns-3 c =
     let t = c.before in
     let l = t.before.before in
-    let a = l.before.before.args in
-    ap some c.star.ensures ∙ deep-star (in_marks a.marks.now) a.p a.s l.if1.false (not-false a.s.maker t.if2.false)
+    let a = l.args in
+    ap some c.star.ensures ∙ deep-star (in_marks a.marks.now) a.p a.s l.if-p-eq0.false (not-false a.s.maker t.if-not-s.false)
 
-pub by-seen-spec : {M : Type 1} → statement M
-by-seen-spec =
+pub by_seen_spec : {M : Type 1} → statement M
+by_seen_spec =
     tie.close (tie.spec (λ c κs. search rules) (λ c. search rules) returns-2 (λ c κs. search rules) returns-3)

@@ -8,14 +8,14 @@ use Rattle.engine.specs.ScanLaws.{ground-absent, ground-rim, ground-star}
 use Rattle.engine.proofs.records.ground_record.Statement.{statement}
 use Rattle.engine.proofs.records.ground_record.Tie as tie
 
-returns : tie.Need-returns
+returns : tie.Need-returns-then-not-is_given
 returns c =
     let g = c.before in
     let s = g.before in
     let a = s.args in
-    ground-absent (in_marks a.marks.now) a.p a.s s.requires.1.0 (sym g.is-given.ensures ∙ not-true g.is-given.result c.if1.true)
+    ground-absent (in_marks a.marks.now) a.p a.s s.requires.1.0 (sym g.is_given.ensures ∙ not-true g.is_given.result c.if-not-is_given.true-raw)
 
-returns-2 : tie.Need-returns-2
+returns-2 : tie.Need-returns-then-not-is_inside
 returns-2 c =
     let t = c.before in
     let n = t.before in
@@ -24,10 +24,10 @@ returns-2 c =
     let s = g.before in
     let a = s.args in
     ap some c.filled.ensures
-    ∙ ground-rim (in_marks a.marks.now) a.p a.s s.requires.1.0 (sym g.is-given.ensures ∙ not-false g.is-given.result l.if1.false)
-    (sym n.is-inside.ensures ∙ not-true n.is-inside.result t.if2.true)
+    ∙ ground-rim (in_marks a.marks.now) a.p a.s s.requires.1.0 (sym g.is_given.ensures ∙ not-false g.is_given.result l.if-not-is_given.false-raw)
+    (sym n.is_inside.ensures ∙ not-true n.is_inside.result t.if-not-is_inside.true-raw)
 
-returns-3 : tie.Need-returns-3
+returns-3 : tie.Need-returns
 returns-3 c =
     let t = c.before in
     let n = t.before in
@@ -36,10 +36,10 @@ returns-3 c =
     let s = g.before in
     let a = s.args in
     ap some c.star.ensures
-    ∙ ground-star (in_marks a.marks.now) a.p a.s s.requires.1.0 (sym g.is-given.ensures ∙ not-false g.is-given.result l.if1.false)
-    (sym n.is-inside.ensures ∙ not-false n.is-inside.result t.if2.false)
+    ∙ ground-star (in_marks a.marks.now) a.p a.s s.requires.1.0 (sym g.is_given.ensures ∙ not-false g.is_given.result l.if-not-is_given.false-raw)
+    (sym n.is_inside.ensures ∙ not-false n.is_inside.result t.if-not-is_inside.false-raw)
 
-pub ground-record-spec : {M : Type 1} → statement M
-ground-record-spec =
+pub ground_record_spec : {M : Type 1} → statement M
+ground_record_spec =
     tie.close
     (tie.spec (λ c κs. search rules) returns (λ c κs. search rules) (λ c κs. search rules) returns-2 (λ c κs. search rules) returns-3)

@@ -35,41 +35,41 @@ module _ (c : tie.After-valid) where
   p = s.args.p
 
   range : c.valid.result ≡ valid_of (vertex p 0 0 0)
-  range = c.valid.ensures ∙ ap valid_of c.before.filled.ensures
+  range = c.valid.ensures ∙ ap valid_of c.filled.ensures
 
   small : c.valid.result ≡ true → Small p × (p.m.0 ≤ 6)
   small h = inside-small p (sym range ∙ h)
 
-returns : tie.Need-returns
+returns : tie.Need-returns-then-not-valid
 returns c =
     let v = c.before in
-    outside-none (H v) (s v).requires.1.0 (ps v) (n v) (s v).requires.1.1.0 (p v) (s v).requires.1.1.1 (sym (range v) ∙ not-true v.valid.result c.if1.true)
+    outside-none (H v) (s v).requires.1.0 (ps v) (n v) (s v).requires.1.1.0 (p v) (s v).requires.1.1.1 (sym (range v) ∙ not-true v.valid.result c.if-not-valid.true-raw)
 
-looked-for-requires : tie.Need-looked-for-requires
-looked-for-requires c κs = let v = c.before in small v (not-false v.valid.result c.if1.false)
+looked-for-requires : tie.Need-looked_for-w-requires
+looked-for-requires c κs = let v = c.before in small v (not-false v.valid.result c.if-not-valid.false-raw)
 
-scan-requires : tie.Need-scan-requires
+scan-requires : tie.Need-scan-s-requires
 scan-requires c κs = let v = c.before.before in ((s v).requires.0, judged-depths (H v) (ps v) (n v) (s v).requires.1.1.0)
 
 -- what was seen
-seen-is : (c : tie.After-scan) → let v = c.before.before.before in c.scan.result ≡ seen_of (ps v) (n v) (wanted_of (p v))
-seen-is c = let v = c.before.before.before in c.scan.ensures ∙ ap (seen_of (ps v) (n v)) c.before.looked-for.ensures
+seen-is : (c : tie.After-scan-s) → let v = c.before.before.before in c.scan-s.result ≡ seen_of (ps v) (n v) (wanted_of (p v))
+seen-is c = let v = c.before.before.before in c.scan-s.ensures ∙ ap (seen_of (ps v) (n v)) c.looked_for-w.ensures
 
-by-seen-requires : tie.Need-by-seen-requires
+by-seen-requires : tie.Need-by_seen-requires
 by-seen-requires c κs =
     let l = c.before.before in
     let v = l.before in
-    let k = small v (not-false v.valid.result l.if1.false) in
-    let e : c.scan.result.times ≡ (seen_of (ps v) (n v) (wanted_of (p v))).times = ap (λ (x : Seen). x.times) (seen-is c) in
+    let k = small v (not-false v.valid.result l.if-not-valid.false-raw) in
+    let e : c.scan-s.result.times ≡ (seen_of (ps v) (n v) (wanted_of (p v))).times = ap (λ (x : Seen). x.times) (seen-is c) in
     (k.0, (k.1, omega (arith, level-most (H v) (ps v) (n v) (s v).requires.1.1.0 (p v) k.1, e)))
 
-returns-2 : tie.Need-returns-2
+returns-2 : tie.Need-returns
 returns-2 c =
     let m = c.before in
     let v = m.before.before.before in
-    c.by-seen.ensures ∙ ap (tell_by (H v) (p v)) (seen-is m) ∙ tell-record (H v) (ps v) (n v) (p v) (s v).requires.1.1.1
+    c.by_seen.ensures ∙ ap (tell_by (H v) (p v)) (seen-is m) ∙ tell-record (H v) (ps v) (n v) (p v) (s v).requires.1.1.1
 
-pub record-at-spec : {M : Type 1} → statement M
-record-at-spec =
+pub record_at_spec : {M : Type 1} → statement M
+record_at_spec =
     tie.close
     (tie.spec (λ c κs. search rules) (λ c κs. search rules) returns looked-for-requires scan-requires by-seen-requires returns-2)

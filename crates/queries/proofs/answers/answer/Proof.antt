@@ -16,44 +16,44 @@ use Rattle.lattice.specs.AnswerRowLaws.{answer-parts}
 use Rattle.queries.proofs.answers.answer.Statement.{statement}
 use Rattle.queries.proofs.answers.answer.Tie as tie
 
-returns : tie.Need-returns
+returns : tie.Need-returns-then-not-in_order
 returns c =
     let e = c.before.before in
-    let a = e.before.before.before.args in
-    let o = sym e.before.in_order.ensures ∙ not-true _ e.if1.true in
+    let a = e.args in
+    let o = sym e.in_order.ensures ∙ not-true _ e.if-not-in_order.true-raw in
     let p = answer-parts (query-refused (answer_at a.q a.t.now) a.t.now a.a a.b a.m o) in
-    (c.refuse-row.ensures.0 ∙ p.0, c.refuse-row.ensures.1 ∙ p.1)
+    (c.refuse_row.ensures.0 ∙ p.0, c.refuse_row.ensures.1 ∙ p.1)
 
 -- past the test the table is in order
-ordered : (c : tie.Else1) → in_order_of c.before.before.before.args.t.now ≡ true
-ordered c = sym c.before.in_order.ensures ∙ not-false _ c.if1.false
+ordered : (c : tie.Else-not-in_order) → in_order_of c.args.t.now ≡ true
+ordered c = sym c.in_order.ensures ∙ not-false _ c.if-not-in_order.false-raw
 
-fitting : (c : tie.After-slots-of) → Table c.before.before.before.before.args.t.now c.slots-of.result
-fitting c = subst (Table _) (sym c.slots-of.ensures) (order-table _ (test-order _ (ordered c.before)))
+fitting : (c : tie.After-slots_of-n) → Table c.args.t.now c.slots_of-n.result
+fitting c = subst (Table _) (sym c.slots_of-n.ensures) (order-table _ (test-order _ (ordered c.before)))
 
-slot-by-guess-requires : tie.Need-slot-by-guess-requires
+slot-by-guess-requires : tie.Need-slot_by_guess-i-requires
 slot-by-guess-requires c κs = (fitting c, ordered c.before)
 
-answer-in-slot-requires : tie.Need-answer-in-slot-requires
+answer-in-slot-requires : tie.Need-answer_in_slot-requires
 answer-in-slot-requires c κs = let n = c.before.before in (fitting n, ordered n.before)
 
-returns-2 : tie.Need-returns-2
+returns-2 : tie.Need-returns
 returns-2 c =
     let g = c.before.before in
     let k = g.before in
     let s = k.before.before.before.before in
     let a = s.args in
     let t = a.t.now in
-    let n = k.slots-of.result in
+    let n = k.slots_of-n.result in
     let o = ordered k.before in
-    let e = g.slot-by-guess.ensures
+    let e = g.slot_by_guess-i.ensures
     ∙ (λ i. slot_found n (find_of t (normal_of (to_z-of_z s.ranges.a i) (to_z-of_z s.ranges.b i) a.m))) in
     let p = answer-parts
     (slot-answer a.q t n (fitting k) o (normal_of a.a a.b a.m) _ e ∙ query-looked (answer_at a.q t) t a.a a.b a.m o _ refl) in
-    (c.answer-in-slot.ensures.0 ∙ p.0, c.answer-in-slot.ensures.1 ∙ p.1)
+    (c.answer_in_slot.ensures.0 ∙ p.0, c.answer_in_slot.ensures.1 ∙ p.1)
 
-pub answer-spec : {M : Type 1} → statement M
-answer-spec =
+pub answer_spec : {M : Type 1} → statement M
+answer_spec =
     tie.close
     (tie.spec
     (λ c κs. search rules)

@@ -38,14 +38,14 @@ module _ (s : tie.Start) where
   abbrev by : Bool → Answer
   by b = unless b (refused 3) (query_looked f (held_in (slot_at t i)))
 
-returns : tie.Need-returns
+returns : tie.Need-returns-then-n-i
 returns c =
     let s = c.before.before.before.before in
-    let p = answer-parts (ap (by s) (sym (le-ltb (i s) s.args.n (omega (arith, c.before.before.if1.true))))) in
-    (c.refuse-row.ensures.0 ∙ p.0, c.refuse-row.ensures.1 ∙ p.1)
+    let p = answer-parts (ap (by s) (sym (le-ltb (i s) s.args.n (omega (arith, c.if-n-i.true))))) in
+    (c.refuse_row.ensures.0 ∙ p.0, c.refuse_row.ensures.1 ∙ p.1)
 
 -- past the test, by what the slot holds
-module _ (c : tie.After-held-in) where
+module _ (c : tie.After-held_in) where
   abbrev start : tie.Start
   start = c.before.before.before
 
@@ -56,43 +56,43 @@ module _ (c : tie.After-held-in) where
   looked l e = ap (query_looked (f start)) (sym e ∙ c.held_in.ensures) ∙ ap (by start) (sym (lt-ltb (i start) start.args.n below))
 
 -- a record is there: by its degree
-module _ (c : tie.After-v) where
-  abbrev l : tie.After-held-in
-  l = c.before.before
+module _ (c : tie.In-Held) where
+  abbrev l : tie.After-held_in
+  l = c.before
 
   abbrev v : Record
-  v = c.v.given.0.0
+  v = c.in-Held.v
 
   at-degree : (b : Bool) → eqb v.d 0 ≡ b → cond b (refused 14) (f (start l) v) ≡ answered (start l)
-  at-degree b e = ap (λ (x : Bool). cond x (refused 14) (f (start l) v)) (sym e) ∙ looked l (Held v) c.v.given.1
+  at-degree b e = ap (λ (x : Bool). cond x (refused 14) (f (start l) v)) (sym e) ∙ looked l (Held v) c.in-Held.is
 
-returns-2 : tie.Need-returns-2
+returns-2 : tie.Need-returns-then-v-eq0
 returns-2 c =
     let e = c.before.before in
-    let p = answer-parts (at-degree e.before.before.before true (eq-eqb _ _ e.if2.true)) in
-    (c.refuse-row3.ensures.0 ∙ p.0, c.refuse-row3.ensures.1 ∙ p.1)
+    let p = answer-parts (at-degree e.before.before true (eq-eqb _ _ e.if-v-eq0.true)) in
+    (c.refuse_row-then-v-eq0.ensures.0 ∙ p.0, c.refuse_row-then-v-eq0.ensures.1 ∙ p.1)
 
-answer-at-requires : tie.Need-answer-at-requires
+answer-at-requires : tie.Need-answer_at-requires
 answer-at-requires c κs =
     let e = c.before in
-    let k = e.before.before.before in
+    let k = e.before.before in
     let s = start (l k) in
-    vertex-asked (t s) s.args.n s.pre.0 s.pre.1 (i s) (v k) (below (l k)) (sym (l k).held_in.ensures ∙ k.v.given.1) e.if2.false
+    vertex-asked (t s) s.args.n s.requires.0 s.requires.1 (i s) (v k) (below (l k)) (sym (l k).held_in.ensures ∙ k.in-Held.is) e.if-v-eq0.false
 
-returns-3 : tie.Need-returns-3
+returns-3 : tie.Need-returns-in-Absent
 returns-3 c =
     let e = c.before.before in
-    let p = answer-parts (looked e.before.before Absent e.enum_told.given.1) in
-    (c.refuse-row2.ensures.0 ∙ p.0, c.refuse-row2.ensures.1 ∙ p.1)
+    let p = answer-parts (looked e.before Absent e.in-Absent.is) in
+    (c.refuse_row-in-Absent.ensures.0 ∙ p.0, c.refuse_row-in-Absent.ensures.1 ∙ p.1)
 
-returns-4 : tie.Need-returns-4
+returns-4 : tie.Need-returns-else-v-eq0
 returns-4 c =
     let e = c.before.before in
-    let p = answer-parts (at-degree e.before.before.before false (ne_eqb _ _ e.if2.false)) in
+    let p = answer-parts (at-degree e.before.before false (ne_eqb _ _ e.if-v-eq0.false)) in
     (c.answer_at.ensures.0 ∙ p.0, c.answer_at.ensures.1 ∙ p.1)
 
-pub answer-in-slot-spec : {M : Type 1} → statement M
-answer-in-slot-spec =
+pub answer_in_slot_spec : {M : Type 1} → statement M
+answer_in_slot_spec =
     tie.close
     (tie.spec
     (λ c κs. search rules)

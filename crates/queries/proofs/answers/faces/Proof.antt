@@ -17,5 +17,5 @@ returns c =
       sym (asked₂ (λ x y. answer_numbers (query_of (faces_at t) t x y a.m)) s.ranges.a s.ranges.b c.answer.ensures.1),
     )
 
-pub faces-spec : {M : Type 1} → statement M
-faces-spec = tie.close (tie.spec (λ c κs. search rules) returns)
+pub faces_spec : {M : Type 1} → statement M
+faces_spec = tie.close (tie.spec (λ c κs. search rules) returns)

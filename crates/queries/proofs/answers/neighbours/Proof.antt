@@ -17,5 +17,5 @@ returns c =
       sym (asked₂ (λ x y. answer_numbers (query_of (neighbours_at t) t x y a.m)) s.ranges.a s.ranges.b c.answer.ensures.1),
     )
 
-pub neighbours-spec : {M : Type 1} → statement M
-neighbours-spec = tie.close (tie.spec (λ c κs. search rules) returns)
+pub neighbours_spec : {M : Type 1} → statement M
+neighbours_spec = tie.close (tie.spec (λ c κs. search rules) returns)

@@ -11,60 +11,60 @@ use Rattle.queries.specs.OppositeLaws.{OppositesPut, opposites-start, opposites-
 use Rattle.queries.proofs.answers.put_each_opposite.Statement.{statement}
 use Rattle.queries.proofs.answers.put_each_opposite.Tie as tie
 
-abbrev invariant-loop : tie.invariant-loop
-invariant-loop t v n out₀ d j₀ out j = OppositesPut t v j out
+abbrev invariant-loop-j : tie.invariant-loop-j
+invariant-loop-j t v n out₀ d j₀ out j = OppositesPut t v j out
 
-abbrev decreases-loop : tie.decreases-loop
-decreases-loop t v n out₀ d j₀ out j = v.d - j
+abbrev decreases-loop-j : tie.decreases-loop-j
+decreases-loop-j t v n out₀ d j₀ out j = v.d - j
 
-loop-holds : tie.Need-loop-init invariant-loop decreases-loop
-loop-holds c = opposites-start c.before.args.t.now c.before.args.v _ c.before.requires.1
+loop-holds : tie.Need-loop-j-init invariant-loop-j decreases-loop-j
+loop-holds c = opposites-start c.args.t.now c.args.v _ c.requires.1
 
 -- a corner that the loop has come to is one of six
-corner-below : (c : tie.In-loop invariant-loop decreases-loop) → c.before.loop.j < 6
-corner-below c = let s = c.before.before.before in omega (arith, (asked-inner s.requires.0).top, c.loop-test.true)
+corner-below : (c : tie.In-loop-j invariant-loop-j decreases-loop-j) → c.loop-j.j < 6
+corner-below c = let s = c.before.before.before in omega (arith, (asked-inner s.requires.0).top, c.loop-j-test.true)
 
-chosen-requires : tie.Need-chosen-requires invariant-loop decreases-loop
-chosen-requires c κs = let s = c.before.before.before in (s.requires.0.table, (asked-inner s.requires.0, omega (arith, c.loop-test.true)))
+chosen-requires : tie.Need-chosen-requires invariant-loop-j decreases-loop-j
+chosen-requires c κs = let s = c.before.before.before in (s.requires.0.table, (asked-inner s.requires.0, omega (arith, c.loop-j-test.true)))
 
-put-point-requires : tie.Need-put-point-requires invariant-loop decreases-loop
-put-point-requires c κs = omega (arith, corner-below c.before.before.before.before.before)
+put-point-requires : tie.Need-put_point-requires invariant-loop-j decreases-loop-j
+put-point-requires c κs = omega (arith, corner-below c.before.before.before)
 
 -- the corner has no opposite
-returns : tie.Need-returns invariant-loop decreases-loop
+returns : tie.Need-returns-in-Nothing invariant-loop-j decreases-loop-j
 returns c =
-    let k = c.before.before in
+    let k = c.before in
     let i = k.before in
     let l = i.before in
-    let a = l.before.before.args in
-    let h : l.loop.j < a.v.d = omega (arith, i.loop-test.true) in
-    (opposites-fail a.t.now a.v l.loop.j l.loop.out h (sym k.chosen.ensures ∙ c.enum_told.given.1), tt)
+    let a = l.args in
+    let h : l.loop-j.j < a.v.d = omega (arith, i.loop-j-test.true) in
+    (opposites-fail a.t.now a.v l.loop-j.j l.loop-j.out h (sym k.chosen.ensures ∙ c.in-Nothing.is), tt)
 
 -- the corner has one: the next point
-loop-again : tie.Need-loop-preserved invariant-loop decreases-loop
+loop-again : tie.Need-loop-j-preserved invariant-loop-j decreases-loop-j
 loop-again c =
-    let p = c.before.before.before in
-    let k = p.before.before in
+    let p = c.before.before in
+    let k = p.before in
     let i = k.before in
     let l = i.before in
     let s = l.before.before in
-    let h : l.loop.j < s.args.v.d = omega (arith, i.loop-test.true) in
-    let e = sym k.chosen.ensures ∙ p.p.given.1 in
-    subst (λ (o : List ℤ). OppositesPut s.args.t.now s.args.v (l.loop.j + 1) o) (sym c.put-point.ensures)
-    (opposites-more s.args.t.now s.args.v l.loop.j l.loop.out h (asked-inner s.requires.0) l.loop.invariant _ e)
+    let h : l.loop-j.j < s.args.v.d = omega (arith, i.loop-j-test.true) in
+    let e = sym k.chosen.ensures ∙ p.in-At.is in
+    subst (λ (o : List ℤ). OppositesPut s.args.t.now s.args.v (l.loop-j.j + 1) o) (sym c.put_point.ensures)
+    (opposites-more s.args.t.now s.args.v l.loop-j.j l.loop-j.out h (asked-inner s.requires.0) l.loop-j.invariant _ e)
 
-returns-2 : tie.Need-returns-2 invariant-loop decreases-loop
+returns-2 : tie.Need-returns invariant-loop-j decreases-loop-j
 returns-2 c =
     let l = c.before in
-    let a = l.before.before.args in
-    opposites-end a.t.now a.v l.loop.j _ l.loop.invariant (λ h. omega (arith, h, c.loop-test.false))
+    let a = l.args in
+    opposites-end a.t.now a.v l.loop-j.j _ l.loop-j.invariant (λ h. omega (arith, h, c.loop-j-test.false))
 
-pub put-each-opposite-spec : {M : Type 1} → statement M
-put-each-opposite-spec =
+pub put_each_opposite_spec : {M : Type 1} → statement M
+put_each_opposite_spec =
     tie.close
     (tie.spec
-    invariant-loop
-    decreases-loop
+    invariant-loop-j
+    decreases-loop-j
     loop-holds
     chosen-requires
     (λ c. search rules)

@@ -4,14 +4,14 @@ use borrow.Author.Rules.{rules}
 use Rattle.queries.proofs.answers.put_opposites.Statement.{statement}
 use Rattle.queries.proofs.answers.put_opposites.Tie as tie
 
-put-regular-opposites-requires : tie.Need-put-regular-opposites-requires
+put-regular-opposites-requires : tie.Need-put_regular_opposites-requires
 put-regular-opposites-requires c κs =
     let i = c.before in
     let s = i.before.before.before in
-    (s.requires.0, (sym i.before.regular.ensures ∙ i.if1.true, s.requires.1))
+    (s.requires.0, (sym i.regular.ensures ∙ i.if-regular.true, s.requires.1))
 
-pub put-opposites-spec : {M : Type 1} → statement M
-put-opposites-spec =
+pub put_opposites_spec : {M : Type 1} → statement M
+put_opposites_spec =
     tie.close
     (tie.spec
     (λ c κs. search rules)

@@ -33,114 +33,114 @@ use Rattle.queries.proofs.answers.regular_there.Tie as tie
 abbrev held_at : List ℕ → Record → ℕ → Bool
 held_at t v j = holds t (adjacent_at v j)
 
-abbrev invariant-loop : tie.invariant-loop
-invariant-loop t v n out₀ w₀ j₀ out w j = ArmsPut v j out w × (upto j (held_at t v) ≡ true)
+abbrev invariant-loop-j : tie.invariant-loop-j
+invariant-loop-j t v n out₀ w₀ j₀ out w j = ArmsPut v j out w × (upto j (held_at t v) ≡ true)
 
-abbrev decreases-loop : tie.decreases-loop
-decreases-loop t v n out₀ w₀ j₀ out w j = v.d - j
+abbrev decreases-loop-j : tie.decreases-loop-j
+decreases-loop-j t v n out₀ w₀ j₀ out w j = v.d - j
 
-loop-holds : tie.Need-loop-init invariant-loop decreases-loop
+loop-holds : tie.Need-loop-j-init invariant-loop-j decreases-loop-j
 loop-holds c =
     let s = c.before.before.before.before in
-    (arms_start s.args.v _ _ (row-start s.args.v.d (omega (arith, (asked-inner s.requires.0).top))) c.first-arm.ensures, refl)
+    (arms_start s.args.v _ _ (row-start s.args.v.d (omega (arith, (asked-inner s.requires.0).top))) c.first_arm-w.ensures, refl)
 
 -- the place that is put
-module _ (a : tie.Then1 invariant-loop decreases-loop) where
-  abbrev start : tie.Start invariant-loop decreases-loop
+module _ (a : tie.In-loop-j invariant-loop-j decreases-loop-j) where
+  abbrev start : tie.Start invariant-loop-j decreases-loop-j
   start = a.before.before.before.before.before.before.before
 
   abbrev v : Record
   v = start.args.v
 
   abbrev j : ℕ
-  j = a.before.before.loop.j
+  j = a.loop-j.j
 
-  so_far : ArmsPut v j a.before.before.loop.out a.before.before.loop.w
-  so_far = a.before.before.loop.inv.0
+  so_far : ArmsPut v j a.loop-j.out a.loop-j.w
+  so_far = a.loop-j.invariant.0
 
   below : j < v.d
-  below = omega (arith, a.if1.taken)
+  below = omega (arith, a.loop-j-test.true)
 
   inner : Inner v
-  inner = asked-inner start.pre.0
+  inner = asked-inner start.requires.0
 
   there : Bool
   there = held_at start.args.t.now v j
 
-added-requires : tie.Need-added-requires invariant-loop decreases-loop
+added-requires : tie.Need-added-p-requires invariant-loop-j decreases-loop-j
 added-requires c κs = arms-light (v c) (inner c) (j c) _ _ (so_far c) (below c)
 
-put-point-requires : tie.Need-put-point-requires invariant-loop decreases-loop
+put-point-requires : tie.Need-put_point-requires invariant-loop-j decreases-loop-j
 put-point-requires c κs = let a = c.before.before in omega (arith, below a, (inner a).top)
 
-stands-requires : tie.Need-stands-requires invariant-loop decreases-loop
+stands-requires : tie.Need-stands-requires invariant-loop-j decreases-loop-j
 stands-requires c κs =
     let s = start c.before.before.before.before.before in
-    (s.pre.0.table, s.pre.0.order)
+    (s.requires.0.table, s.requires.0.order)
 
 -- whether the point that was put is there
-abbrev put : tie.After-stands invariant-loop decreases-loop → tie.Then1 invariant-loop decreases-loop
+abbrev put : tie.After-stands invariant-loop-j decreases-loop-j → tie.In-loop-j invariant-loop-j decreases-loop-j
 put c = c.before.before.before.before.before.before
 
-at_place : (c : tie.After-stands invariant-loop decreases-loop) (b : Bool) → c.stands.result ≡ b → there (put c) ≡ b
+at_place : (c : tie.After-stands invariant-loop-j decreases-loop-j) (b : Bool) → c.stands.result ≡ b → there (put c) ≡ b
 unfolding there
 at_place c b e =
     let k = c.before.before.before.before.before in
     let a = put c in
-    let p = k.added.result in
+    let p = k.added-p.result in
     let fa : SFits w32 p.a = record { sfits = omega arith } in
     let fb : SFits w32 p.b = record { sfits = omega arith } in
-    let q = (λ i. pt (to_z-of_z fa i) (to_z-of_z fb i) p.m.0) ∙ k.added.ensures ∙ ap added_of ((so_far a).arm (below a)) in
+    let q = (λ i. pt (to_z-of_z fa i) (to_z-of_z fb i) p.m.0) ∙ k.added-p.ensures ∙ ap added_of ((so_far a).arm (below a)) in
     ap (holds (start a).args.t.now) (sym q) ∙ sym c.stands.ensures ∙ e
 
-returns : tie.Need-returns invariant-loop decreases-loop
+returns : tie.Need-returns-then-not-stands invariant-loop-j decreases-loop-j
 unfolding adjacents_there there
 returns c =
     let a = put c.before in
-    let f = at_place c.before false (not-true _ c.if2.true) in
+    let f = at_place c.before false (not-true _ c.if-not-stands.true-raw) in
     (sym (upto-fails (held_at (start a).args.t.now (v a)) (j a) (v a).d (below a) f), tt)
 
-next-arm-requires : tie.Need-next-arm-requires invariant-loop decreases-loop
+next-arm-requires : tie.Need-next_arm-w-requires invariant-loop-j decreases-loop-j
 next-arm-requires c κs = let a = put c.before in arms-light (v a) (inner a) (j a) _ _ (so_far a) (below a)
 
-add-j : tie.Need-overflow-add-j invariant-loop decreases-loop
+add-j : tie.Need-overflow_add-j-in-loop-j invariant-loop-j decreases-loop-j
 add-j c = let a = put c.before.before in omega (arith, below a, (inner a).top)
 
-loop-less : tie.Need-loop-smaller invariant-loop decreases-loop
+loop-less : tie.Need-loop-j-smaller invariant-loop-j decreases-loop-j
 loop-less c = omega (arith, below (put c.before.before))
 
-loop-again : tie.Need-loop-preserved invariant-loop decreases-loop
+loop-again : tie.Need-loop-j-preserved invariant-loop-j decreases-loop-j
 unfolding there
 loop-again c =
     let p = c.before.before.before.before.before in
     let a = put c.before.before in
-    let row : List ℤ = a.before.before.loop.out in
-    let e = p.put-point.ensures ∙ ap (λ (q : Point). sets row (3 * j a + 1) (point_numbers q)) p.before.before.added.ensures in
-    let m = arms_more (v a) (inner a) (start a).pre.1 (j a) _ _ (so_far a) (below a) in
-    let h = at_place c.before.before true (not-false _ c.before.if2.false) in (
-      subst (λ (o : List ℤ). ArmsPut (v a) (j a + 1) o c.next-arm.result) (sym e) (subst (ArmsPut (v a) (j a + 1) _) (sym c.next-arm.ensures) m),
-      upto-more (held_at (start a).args.t.now (v a)) (j a) a.before.before.loop.inv.1 h,
+    let row : List ℤ = a.before.before.loop-j.out in
+    let e = p.put_point.ensures ∙ ap (λ (q : Point). sets row (3 * j a + 1) (point_numbers q)) p.added-p.ensures in
+    let m = arms_more (v a) (inner a) (start a).requires.1 (j a) _ _ (so_far a) (below a) in
+    let h = at_place c.before.before true (not-false _ c.if-not-stands.false-raw) in (
+      subst (λ (o : List ℤ). ArmsPut (v a) (j a + 1) o c.next_arm-w.result) (sym e) (subst (ArmsPut (v a) (j a + 1) _) (sym c.next_arm-w.ensures) m),
+      upto-more (held_at (start a).args.t.now (v a)) (j a) a.before.before.loop-j.invariant.1 h,
     )
 
-returns-2 : tie.Need-returns-2 invariant-loop decreases-loop
+returns-2 : tie.Need-returns invariant-loop-j decreases-loop-j
 unfolding adjacents_there
 returns-2 c =
     let l = c.before.before in
-    let a = l.before.before.before.before.before.args in
-    let e : l.loop.j ≡ a.v.d = omega (arith, l.loop.invariant.0.most, c.if1.false) in (
-      sym l.loop.invariant.1 ∙ ap (λ (k : ℕ). upto k (held_at a.t.now a.v)) e,
-      arms_end a.v l.loop.j _ _ l.loop.invariant.0 (λ h. omega (arith, h, e)),
+    let a = l.args in
+    let e : l.loop-j.j ≡ a.v.d = omega (arith, l.loop-j.invariant.0.most, c.loop-j-test.false) in (
+      sym l.loop-j.invariant.1 ∙ ap (λ (k : ℕ). upto k (held_at a.t.now a.v)) e,
+      arms_end a.v l.loop-j.j _ _ l.loop-j.invariant.0 (λ h. omega (arith, h, e)),
     )
 
-pub regular-there-spec : {M : Type 1} → statement M
-regular-there-spec =
+pub regular_there_spec : {M : Type 1} → statement M
+regular_there_spec =
     tie.close
     (tie.spec
-    invariant-loop
-    decreases-loop
+    invariant-loop-j
+    decreases-loop-j
     (λ c. search rules)
     (λ c. search rules)
-    (λ c κs. asked-inner c.before.before.before.requires.0)
+    (λ c κs. asked-inner c.requires.0)
     loop-holds
     added-requires
     (λ c. search rules)

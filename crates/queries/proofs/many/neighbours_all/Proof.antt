@@ -6,7 +6,7 @@ use Rattle.queries.proofs.many.neighbours_all.Tie as tie
 
 returns : tie.Need-returns
 unfolding neighbours_of
-returns c = let k = c.before in (k.answer-all.ensures.0, k.answer-all.ensures.1)
+returns c = let k = c.before in (k.answer_all.ensures.0, k.answer_all.ensures.1)
 
-pub neighbours-all-spec : {M : Type 1} → statement M
-neighbours-all-spec = tie.close (tie.spec (λ c κs. search rules) (λ c. search rules) returns)
+pub neighbours_all_spec : {M : Type 1} → statement M
+neighbours_all_spec = tie.close (tie.spec (λ c κs. search rules) (λ c. search rules) returns)

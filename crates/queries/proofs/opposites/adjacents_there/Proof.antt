@@ -18,54 +18,54 @@ use Rattle.queries.proofs.opposites.adjacents_there.Tie as tie
 abbrev at : List ℕ → Record → ℕ → Bool
 at t v j = holds t (adjacent_at v j)
 
-abbrev invariant-loop : tie.invariant-loop
-invariant-loop t row v n d j₀ j = (j ≤ v.d) × (upto j (at t v) ≡ true)
+abbrev invariant-loop-j : tie.invariant-loop-j
+invariant-loop-j t row v n d j₀ j = (j ≤ v.d) × (upto j (at t v) ≡ true)
 
-abbrev decreases-loop : tie.decreases-loop
-decreases-loop t row v n d j₀ j = v.d - j
+abbrev decreases-loop-j : tie.decreases-loop-j
+decreases-loop-j t row v n d j₀ j = v.d - j
 
-point-at-requires : tie.Need-point-at-requires invariant-loop decreases-loop
-point-at-requires c κs = let s = c.before.before.before in (s.requires.1.1, (s.requires.1.0, omega (arith, c.loop-test.true)))
+point-at-requires : tie.Need-point_at-requires invariant-loop-j decreases-loop-j
+point-at-requires c κs = let s = c.before.before.before in (s.requires.1.1, (s.requires.1.0, omega (arith, c.loop-j-test.true)))
 
-abbrev start : tie.After-is-there invariant-loop decreases-loop → tie.Start invariant-loop decreases-loop
+abbrev start : tie.After-is_there invariant-loop-j decreases-loop-j → tie.Start invariant-loop-j decreases-loop-j
 start c = c.before.before.before.before.before
 
-abbrev place : tie.After-is-there invariant-loop decreases-loop → ℕ
-place c = c.before.before.before.loop.j
+abbrev place : tie.After-is_there invariant-loop-j decreases-loop-j → ℕ
+place c = c.loop-j.j
 
 -- whether the point at the place that the loop has come to is there
-at_place : (c : tie.After-is-there invariant-loop decreases-loop) (b : Bool) → c.is-there.result ≡ b → at (start c).args.t.now (start c).args.v (place c) ≡ b
-at_place c b e = ap (holds (start c).args.t.now) (sym c.before.point_at.ensures) ∙ sym c.is-there.ensures ∙ e
+at_place : (c : tie.After-is_there invariant-loop-j decreases-loop-j) (b : Bool) → c.is_there.result ≡ b → at (start c).args.t.now (start c).args.v (place c) ≡ b
+at_place c b e = ap (holds (start c).args.t.now) (sym c.point_at.ensures) ∙ sym c.is_there.ensures ∙ e
 
-loop-again : tie.Need-loop-preserved invariant-loop decreases-loop
+loop-again : tie.Need-loop-j-preserved invariant-loop-j decreases-loop-j
 loop-again c =
     let p = c.before in
     let l = p.before.before.before in
-    let a = l.before.before.args in
-    (search rules, upto-more (at a.t.now a.v) l.loop.j l.loop.invariant.1 (at_place p true c.if1.true))
+    let a = l.args in
+    (search rules, upto-more (at a.t.now a.v) l.loop-j.j l.loop-j.invariant.1 (at_place p true c.if-is_there.true))
 
-returns : tie.Need-returns invariant-loop decreases-loop
+returns : tie.Need-returns-else-is_there invariant-loop-j decreases-loop-j
 unfolding adjacents_there
 returns c =
     let p = c.before in
     let l = p.before.before.before in
-    let a = l.before.before.args in
-    sym (upto-fails (at a.t.now a.v) l.loop.j a.v.d (omega (arith, p.before.before.loop-test.true)) (at_place p false c.if1.false))
+    let a = l.args in
+    sym (upto-fails (at a.t.now a.v) l.loop-j.j a.v.d (omega (arith, p.loop-j-test.true)) (at_place p false c.if-is_there.false))
 
-returns-2 : tie.Need-returns-2 invariant-loop decreases-loop
+returns-2 : tie.Need-returns invariant-loop-j decreases-loop-j
 unfolding adjacents_there
 returns-2 c =
     let l = c.before in
-    let a = l.before.before.args in
-    let e : l.loop.j ≡ a.v.d = omega arith in
-    sym l.loop.invariant.1 ∙ ap (λ (k : ℕ). upto k (at a.t.now a.v)) e
+    let a = l.args in
+    let e : l.loop-j.j ≡ a.v.d = omega arith in
+    sym l.loop-j.invariant.1 ∙ ap (λ (k : ℕ). upto k (at a.t.now a.v)) e
 
-pub adjacents-there-spec : {M : Type 1} → statement M
-adjacents-there-spec =
+pub adjacents_there_spec : {M : Type 1} → statement M
+adjacents_there_spec =
     tie.close
     (tie.spec
-    invariant-loop
-    decreases-loop
+    invariant-loop-j
+    decreases-loop-j
     (λ c. search rules)
     point-at-requires
     (λ c κs. search rules)

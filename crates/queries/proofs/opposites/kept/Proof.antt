@@ -9,25 +9,25 @@ use Rattle.queries.proofs.opposites.kept.Statement.{statement}
 use Rattle.queries.proofs.opposites.kept.Tie as tie
 
 -- past the search, by what it found
-module _ (c : tie.After-is-there) where
+module _ (c : tie.After-is_there) where
   abbrev start : tie.Start
-  start = c.before.before.before.before.before
+  start = c.before.before.before
 
   abbrev p : Point
-  p = c.before.before.s.given.0.0
+  p = c.in-At.p
 
-  at-point : (b : Bool) → c.is-there.result ≡ b → cond b (At p) Nothing ≡ there start.args.t.now start.args.s
+  at-point : (b : Bool) → c.is_there.result ≡ b → cond b (At p) Nothing ≡ there start.args.t.now start.args.s
   at-point b e =
-      ap (λ (x : Bool). cond x (At p) Nothing) (sym e ∙ c.is-there.ensures) ∙ ap (there start.args.t.now) (sym c.before.before.s.given.1)
+      ap (λ (x : Bool). cond x (At p) Nothing) (sym e ∙ c.is_there.ensures) ∙ ap (there start.args.t.now) (sym c.in-At.is)
 
-returns : tie.Need-returns
-returns c = at-point c.before true c.if1.true
+returns : tie.Need-returns-then-is_there
+returns c = at-point c.before true c.if-is_there.true
 
-returns-2 : tie.Need-returns-2
-returns-2 c = at-point c.before false c.if1.false
+returns-2 : tie.Need-returns-else-is_there
+returns-2 c = at-point c.before false c.if-is_there.false
 
-pub kept-spec : {M : Type 1} → statement M
-kept-spec =
+pub kept_spec : {M : Type 1} → statement M
+kept_spec =
     tie.close
     (tie.spec
     (λ c. search rules)
