@@ -37,20 +37,20 @@ seven-high p w = omega (arith, size-high p, w.high)
 small : (z : ℤ) → nat_abs z ≤ 600000 → nat_abs (to_z w32 (of_z w32 z)) ≤ 600000
 small z h = sized-back (whole z 600000 h) tt
 
-raised-requires : tie.Need-raised-requires
+raised-requires : tie.Need-raised-a-requires
 raised-requires c κs = let s = c.before.before.before in let p = s.args.p in let w = s.requires.0 in (w.depth, (lit≤ tt, small p.a (wide-bound p w)))
 
-raised-requires-2 : tie.Need-raised-requires-2
+raised-requires-2 : tie.Need-raised-b-requires
 raised-requires-2 c κs = let s = c.before.before.before.before.before in let p = s.args.p in let w = s.requires.0 in (w.depth, (lit≤ tt, small p.b (high-bound p w)))
 
-raised-requires-3 : tie.Need-raised-requires-3
+raised-requires-3 : tie.Need-raised-x-requires
 raised-requires-3 c κs =
     let s = c.before.before.before.before.before.before.before in
     let q = s.args.q in
     let w = s.requires.1.0 in
     (w.depth, (lit≤ tt, small q.a (wide-bound q w)))
 
-raised-requires-4 : tie.Need-raised-requires-4
+raised-requires-4 : tie.Need-raised-y-requires
 raised-requires-4 c κs =
     let s = c.before.before.before.before.before.before.before.before.before in
     let q = s.args.q in
@@ -58,37 +58,37 @@ raised-requires-4 c κs =
     (w.depth, (lit≤ tt, small q.b (high-bound q w)))
 
 -- what the calls gave, as numbers with a bound
-module _ (c : tie.After-factor-y) where
+module _ (c : tie.After-factor_y) where
   abbrev s : tie.Start
   s = c.before.before.before.before.before.before.before.before.before.before.before.before
 
   abbrev a : Mx w32
-  a = numerator s.args.p.a s.args.p.m.0 c.before.before.before.before.before.before.before.before.raised.result
-      (record { sfits = c.before.before.before.before.before.before.before.before.raised.type-inv })
-      c.before.before.before.before.before.before.before.before.raised.ensures
-      (wide-bound s.args.p s.pre.0) (seven-wide s.args.p s.pre.0)
+  a = numerator s.args.p.a s.args.p.m.0 c.raised-a.result
+      (record { sfits = c.raised-a.type_inv })
+      c.raised-a.ensures
+      (wide-bound s.args.p s.requires.0) (seven-wide s.args.p s.requires.0)
 
   abbrev b : Mx w32
-  b = numerator s.args.p.b s.args.p.m.0 c.before.before.before.before.before.before.raised2.result
-      (record { sfits = c.before.before.before.before.before.before.raised2.type-inv })
-      c.before.before.before.before.before.before.raised2.ensures
-      (high-bound s.args.p s.pre.0) (seven-high s.args.p s.pre.0)
+  b = numerator s.args.p.b s.args.p.m.0 c.raised-b.result
+      (record { sfits = c.raised-b.type_inv })
+      c.raised-b.ensures
+      (high-bound s.args.p s.requires.0) (seven-high s.args.p s.requires.0)
 
   abbrev x : Mx w32
-  x = numerator s.args.q.a s.args.q.m.0 c.before.before.before.before.raised3.result
-      (record { sfits = c.before.before.before.before.raised3.type-inv }) c.before.before.before.before.raised3.ensures
-      (wide-bound s.args.q s.pre.1.0) (seven-wide s.args.q s.pre.1.0)
+  x = numerator s.args.q.a s.args.q.m.0 c.raised-x.result
+      (record { sfits = c.raised-x.type_inv }) c.raised-x.ensures
+      (wide-bound s.args.q s.requires.1.0) (seven-wide s.args.q s.requires.1.0)
 
   abbrev y : Mx w32
-  y = numerator s.args.q.b s.args.q.m.0 c.before.before.raised4.result
-      (record { sfits = c.before.before.raised4.type-inv }) c.before.before.raised4.ensures
-      (high-bound s.args.q s.pre.1.0) (seven-high s.args.q s.pre.1.0)
+  y = numerator s.args.q.b s.args.q.m.0 c.raised-y.result
+      (record { sfits = c.raised-y.type_inv }) c.raised-y.ensures
+      (high-bound s.args.q s.requires.1.0) (seven-high s.args.q s.requires.1.0)
 
-  f : to_z w32 (of_z w32 c.before.factor-x.result) ≡ (factor_of s.args.c).x
-  f = to_z-of_z (record { sfits = c.before.factor-x.type-inv }) ∙ c.before.factor-x.ensures
+  f : to_z w32 (of_z w32 c.factor_x.result) ≡ (factor_of s.args.c).x
+  f = to_z-of_z {w = w32} (record { sfits = c.factor_x.type_inv }) ∙ c.factor_x.ensures
 
-  g : to_z w32 (of_z w32 c.factor-y.result) ≡ (factor_of s.args.c).y
-  g = to_z-of_z (record { sfits = c.factor-y.type-inv }) ∙ c.factor-y.ensures
+  g : to_z w32 (of_z w32 c.factor_y.result) ≡ (factor_of s.args.c).y
+  g = to_z-of_z {w = w32} (record { sfits = c.factor_y.type_inv }) ∙ c.factor_y.ensures
 
 along-requires : tie.Need-along-requires
 along-requires c κs =
@@ -103,8 +103,8 @@ returns c =
     c.along.ensures
     ∙ (λ i. along_of (factor (f e i) (g e i)) (back (a e) tt i) (back (b e) tt i) (back (x e -ᵐ a e) tt i) (back (y e -ᵐ b e) tt i))
 
-pub across-spec : {M : Type 1} → statement M
-across-spec =
+pub across_spec : {M : Type 1} → statement M
+across_spec =
     tie.close
     (tie.spec
     raised-requires

@@ -39,8 +39,8 @@ high c = three c *ᵐ b c +ᵐ (y c *ᵐ e c +ᵐ (x c +ᵐ y c) *ᵐ h c)
 returns : tie.Need-returns
 returns c = let s = c.before in c.normalise.ensures ∙ (λ i. normal_of (back (wide s) tt i) (back (high s) tt i) 8)
 
-pub along-spec : {M : Type 1} → statement M
-along-spec =
+pub along_spec : {M : Type 1} → statement M
+along_spec =
     tie.close
     (tie.spec
     (λ c. need (three c *ᵐ a c) tt)

@@ -10,22 +10,22 @@ use Rattle.across.proofs.power.Tie as tie
 abbrev three : ℕ → ℤ
 three m = pos (3 ^ m)
 
-returns-8 : tie.Need-returns-8
+returns-8 : tie.Need-returns-in_default
 returns-8 c =
     let s = c.before in
-    let r = c.match.rest in
+    let r = c.in_default.in_default-own.rest in
     sym (ap three (past-six s.args.k (omega (arith, s.requires)) r.0.0.0.0.0.0.1 r.0.0.0.0.0.1 r.0.0.0.0.1 r.0.0.0.1 r.0.0.1
     r.0.1 r.1))
 
-pub power-spec : {M : Type 1} → statement M
-power-spec =
+pub power_spec : {M : Type 1} → statement M
+power_spec =
     tie.close
     (tie.spec
-    (λ c. sym (ap three c.match.keys1))
-    (λ c. sym (ap three c.match.keys2))
-    (λ c. sym (ap three c.match.keys3))
-    (λ c. sym (ap three c.match.keys4))
-    (λ c. sym (ap three c.match.keys5))
-    (λ c. sym (ap three c.match.keys6))
-    (λ c. sym (ap three c.match.keys7))
+    (λ c. sym (ap three c.in-0.is))
+    (λ c. sym (ap three c.in-1.is))
+    (λ c. sym (ap three c.in-2.is))
+    (λ c. sym (ap three c.in-3.is))
+    (λ c. sym (ap three c.in-4.is))
+    (λ c. sym (ap three c.in-5.is))
+    (λ c. sym (ap three c.in-6.is))
     returns-8)

@@ -14,17 +14,17 @@ use Rattle.across.proofs.raised.Tie as tie
 module _ (c : tie.After-power) where
   few : nat_abs c.power.result ≤ 3 ^ 7
   few =
-      let m : c.before.before.before.args.d.0 - c.before.before.before.args.m.0 ≤ 7 = omega (arith, c.before.before.before.requires.1.0) in
+      let m : c.args.d.0 - c.args.m.0 ≤ 7 = omega (arith, c.requires.1.0) in
       subst (λ (z : ℤ). nat_abs z ≤ 3 ^ 7) (sym c.power.ensures) (pow-le-pow_right (lit< tt) m)
 
   abbrev product : Mx w32
-  product = whole c.before.before.before.args.x 600000 c.before.before.before.requires.1.1 *ᵐ whole c.power.result (3 ^ 7) few
+  product = whole c.args.x 600000 c.requires.1.1 *ᵐ whole c.power.result (3 ^ 7) few
 
-mul-result : tie.Need-overflow-mul-result
+mul-result : tie.Need-overflow_mul-result
 mul-result c = need (product c) tt
 
 returns : tie.Need-returns
-returns c = back (product c) tt ∙ ap (λ (z : ℤ). c.before.before.before.args.x *ℤ z) c.power.ensures
+returns c = back (product c) tt ∙ ap (λ (z : ℤ). c.args.x *ℤ z) c.power.ensures
 
-pub raised-spec : {M : Type 1} → statement M
-raised-spec = tie.close (tie.spec (λ c. search rules) (λ c κs. search rules) mul-result returns)
+pub raised_spec : {M : Type 1} → statement M
+raised_spec = tie.close (tie.spec (λ c. search rules) (λ c κs. search rules) mul-result returns)

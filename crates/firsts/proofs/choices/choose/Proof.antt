@@ -12,12 +12,12 @@ use Rattle.firsts.proofs.choices.choose.Statement.{statement}
 use Rattle.firsts.proofs.choices.choose.Tie as tie
 
 -- past the search for the first, by what it found
-module _ (c : tie.After-with-slot) where
+module _ (c : tie.After-with_slot-o) where
   abbrev s : tie.Start
   s = c.before.before.before
 
-  is : c.with-slot.result ≡ placed_of s.args.t.now (first_at s.args.v s.args.j)
-  is = c.with-slot.ensures ∙ ap (placed_of s.args.t.now) c.before.first_of.ensures
+  is : c.with_slot-o.result ≡ placed_of s.args.t.now (first_at s.args.v s.args.j)
+  is = c.with_slot-o.ensures ∙ ap (placed_of s.args.t.now) c.first_of.ensures
 
   at_first : (b : Bool) → holds s.args.t.now (first_at s.args.v s.args.j) ≡ b
       → cond b (Is false (placed_of s.args.t.now (first_at s.args.v s.args.j))) (kept_of s.args.t.now (second_at s.args.v s.args.j))
@@ -27,21 +27,21 @@ module _ (c : tie.After-with-slot) where
       ap (λ (x : Bool). cond x (Is false (placed_of s.args.t.now (first_at s.args.v s.args.j)))
       (kept_of s.args.t.now (second_at s.args.v s.args.j))) (sym e)
 
-returns : tie.Need-returns
+returns : tie.Need-returns-then-o-n
 returns c =
     let r = c.before.before in
     let a = (s r).args in
     ap (Is false) (is r)
-    ∙ at_first r _ (slot-there a.t.now a.n (s r).requires.0 (first_at a.v a.j) r.with-slot.result (is r) c.if1.true)
+    ∙ at_first r _ (slot-there a.t.now a.n (s r).requires.0 (first_at a.v a.j) r.with_slot-o.result (is r) c.if-o-n.true)
 
-returns-2 : tie.Need-returns-2
+returns-2 : tie.Need-returns
 returns-2 c =
     let x = c.before in
     let e = x.before in
     let r = e.before.before in
     let a = (s r).args in
-    c.kept.ensures ∙ ap (kept_of a.t.now) x.second-of.ensures
-    ∙ at_first r _ (slot-absent a.t.now a.n (s r).requires.0 (first_at a.v a.j) r.with-slot.result (is r) e.if1.false)
+    c.kept.ensures ∙ ap (kept_of a.t.now) x.second_of.ensures
+    ∙ at_first r _ (slot-absent a.t.now a.n (s r).requires.0 (first_at a.v a.j) r.with_slot-o.result (is r) e.if-o-n.false)
 
 pub choose_spec : {M : Type 1} → statement M
 choose_spec =

@@ -12,33 +12,33 @@ use Rattle.firsts.proofs.choices.kept.Statement.{statement}
 use Rattle.firsts.proofs.choices.kept.Tie as tie
 
 -- past the search, by what it found
-module _ (c : tie.After-with-slot) where
+module _ (c : tie.After-with_slot-o) where
   abbrev start : tie.Start
-  start = c.before.before.before.before.before
+  start = c.before.before.before
 
   abbrev p : Point
-  p = c.before.before.s.given.0.0
+  p = c.in-At.p
 
   at-point : (b : Bool) → holds start.args.t.now p ≡ b → cond b (Is true (placed_of start.args.t.now p)) Neither
       ≡ kept_of start.args.t.now start.args.s
   at-point b e =
       ap (λ (x : Bool). cond x (Is true (placed_of start.args.t.now p)) Neither) (sym e)
-      ∙ ap (kept_of start.args.t.now) (sym c.before.before.s.given.1)
+      ∙ ap (kept_of start.args.t.now) (sym c.in-At.is)
 
-returns : tie.Need-returns
+returns : tie.Need-returns-then-o-n
 returns c =
     let r = c.before.before in
     let s = start r in
-    ap (Is true) r.with-slot.ensures
-    ∙ at-point r _ (slot-there s.args.t.now s.args.n s.pre (p r) r.with-slot.result r.with-slot.ensures c.if1.true)
+    ap (Is true) r.with_slot-o.ensures
+    ∙ at-point r _ (slot-there s.args.t.now s.args.n s.requires (p r) r.with_slot-o.result r.with_slot-o.ensures c.if-o-n.true)
 
-returns-2 : tie.Need-returns-2
+returns-2 : tie.Need-returns-else-o-n
 returns-2 c =
     let r = c.before.before in
     let s = start r in
-    at-point r _ (slot-absent s.args.t.now s.args.n s.pre (p r) r.with-slot.result r.with-slot.ensures c.if1.false)
+    at-point r _ (slot-absent s.args.t.now s.args.n s.requires (p r) r.with_slot-o.result r.with_slot-o.ensures c.if-o-n.false)
 
-pub kept-spec : {M : Type 1} → statement M
-kept-spec =
+pub kept_spec : {M : Type 1} → statement M
+kept_spec =
     tie.close
     (tie.spec (λ c. search rules) (λ c κs. search rules) (λ c. search rules) returns returns-2 (λ c. search rules))

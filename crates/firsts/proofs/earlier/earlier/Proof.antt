@@ -10,17 +10,17 @@ use Rattle.firsts.specs.Earlier.{earlier_in}
 use Rattle.firsts.proofs.earlier.earlier.Statement.{statement}
 use Rattle.firsts.proofs.earlier.earlier.Tie as tie
 
-returns : tie.Need-returns
+returns : tie.Need-returns-then-s-k
 unfolding earlier_in
 returns c =
-    let a = c.before.before.before.args in
-    c.held_in.ensures ∙ ap (λ (b : Bool). cond b (held_in (slot_at a.t.now a.s)) Absent) (sym (lt-ltb a.s a.k c.before.if1.true))
+    let a = c.args in
+    c.held_in.ensures ∙ ap (λ (b : Bool). cond b (held_in (slot_at a.t.now a.s)) Absent) (sym (lt-ltb a.s a.k c.if-s-k.true))
 
-returns-2 : tie.Need-returns-2
+returns-2 : tie.Need-returns-else-s-k
 unfolding earlier_in
 returns-2 c =
-    let a = c.before.before.args in
-    ap (λ (b : Bool). cond b (held_in (slot_at a.t.now a.s)) Absent) (sym (le-ltb a.s a.k c.if1.false))
+    let a = c.args in
+    ap (λ (b : Bool). cond b (held_in (slot_at a.t.now a.s)) Absent) (sym (le-ltb a.s a.k c.if-s-k.false))
 
-pub earlier-spec : {M : Type 1} → statement M
-earlier-spec = tie.close (tie.spec (λ c κs. search rules) returns returns-2)
+pub earlier_spec : {M : Type 1} → statement M
+earlier_spec = tie.close (tie.spec (λ c κs. search rules) returns returns-2)

@@ -4,11 +4,11 @@ use borrow.Author.Rules.{rules}
 use Rattle.firsts.proofs.earlier.inners_before.Statement.{statement}
 use Rattle.firsts.proofs.earlier.inners_before.Tie as tie
 
-pub inners-before-spec : {M : Type 1} → statement M
-inners-before-spec =
+pub inners_before_spec : {M : Type 1} → statement M
+inners_before_spec =
     tie.close
     (tie.spec
     (λ c κs. search rules)
     (λ c κs. search rules)
     (λ c κs. search rules)
-    (λ c i. c.before.before.inner-before.ensures i || (c.before.inner-before2.ensures i || c.inner-before3.ensures i)))
+    (λ c i. c.inner_before-adjacent.ensures i || (c.inner_before-opposite.ensures i || c.inner_before-next.ensures i)))

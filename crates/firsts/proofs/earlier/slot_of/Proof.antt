@@ -11,31 +11,31 @@ use Rattle.firsts.proofs.earlier.slot_of.Statement.{statement}
 use Rattle.firsts.proofs.earlier.slot_of.Tie as tie
 
 -- past the search, by what it found
-past : (c : tie.After-find) (o : Found) → c.find.result ≡ o
-    → slot_found (slots_of c.before.before.args.t.now) o ≡ slot_in c.before.before.args.t.now c.before.before.args.p
+past : (c : tie.After-find-f) (o : Found) → c.find-f.result ≡ o
+    → slot_found (slots_of c.args.t.now) o ≡ slot_in c.args.t.now c.args.p
 unfolding slot_in
-past c o e = ap (slot_found (slots_of c.before.before.args.t.now)) (sym e ∙ c.find.ensures.0)
+past c o e = ap (slot_found (slots_of c.args.t.now)) (sym e ∙ c.find-f.ensures.0)
 
-returns-2 : tie.Need-returns-2
+returns-2 : tie.Need-returns-in-Free
 returns-2 c =
-    let f = c.before.before in
+    let f = c.before in
     let s = f.before.before in
-    sym (table-slots s.args.t.now s.args.n s.requires) ∙ past f (found.Free _) c.enum_told.given.1
+    sym (table-slots s.args.t.now s.args.n s.requires) ∙ past f (found.Free _) c.in-Free.is
 
-returns-3 : tie.Need-returns-3
+returns-3 : tie.Need-returns-in-Full
 returns-3 c =
-    let f = c.before.before in
+    let f = c.before in
     let s = f.before.before in
-    sym (table-slots s.args.t.now s.args.n s.requires) ∙ past f found.Full c.enum-told2.given.1
+    sym (table-slots s.args.t.now s.args.n s.requires) ∙ past f found.Full c.in-Full.is
 
-pub slot-of-spec : {M : Type 1} → statement M
-slot-of-spec =
+pub slot_of_spec : {M : Type 1} → statement M
+slot_of_spec =
     tie.close
     (tie.spec
     (λ c κs. search rules)
     (λ c. search rules)
     (λ c. search rules)
     (λ c. search rules)
-    (λ c. past c.before.before.before (found.At _) c.before.f.given.1)
+    (λ c. past c.before (found.At _) c.in-At.is)
     returns-2
     returns-3)

@@ -4,7 +4,7 @@ use Rattle.firsts.proofs.earlier.with_slot.Statement.{statement}
 use Rattle.firsts.proofs.earlier.with_slot.Tie as tie
 
 returns : tie.Need-returns
-returns c = λ i. record { at = c.before.before.args.at; slot = c.slot_of.ensures i }
+returns c = λ i. record { at = c.args.at; slot = c.slot_of-slot.ensures i }
 
-pub with-slot-spec : {M : Type 1} → statement M
-with-slot-spec = tie.close (tie.spec (λ c κs. search rules) returns)
+pub with_slot_spec : {M : Type 1} → statement M
+with_slot_spec = tie.close (tie.spec (λ c κs. search rules) returns)

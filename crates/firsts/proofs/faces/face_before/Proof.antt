@@ -9,36 +9,36 @@ use Rattle.firsts.proofs.faces.face_before.Statement.{statement}
 use Rattle.firsts.proofs.faces.face_before.Tie as tie
 
 -- the face read from its second vertex on, and from its third
-module _ (c : tie.After-face-in) where
-  second : (b : Bool) → c.face-in.result ≡ b
-      → face_seen c.before.before.before.args.t.now c.before.before.before.args.k (turned c.before.before.before.args.f) ≡ b
+module _ (c : tie.After-face_in) where
+  second : (b : Bool) → c.face_in.result ≡ b
+      → face_seen c.args.t.now c.args.k (turned c.args.f) ≡ b
   second b e =
       let s = c.before.before.before in
       let a = s.args in
-      (λ i. face_in a.t.now a.k (sym c.before.turn.ensures i) (sym s.requires.1.0 i)) ∙ sym c.face-in.ensures ∙ e
+      (λ i. face_in a.t.now a.k (sym c.turn-second.ensures i) (sym s.requires.1.0 i)) ∙ sym c.face_in.ensures ∙ e
 
-module _ (c : tie.After-face-in2) where
-  third : (b : Bool) → c.face-in2.result ≡ b
-      → face_seen c.before.before.before.before.before.before.args.t.now c.before.before.before.before.before.before.args.k
-      (turned (turned c.before.before.before.before.before.before.args.f)) ≡ b
+module _ (c : tie.After-face_in-2) where
+  third : (b : Bool) → c.face_in-2.result ≡ b
+      → face_seen c.args.t.now c.args.k
+      (turned (turned c.args.f)) ≡ b
   third b e =
       let s = c.before.before.before in
       let z = s.before.before.before in
       let a = z.args in
-      (λ i. face_in a.t.now a.k (sym (c.before.turn2.ensures ∙ ap turned s.before.turn.ensures) i) (sym z.requires.1.1.0 i))
-      ∙ sym c.face-in2.ensures ∙ e
+      (λ i. face_in a.t.now a.k (sym (c.turn-third.ensures ∙ ap turned s.turn-second.ensures) i) (sym z.requires.1.1.0 i))
+      ∙ sym c.face_in-2.ensures ∙ e
 
-returns : tie.Need-returns
+returns : tie.Need-returns-then-face_in
 returns c =
-    let a = c.before.before.before.before.args in
-    before-second a.t.now a.k a.f (second c.before true c.if1.true)
+    let a = c.args in
+    before-second a.t.now a.k a.f (second c.before true c.if-face_in.true)
 
-returns-2 : tie.Need-returns-2
+returns-2 : tie.Need-returns-then-face_in-2
 returns-2 c =
-    let a = c.before.before.before.before.before.before.before.args in
-    before-third a.t.now a.k a.f (third c.before true c.if2.true)
+    let a = c.args in
+    before-third a.t.now a.k a.f (third c.before true c.if-face_in-2.true)
 
-returns-3 : tie.Need-returns-3
+returns-3 : tie.Need-returns
 returns-3 c =
     let r = c.before in
     let e = r.before in
@@ -47,13 +47,13 @@ returns-3 c =
     let s = x.before in
     let z = s.before.before.before in
     let a = z.args in
-    c.face-in3.ensures
-    ∙ (λ i. face_in a.t.now a.k ((r.turn3.ensures ∙ ap turned (t.before.turn2.ensures ∙ ap turned s.before.turn.ensures)) i)
+    c.face_in-3.ensures
+    ∙ (λ i. face_in a.t.now a.k ((r.turn.ensures ∙ ap turned (t.turn-third.ensures ∙ ap turned s.turn-second.ensures)) i)
     (z.requires.1.1.1 i))
-    ∙ before-fourth a.t.now a.k a.f (second s false x.if1.false) (third t false e.if2.false)
+    ∙ before-fourth a.t.now a.k a.f (second s false x.if-face_in.false) (third t false e.if-face_in-2.false)
 
-pub face-before-spec : {M : Type 1} → statement M
-face-before-spec =
+pub face_before_spec : {M : Type 1} → statement M
+face_before_spec =
     tie.close
     (tie.spec
     (λ c κs. search rules)

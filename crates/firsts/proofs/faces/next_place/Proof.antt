@@ -8,11 +8,11 @@ use borrow.Author.Tests.{eq-eqb, ne_eqb}
 use Rattle.firsts.proofs.faces.next_place.Statement.{statement}
 use Rattle.firsts.proofs.faces.next_place.Tie as tie
 
-returns : tie.Need-returns
-returns c = let a = c.before.args in (ap (λ (b : Bool). cond b 0 (a.j + 1)) (sym (eq-eqb (a.j + 1) a.d c.if1.true)), omega arith)
+returns : tie.Need-returns-then-i-d
+returns c = let a = c.args in (ap (λ (b : Bool). cond b 0 (a.j + 1)) (sym (eq-eqb (a.j + 1) a.d c.if-i-d.true)), omega arith)
 
-returns-2 : tie.Need-returns-2
-returns-2 c = let a = c.before.args in (ap (λ (b : Bool). cond b 0 (a.j + 1)) (sym (ne_eqb (a.j + 1) a.d c.if1.false)), omega arith)
+returns-2 : tie.Need-returns-else-i-d
+returns-2 c = let a = c.args in (ap (λ (b : Bool). cond b 0 (a.j + 1)) (sym (ne_eqb (a.j + 1) a.d c.if-i-d.false)), omega arith)
 
-pub next-place-spec : {M : Type 1} → statement M
-next-place-spec = tie.close (tie.spec (λ c. search rules) returns returns-2)
+pub next_place_spec : {M : Type 1} → statement M
+next_place_spec = tie.close (tie.spec (λ c. search rules) returns returns-2)

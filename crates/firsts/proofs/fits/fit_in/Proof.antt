@@ -15,37 +15,37 @@ use Rattle.firsts.proofs.fits.fit_in.Statement.{statement}
 use Rattle.firsts.proofs.fits.fit_in.Tie as tie
 
 -- the record that the slot holds
-module _ (c : tie.Else2) where
+module _ (c : tie.Else-u-eq0) where
   abbrev e : tie.After-earlier
-  e = c.before.before.before.before.before
+  e = c.before.before.before
 
   abbrev s : tie.Start
   s = e.before.before.before
 
   abbrev u : Record
-  u = c.before.before.before.u.given.0.0
+  u = c.in-Held.u
 
   all : s.args.n ≤ slots_of s.args.t.now
-  all = omega (arith, s.pre.1)
+  all = omega (arith, s.requires.1)
 
   ok : valid_of u ≡ true
-  ok = earlier-valid s.args.t.now s.pre.0 s.args.n all s.args.s u (sym e.earlier.ensures ∙ c.before.before.before.u.given.1)
+  ok = earlier-valid s.args.t.now s.requires.0 s.args.n all s.args.s u (sym e.earlier.ensures ∙ c.in-Held.is)
 
 fit-requires : tie.Need-fit-requires
-fit-requires c κs = (valid-inner (u c) 0 (ok c) (omega (arith, c.if2.false)), valid-turn (u c) (of-true (ok c)))
+fit-requires c κs = (valid-inner (u c) 0 (ok c) (omega (arith, c.if-u-eq0.false)), valid-turn (u c) (of-true (ok c)))
 
-returns-4 : tie.Need-returns-4
+returns-4 : tie.Need-returns-else-u-eq0
 returns-4 c =
     let z = c.before in
     let a = (s z).args in
-    let x = earlier-slot a.t.now (s z).requires.0 a.n (all z) a.s (u z) (sym (e z).earlier.ensures ∙ z.before.before.before.u.given.1) in
+    let x = earlier-slot a.t.now (s z).requires.0 a.n (all z) a.s (u z) (sym (e z).earlier.ensures ∙ z.in-Held.is) in
     λ h. (
-      not-false a.there (e z).before.if1.false,
+      not-false a.there (e z).if-not-there.false-raw,
       record { rec = u z; below = omega (arith, x.0, all z); holds = x.1; fit = c.fit.ensures h },
     )
 
-pub fit-in-spec : {M : Type 1} → statement M
-fit-in-spec =
+pub fit_in_spec : {M : Type 1} → statement M
+fit_in_spec =
     tie.close
     (tie.spec
     (λ c h. absurd (omega (arith, h)))

@@ -19,13 +19,13 @@ returns c =
     let a = s.args in
     let t = a.t.now in
     record {
-      adjacent = fit-renamed t a.a a.b f1.fit-asked.result s.requires.0.1 refl b4.back4.ensures b5.back5.ensures f1.fit-asked.ensures;
-      opposite = fit-renamed-true t a.o f0.fit-in.result b1.back.ensures b2.back2.ensures b3.back3.ensures f0.fit-in.ensures;
-      next = fit-renamed t a.b a.a c.fit-asked2.result s.requires.0.1 b6.back6.ensures refl refl c.fit-asked2.ensures;
+      adjacent = fit-renamed t a.a a.b f1.fit_asked-adjacent.result s.requires.0.1 refl b4.back-4.ensures b5.back-5.ensures f1.fit_asked-adjacent.ensures;
+      opposite = fit-renamed-true t a.o f0.fit_in-opposite.result b1.back.ensures b2.back-2.ensures b3.back-3.ensures f0.fit_in-opposite.ensures;
+      next = fit-renamed t a.b a.a c.fit_asked-next.result s.requires.0.1 b6.back-6.ensures refl refl c.fit_asked-next.ensures;
     }
 
-pub fits-by-spec : {M : Type 1} → statement M
-fits-by-spec =
+pub fits_by_spec : {M : Type 1} → statement M
+fits_by_spec =
     tie.close
     (tie.spec
     (λ c κs. search rules)

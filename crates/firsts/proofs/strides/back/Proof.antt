@@ -7,11 +7,11 @@ use borrow.Author.Tests.{lt-ltb, le-ltb}
 use Rattle.firsts.proofs.strides.back.Statement.{statement}
 use Rattle.firsts.proofs.strides.back.Tie as tie
 
-returns : tie.Need-returns
-returns c = let x = c.before.args.c in ap (λ (b : Bool). cond b (x + 6) (x - 6)) (sym (lt-ltb (x % 16) 6 c.if1.true))
+returns : tie.Need-returns-then-c-lt6
+returns c = let x = c.args.c in ap (λ (b : Bool). cond b (x + 6) (x - 6)) (sym (lt-ltb (x % 16) 6 c.if-c-lt6.true))
 
-returns-2 : tie.Need-returns-2
-returns-2 c = let x = c.before.args.c in ap (λ (b : Bool). cond b (x + 6) (x - 6)) (sym (le-ltb (x % 16) 6 c.if1.false))
+returns-2 : tie.Need-returns-else-c-lt6
+returns-2 c = let x = c.args.c in ap (λ (b : Bool). cond b (x + 6) (x - 6)) (sym (le-ltb (x % 16) 6 c.if-c-lt6.false))
 
-pub back-spec : {M : Type 1} → statement M
-back-spec = tie.close (tie.spec (λ c. search rules) (λ c. search rules) returns returns-2)
+pub back_spec : {M : Type 1} → statement M
+back_spec = tie.close (tie.spec (λ c. search rules) (λ c. search rules) returns returns-2)

@@ -5,11 +5,11 @@ use Rattle.firsts.specs.Strides.{side_row}
 use Rattle.firsts.proofs.strides.sides.Statement.{statement}
 use Rattle.firsts.proofs.strides.sides.Tie as tie
 
-returns : tie.Need-returns
-returns c = c.row.ensures ∙ ap (side_row c.before.before.args.d) (sym c.before.if1.true)
+returns : tie.Need-returns-then-second
+returns c = c.row.ensures ∙ ap (side_row c.args.d) (sym c.if-second.true)
 
-returns-2 : tie.Need-returns-2
-returns-2 c = c.row2.ensures ∙ ap (side_row c.before.before.args.d) (sym c.before.if1.false)
+returns-2 : tie.Need-returns-else-second
+returns-2 c = c.row-else-second.ensures ∙ ap (side_row c.args.d) (sym c.if-second.false)
 
-pub sides-spec : {M : Type 1} → statement M
-sides-spec = tie.close (tie.spec (λ c κs. search rules) (λ c κs. search rules) returns returns-2)
+pub sides_spec : {M : Type 1} → statement M
+sides_spec = tie.close (tie.spec (λ c κs. search rules) (λ c κs. search rules) returns returns-2)

@@ -16,19 +16,19 @@ part s = part_of s.args.row s.args.j
 at : (s : tie.Start) (b : Bool) → ℕ
 at s b = cond b 0 (16 * (s.args.n.0 + part s / 16) + (s.args.k + part s % 16) % 12)
 
-returns : tie.Need-returns
+returns : tie.Need-returns-then-r-eq63
 unfolding stride_of at
-returns c = let s = c.before in (sym (ap (at s) (eq-eqb (part s) 63 c.if1.true)), omega arith)
+returns c = let s = c.before in (sym (ap (at s) (eq-eqb (part s) 63 c.if-r-eq63.true)), omega arith)
 
-returns-2 : tie.Need-returns-2
+returns-2 : tie.Need-returns
 unfolding stride_of at
 returns-2 c =
     let s = c.before.before in
     let h = s.requires.1.1 in
-    (sym (ap (at s) (ne_eqb (part s) 63 c.before.if1.false)), omega arith)
+    (sym (ap (at s) (ne_eqb (part s) 63 c.if-r-eq63.false)), omega arith)
 
-pub stride-spec : {M : Type 1} → statement M
-stride-spec =
+pub stride_spec : {M : Type 1} → statement M
+stride_spec =
     tie.close
     (tie.spec
     (λ c. search rules)

@@ -20,7 +20,7 @@ use Rattle.mesh.proofs.calls.subdivide_at.Tie as tie
 -- past the search
 module _ (f : tie.After-find) where
   abbrev s : tie.Start
-  s = f.before.before.before
+  s = f.before.before
 
   abbrev t : List ℕ
   t = s.args.t.now
@@ -39,57 +39,56 @@ module _ (f : tie.After-find) where
   comes : (l : Looked) → look_up t point ≡ l → subdivide_looked t l ≡ subdivide_looked t (look_up t point)
   comes l e = ap (subdivide_looked t) (sym e)
 
-held-in-requires : tie.Need-held-in-requires
+held-in-requires : tie.Need-held_in-requires
 held-in-requires c κs =
-    let k = c.before.before in
-    let f = k.before.before in
-    at_room (t f) (s f).args.n (s f).requires.0 (point f) k.i.given.0.0 (ended f _ k.i.given.1)
+    let k = c in
+    let f = k.before in
+    at_room (t f) (s f).args.n (s f).requires.0 (point f) k.in-At.i (ended f _ k.in-At.is)
 
 -- past the slot where it ended
-abbrev searched : tie.After-held-in → tie.After-find
-searched h = h.before.before.before.before.before
+abbrev searched : tie.After-held_in → tie.After-find
+searched h = h.before.before
 
 -- what the slot holds is what stands at the point
-in-slot : (h : tie.After-held-in) → look_up (t (searched h)) (point (searched h)) ≡ h.held_in.result
-in-slot h = let k = h.before.before.before in looked (searched h) (found.At k.i.given.0.0) k.i.given.1 ∙ sym h.held_in.ensures
+in-slot : (h : tie.After-held_in) → look_up (t (searched h)) (point (searched h)) ≡ h.held_in.result
+in-slot h = let k = h.before in looked (searched h) (found.At k.in-At.i) k.in-At.is ∙ sym h.held_in.ensures
 
 -- the vertex there
-vertex : (k : tie.After-v) → let f = searched k.before.before in look_up (t f) (point f) ≡ Held k.v.given.0.0
-vertex k = in-slot k.before.before ∙ k.v.given.1
+vertex : (k : tie.In-Held) → let f = searched k.before in look_up (t f) (point f) ≡ Held k.in-Held.v
+vertex k = in-slot k.before ∙ k.in-Held.is
 
-subdivide-vertex-requires : tie.Need-subdivide-vertex-requires
+subdivide-vertex-requires : tie.Need-subdivide_vertex-requires
 subdivide-vertex-requires c κs =
-    let k = c.before.before in
-    let h = k.before.before in
-    let f = searched h in
-    let v = k.v.given.0.0 in
-    let i = h.before.before.before.i.given in
-    let o = test-order (t f) (s f).pre.1.0 in (
-      (s f).pre.0,
+    let k = c.before in
+    let h = k in
+    let f = searched h.before in
+    let v = k.in-Held.v in
+    let o = test-order (t f) (s f).requires.1.0 in (
+      (s f).requires.0,
       (
         looked-standing (t f) o (point f) v (vertex k),
-        (ap (find_of (t f)) (lookup-point (t f) o (point f) v (vertex k)) ∙ ended f _ i.1, (s f).pre.1.1),
+        (ap (find_of (t f)) (lookup-point (t f) o (point f) v (vertex k)) ∙ ended f _ h.in-At.is, (s f).requires.1.1),
       ),
     )
 
-returns : tie.Need-returns
-returns c = let h = c.before.before in after-parts (comes (searched h) Absent (in-slot h ∙ c.enum_told.given.1))
+returns : tie.Need-returns-in-Absent
+returns c = let h = c.before in after-parts (comes (searched h) Absent (in-slot h ∙ c.in-Absent.is))
 
-returns-2 : tie.Need-returns-2
+returns-2 : tie.Need-returns-in-Held
 returns-2 c =
     let w = c.before.before in
-    let k = w.before.before.before in
-    let p = after-parts (comes (searched k.before.before) (Held k.v.given.0.0) (vertex k)) in
-    (w.subdivide-vertex.ensures.0 ∙ p.0, w.subdivide-vertex.ensures.1 ∙ p.1)
+    let k = w.before.before in
+    let p = after-parts (comes (searched k.before) (Held k.in-Held.v) (vertex k)) in
+    (w.subdivide_vertex.ensures.0 ∙ p.0, w.subdivide_vertex.ensures.1 ∙ p.1)
 
-returns-3 : tie.Need-returns-3
-returns-3 c = let f = c.before.before in after-parts (comes f Absent (looked f (found.Free _) c.enum-told2.given.1))
+returns-3 : tie.Need-returns-in-Free
+returns-3 c = let f = c.before in after-parts (comes f Absent (looked f (found.Free _) c.in-Free.is))
 
-returns-4 : tie.Need-returns-4
-returns-4 c = let f = c.before.before in after-parts (comes f Absent (looked f found.Full c.enum-told3.given.1))
+returns-4 : tie.Need-returns-in-Full
+returns-4 c = let f = c.before in after-parts (comes f Absent (looked f found.Full c.in-Full.is))
 
-pub subdivide-at-spec : {M : Type 1} → statement M
-subdivide-at-spec =
+pub subdivide_at_spec : {M : Type 1} → statement M
+subdivide_at_spec =
     tie.close
     (tie.spec
     (λ c κs. search rules)

@@ -15,9 +15,9 @@ returns c =
     let w = c.before.before in
     let s = w.before.before.before.before in
     let a = s.args in
-    let point = asked₂ (λ x y. normal_of x y a.m) s.ranges.a s.ranges.b w.before.normalise.ensures in
+    let point = asked₂ (λ x y. normal_of x y a.m) s.ranges.a s.ranges.b w.normalise.ensures in
     let p = after-parts (call-looked a.t.now a.a a.b a.m s.requires.1.0 _ (ap (look_up a.t.now) point)) in
-    (w.subdivide-at.ensures.0 ∙ p.0, w.subdivide-at.ensures.1 ∙ p.1)
+    (w.subdivide_at.ensures.0 ∙ p.0, w.subdivide_at.ensures.1 ∙ p.1)
 
-pub subdivide-ordered-spec : {M : Type 1} → statement M
-subdivide-ordered-spec = tie.close (tie.spec (λ c κs. search rules) (λ c κs. search rules) (λ c. search rules) returns)
+pub subdivide_ordered_spec : {M : Type 1} → statement M
+subdivide_ordered_spec = tie.close (tie.spec (λ c κs. search rules) (λ c κs. search rules) (λ c. search rules) returns)

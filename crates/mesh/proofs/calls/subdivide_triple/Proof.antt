@@ -18,91 +18,91 @@ use Rattle.mesh.specs.CallLaws.{after-parts}
 use Rattle.mesh.specs.Subdivide.{subdivide_of}
 use Rattle.mesh.proofs.calls.subdivide_triple.Tie as tie
 
-mul-a : tie.Need-overflow-mul-a
+mul-a : tie.Need-overflow_mul-a
 mul-a c = search rules
 
-mul-a-2 : tie.Need-overflow-mul-a-2
+mul-a-2 : tie.Need-offset_bounds-points-i
 mul-a-2 c = search rules
 
-shared-slice-copy-out-a : tie.Need-shared-slice-copy-out-a
+shared-slice-copy-out-a : tie.Need-bounds-points-i
 shared-slice-copy-out-a c = search rules
 
-mul-b : tie.Need-overflow-mul-b
+mul-b : tie.Need-overflow_mul-b
 mul-b c = search rules
 
-add-b : tie.Need-overflow-add-b
+add-b : tie.Need-overflow_add-b
 add-b c = search rules
 
-mul-b-2 : tie.Need-overflow-mul-b-2
+mul-b-2 : tie.Need-offset_bounds-points-i-2
 mul-b-2 c = search rules
 
-shared-slice-copy-out-b : tie.Need-shared-slice-copy-out-b
+shared-slice-copy-out-b : tie.Need-bounds-points-i-2
 shared-slice-copy-out-b c = search rules
 
-mul-m : tie.Need-overflow-mul-m
+mul-m : tie.Need-overflow_mul-m
 mul-m c = search rules
 
-add-m : tie.Need-overflow-add-m
+add-m : tie.Need-overflow_add-m
 add-m c = search rules
 
-mul-m-2 : tie.Need-overflow-mul-m-2
+mul-m-2 : tie.Need-offset_bounds-points-i-3
 mul-m-2 c = search rules
 
-shared-slice-copy-out-m : tie.Need-shared-slice-copy-out-m
+shared-slice-copy-out-m : tie.Need-bounds-points-i-3
 shared-slice-copy-out-m c = search rules
 
 -- the triple's m, as the machine reads it
-abbrev M : tie.After-m → ℤ
-M c = get_or c.before.before.before.before.args.points.now (3 * c.before.before.before.before.args.i + 2) (pos 0)
+abbrev M : tie.After-m-1 → ℤ
+M c = get_or c.args.points.now (3 * c.args.i + 2) (pos 0)
 
-read : (c : tie.After-m) → to_z w32 (of_z w32 (M c)) ≡ M c
-read c = to_z-of_z (record { sfits = c.m.given })
+read : (c : tie.After-m-1) → to_z w32 (of_z w32 (M c)) ≡ M c
+read c = to_z-of_z {w = w32} (record { sfits = c.m-1.given })
 
-returns : tie.Need-returns
+returns : tie.Need-returns-then-m-lt0
 returns c =
-    let s = c.before.before.before.before.before.args in
+    let s = c.args in
     after-parts (triple-3 s.t.now s.points.now s.i
-    (below-byte (M c.before) (ap (λ (z : ℤ). lt_z z (pos 0)) (sym (read c.before)) ∙ c.if1.true)))
+    (below-byte (M c.before) (ap (λ (z : ℤ). lt_z z (pos 0)) (sym (read c.before)) ∙ c.if-m-lt0.true)))
 
-returns-2 : tie.Need-returns-2
+returns-2 : tie.Need-returns-then-m-gt255
 returns-2 c =
     let k = c.before.before in
-    let s = k.before.before.before.before.args in
-    after-parts (triple-3 s.t.now s.points.now s.i (above-byte (M k) (ap (λ (z : ℤ). lt_z (pos 255) z) (sym (read k)) ∙ c.if2.true)))
+    let s = k.args in
+    after-parts (triple-3 s.t.now s.points.now s.i (above-byte (M k) (ap (λ (z : ℤ). lt_z (pos 255) z) (sym (read k)) ∙ c.if-m-gt255.true)))
 
-byte : (c : tie.Else2) → Byte (M c.before.before)
+byte : (c : tie.Else-m-gt255) → Byte (M c.before.before)
 byte c =
     let k = c.before.before in
-    within-byte (M k) (ap (λ (z : ℤ). lt_z z (pos 0)) (sym (read k)) ∙ c.before.if1.false) (ap (λ (z : ℤ). lt_z (pos 255) z) (sym (read k)) ∙ c.if2.false)
+    within-byte (M k) (ap (λ (z : ℤ). lt_z z (pos 0)) (sym (read k)) ∙ c.if-m-lt0.false) (ap (λ (z : ℤ). lt_z (pos 255) z) (sym (read k)) ∙ c.if-m-gt255.false)
 
-cast-subdivide-ordered : tie.Need-overflow-cast-subdivide-ordered
+cast-subdivide-ordered : tie.Need-overflow_cast-m
 cast-subdivide-ordered c =
     let e = c.before in
     let k = e.before.before in
     let b = byte e in
     subst (λ (z : ℤ). T (non_neg z) × Fits w8 (nat_abs z)) (sym (read k)) (b.sign, record { fits = b.size })
 
-subdivide-ordered-requires : tie.Need-subdivide-ordered-requires
+subdivide-ordered-requires : tie.Need-subdivide_ordered-requires
 subdivide-ordered-requires c κs = search rules
 
-same_length : tie.Need-same-length
+same_length : tie.Need-shape_of-t
 same_length c = search rules
 
-returns-3 : tie.Need-returns-3
+returns-3 : tie.Need-returns
 returns-3 c =
     let w = c.before.before in
     let e = w.before.before in
     let k = e.before.before in
-    let s = k.before.before.before.before.args in
+    let s = k.args in
     let t = s.t.now in
-    let fa : SFits w32 (get_or s.points.now (3 * s.i) (pos 0)) = record { sfits = k.before.before.a.given } in
-    let fb : SFits w32 (get_or s.points.now (3 * s.i + 1) (pos 0)) = record { sfits = k.before.b.given } in
+    let fa : SFits w32 (get_or s.points.now (3 * s.i) (pos 0)) = record { sfits = k.a-1.given } in
+    let fb : SFits w32 (get_or s.points.now (3 * s.i + 1) (pos 0)) = record { sfits = k.b-1.given } in
     let same = (λ i. subdivide_of t (to_z-of_z fa i) (to_z-of_z fb i) (nat_abs (read k i))) ∙ triple-one t s.points.now s.i (byte e).is in
     let p = after-parts same in
-    (w.subdivide-ordered.ensures.0 ∙ p.0, w.subdivide-ordered.ensures.1 ∙ p.1)
+    (w.subdivide_ordered.ensures.0 ∙ p.0, w.subdivide_ordered.ensures.1 ∙ p.1)
 
-pub subdivide-triple-spec : {M : Type 1} → statement M
-subdivide-triple-spec =
+pub subdivide_triple_spec : {M : Type 1} → statement M
+subdivide_triple_spec =
     tie.close
     (tie.spec
     mul-a

@@ -23,27 +23,27 @@ use Rattle.mesh.specs.Met.{OldIn}
 use Rattle.mesh.specs.MetLaws.{old-more}
 use Rattle.mesh.proofs.checks.adjacents_fit.Tie as tie
 
-abbrev invariant-loop : tie.invariant-loop
-invariant-loop t v old n slots₀ j₀ slots j = (j ≤ 6) × (length slots ≡ 6) × (upto j (adjacent_fits t v) ≡ true) × OldIn t v slots j
+abbrev invariant-loop-j : tie.invariant-loop-j
+invariant-loop-j t v old n slots₀ j₀ slots j = (j ≤ 6) × (length slots ≡ 6) × (upto j (adjacent_fits t v) ≡ true) × OldIn t v slots j
 
-abbrev decreases-loop : tie.decreases-loop
-decreases-loop t v old n slots₀ j₀ slots j = 6 - j
+abbrev decreases-loop-j : tie.decreases-loop-j
+decreases-loop-j t v old n slots₀ j₀ slots j = 6 - j
 
-loop-holds : tie.Need-loop-init invariant-loop decreases-loop
-loop-holds c = (omega arith, c.before.requires.1, refl, λ j h. absurd (omega arith))
+loop-holds : tie.Need-loop-j-init invariant-loop-j decreases-loop-j
+loop-holds c = (omega arith, c.requires.1, refl, λ j h. absurd (omega arith))
 
-point-at-requires : tie.Need-point-at-requires invariant-loop decreases-loop
+point-at-requires : tie.Need-point_at-requires invariant-loop-j decreases-loop-j
 point-at-requires c κs =
     let s = c.before.before.before in
     let r = s.requires.0.1.0 in
-    (s.requires.0.1.1, (ready-inner r, omega (arith, r.six, c.loop-test.true)))
+    (s.requires.0.1.1, (ready-inner r, omega (arith, r.six, c.loop-j-test.true)))
 
 -- past the search for the place that the loop has come to
-module _ (f : tie.After-find invariant-loop decreases-loop) where
-  abbrev l : tie.At-loop invariant-loop decreases-loop
+module _ (f : tie.After-find invariant-loop-j decreases-loop-j) where
+  abbrev l : tie.At-loop-j invariant-loop-j decreases-loop-j
   l = f.before.before.before
 
-  abbrev s : tie.Start invariant-loop decreases-loop
+  abbrev s : tie.Start invariant-loop-j decreases-loop-j
   s = l.before.before
 
   abbrev t : List ℕ
@@ -52,74 +52,74 @@ module _ (f : tie.After-find invariant-loop decreases-loop) where
   abbrev v : Record
   v = s.args.v
 
-  inside : l.loop.j < 6
-  inside = f.before.before.loop-test.taken
+  inside : l.loop-j.j < 6
+  inside = f.loop-j-test.true
 
-  ended : (o : Found) → f.find.result ≡ o → find_of t (adjacent_at v l.loop.j) ≡ o
-  ended o e = ap (find_of t) (sym f.before.point_at.ensures) ∙ sym f.find.ensures.0 ∙ e
+  ended : (o : Found) → f.find.result ≡ o → find_of t (adjacent_at v l.loop-j.j) ≡ o
+  ended o e = ap (find_of t) (sym f.point_at.ensures) ∙ sym f.find.ensures.0 ∙ e
 
   -- whether its vertex fits, by where the search ended
-  fits : (o : Found) → f.find.result ≡ o → fits_at v l.loop.j (looked_at t o) ≡ adjacent_fits t v l.loop.j
+  fits : (o : Found) → f.find.result ≡ o → fits_at v l.loop-j.j (looked_at t o) ≡ adjacent_fits t v l.loop-j.j
   unfolding look_up
-  fits o e = ap (λ (x : Found). fits_at v l.loop.j (looked_at t x)) (sym (ended o e))
+  fits o e = ap (λ (x : Found). fits_at v l.loop-j.j (looked_at t x)) (sym (ended o e))
 
-  torn : {A : Type 0} → adjacent_fits t v l.loop.j ≡ false → (false ≡ upto 6 (adjacent_fits t v)) × (false ≡ true → A)
-  torn e = (sym (upto-fails (adjacent_fits t v) l.loop.j 6 inside e), λ x. absurd (not-both x refl))
+  torn : {A : Type 0} → adjacent_fits t v l.loop-j.j ≡ false → (false ≡ upto 6 (adjacent_fits t v)) × (false ≡ true → A)
+  torn e = (sym (upto-fails (adjacent_fits t v) l.loop-j.j 6 inside e), λ x. absurd (not-both x refl))
 
-fits-in-requires : tie.Need-fits-in-requires invariant-loop decreases-loop
+fits-in-requires : tie.Need-fits_in-requires invariant-loop-j decreases-loop-j
 fits-in-requires c κs =
-    let k = c.before in
-    let f = k.before.before in
-    let told = subst (Told (t f) f.before.point_at.result) k.i.given.1 f.find.ensures.1 in
+    let k = c in
+    let f = k.before in
+    let told = subst (Told (t f) f.point_at.result) k.in-At.is f.find.ensures.1 in
     ((s f).requires.0.1.0, (inside f, told.way.below))
 
 -- whether the vertex found fits
-found-fits : (c : tie.After-fits-in invariant-loop decreases-loop) (b : Bool) → c.fits_in.result ≡ b
-    → let f = c.before.before.before.before in adjacent_fits (t f) (v f) (l f).loop.j ≡ b
+found-fits : (c : tie.After-fits_in invariant-loop-j decreases-loop-j) (b : Bool) → c.fits_in.result ≡ b
+    → let f = c.before.before in adjacent_fits (t f) (v f) (l f).loop-j.j ≡ b
 found-fits c b e =
-    let k = c.before.before in
-    let f = k.before.before in
-    sym (fits f (found.At k.i.given.0.0) k.i.given.1) ∙ sym c.fits_in.ensures ∙ e
+    let k = c.before in
+    let f = k.before in
+    sym (fits f (found.At k.in-At.i) k.in-At.is) ∙ sym c.fits_in.ensures ∙ e
 
-returns : tie.Need-returns invariant-loop decreases-loop
+returns : tie.Need-returns-then-not-fits_in invariant-loop-j decreases-loop-j
 returns c =
     let w = c.before in
-    let f = w.before.before.before.before in
-    torn f (found-fits w false (not-true _ c.if1.true))
+    let f = w.before.before in
+    torn f (found-fits w false (not-true _ c.if-not-fits_in.true-raw))
 
-returns-2 : tie.Need-returns-2 invariant-loop decreases-loop
-returns-2 c = let f = c.before.before in torn f (sym (fits f _ c.enum_told.given.1))
+returns-2 : tie.Need-returns-in-Free invariant-loop-j decreases-loop-j
+returns-2 c = let f = c.before in torn f (sym (fits f _ c.in-Free.is))
 
-returns-3 : tie.Need-returns-3 invariant-loop decreases-loop
-returns-3 c = let f = c.before.before in torn f (sym (fits f _ c.enum-told2.given.1))
+returns-3 : tie.Need-returns-in-Full invariant-loop-j decreases-loop-j
+returns-3 c = let f = c.before in torn f (sym (fits f _ c.in-Full.is))
 
-loop-again : tie.Need-loop-preserved invariant-loop decreases-loop
+loop-again : tie.Need-loop-j-preserved invariant-loop-j decreases-loop-j
 loop-again c =
-    let w = c.before in
-    let k = w.before.before in
-    let f = k.before.before in
-    let i = (l f).loop.invariant in (
+    let w = c.before.before in
+    let k = w.before in
+    let f = k.before in
+    let i = (l f).loop-j.invariant in (
       omega (arith, inside f),
-      set_long ℕ (l f).loop.slots (l f).loop.j 6 _ i.1,
-      upto-more (adjacent_fits (t f) (v f)) (l f).loop.j i.2 (found-fits w true (not-false _ c.if1.false)),
-      old-more (t f) (v f) (l f).loop.slots (l f).loop.j k.i.given.0.0 (omega (arith, i.1, inside f)) i.3 (ended f _ k.i.given.1),
+      set_long ℕ (l f).loop-j.slots (l f).loop-j.j 6 _ i.1,
+      upto-more (adjacent_fits (t f) (v f)) (l f).loop-j.j i.2 (found-fits w true (not-false _ c.if-not-fits_in.false-raw)),
+      old-more (t f) (v f) (l f).loop-j.slots (l f).loop-j.j k.in-At.i (omega (arith, i.1, inside f)) i.3 (ended f _ k.in-At.is),
     )
 
-returns-4 : tie.Need-returns-4 invariant-loop decreases-loop
+returns-4 : tie.Need-returns invariant-loop-j decreases-loop-j
 returns-4 c =
     let l = c.before in
-    let a = l.before.before.args in
-    let e : l.loop.j ≡ 6 = omega (arith, l.loop.invariant.0, c.loop-test.false) in (
-      sym l.loop.invariant.2 ∙ ap (λ (k : ℕ). upto k (adjacent_fits a.t.now a.v)) e,
-      λ x j h. l.loop.invariant.3 j (omega arith),
+    let a = l.args in
+    let e : l.loop-j.j ≡ 6 = omega (arith, l.loop-j.invariant.0, c.loop-j-test.false) in (
+      sym l.loop-j.invariant.2 ∙ ap (λ (k : ℕ). upto k (adjacent_fits a.t.now a.v)) e,
+      λ x j h. l.loop-j.invariant.3 j (omega arith),
     )
 
-pub adjacents-fit-spec : {M : Type 1} → statement M
-adjacents-fit-spec =
+pub adjacents_fit_spec : {M : Type 1} → statement M
+adjacents_fit_spec =
     tie.close
     (tie.spec
-    invariant-loop
-    decreases-loop
+    invariant-loop-j
+    decreases-loop-j
     loop-holds
     point-at-requires
     (λ c κs. search rules)

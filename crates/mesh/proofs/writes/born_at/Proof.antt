@@ -13,8 +13,8 @@ returns c =
     let b = c.before in
     let s = b.before in
     let star = s.args.c in
-    let k : b.back.result % 4 ≡ (6 + 2 * s.args.j + star.k) % 4 = ap (λ (x : ℕ). x % 4) b.back.ensures ∙ four (6 + 2 * s.args.j + star.k) in
+    let k : b.back-k.result % 4 ≡ (6 + 2 * s.args.j + star.k) % 4 = ap (λ (x : ℕ). x % 4) b.back-k.ensures ∙ four (6 + 2 * s.args.j + star.k) in
     λ i. record { at = s.requires.1.1 i; d = 3; k = k i; n = star.n }
 
-pub born-at-spec : {M : Type 1} → statement M
-born-at-spec = tie.close (tie.spec (λ c κs. (c.requires.0, c.requires.1.0)) returns)
+pub born_at_spec : {M : Type 1} → statement M
+born_at_spec = tie.close (tie.spec (λ c κs. (c.requires.0, c.requires.1.0)) returns)
