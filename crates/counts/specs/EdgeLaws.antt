@@ -251,9 +251,9 @@ module _ (t : List ℕ) (o : InOrder t) where
 
     -- ---- near sides
 
-    near_before : (a : Point) → some_of (same_side (side v.at a)) (each (nears_at t) (records_below t k)) ≡ near_before t k v.at a
+    near_before_lem : (a : Point) → some_of (same_side (side v.at a)) (each (nears_at t) (records_below t k)) ≡ near_before t k v.at a
     unfolding near_in
-    near_before a =
+    near_before_lem a =
         nears-told k top v.at a ∙ ap (λ (b : Bool). near_before t k v.at a || b) (not-true (near_before t k a v.at) itself)
         ∙ or-false (near_before t k v.at a)
       where
@@ -290,7 +290,7 @@ module _ (t : List ℕ) (o : InOrder t) where
         go j m false = different-nothing same_side (before ++ gather j (near_place t v))
         go j m true =
             different-place same_side before (near_place t v) j (side v.at (adjacent_at v j)) (near_before t k v.at (adjacent_at v j))
-            (near_before (adjacent_at v j)) (λ i h. near_apart i j h m)
+            (near_before_lem (adjacent_at v j)) (λ i h. near_apart i j h m)
 
     -- ---- far sides
 

@@ -10,21 +10,21 @@ use Rattle.counts.specs.declared.corners.Counted.{Counted}
 use Rattle.counts.proofs.survey.Statement.{statement}
 use Rattle.counts.proofs.survey.Tie as tie
 
-few : (c : tie.After-count-degrees) → of_any_degree c.count-degrees.result ≤ 65536
-few c = let s = c.before.before.before in degrees-few s.args.t.now s.requires.0 c.count-degrees.result c.count-degrees.ensures
+few : (c : tie.After-count_degrees-degrees) → of_any_degree c.count_degrees-degrees.result ≤ 65536
+few c = let s = c.before.before.before in degrees-few s.args.t.now s.requires.0 c.count_degrees-degrees.result c.count_degrees-degrees.ensures
 
 returns : tie.Need-returns
 unfolding counts_of
 returns c =
     let s = c.before.before.before in
-    let e = c.before.count-corners.ensures in (
-      degrees-counts s.args.t.now s.requires.0 c.count-degrees.result c.count-degrees.ensures _ _ (ap (λ (x : Counted). x.sides) e)
+    let e = c.count_corners-corners.ensures in (
+      degrees-counts s.args.t.now s.requires.0 c.count_degrees-degrees.result c.count_degrees-degrees.ensures _ _ (ap (λ (x : Counted). x.sides) e)
           (ap (λ (x : Counted). x.faces) e),
       ap (λ (x : Counted). x.plain) e,
     )
 
-pub survey-spec : {M : Type 1} → statement M
-survey-spec =
+pub survey_spec : {M : Type 1} → statement M
+survey_spec =
     tie.close
     (tie.spec
     (λ c κs. search rules)

@@ -66,13 +66,13 @@ subdivide-neighbour-below t =
     (falls 1 subdivide-neighbour-kinds.ps ◌<◌ μ-subdivide-neighbour t)
     subdivide-neighbour.Pre
 
-abbrev bring-to-six-Inv-loop : bring-to-six-lts.invariant-loop
+abbrev bring-to-six-Inv-loop : bring-to-six-lts.invariant-loop-j
 bring-to-six-Inv-loop t₀ v i n free level count left₀ j₀ t left j = Turning t₀ v n t left j
 
-abbrev bring-to-six-μ-loop : bring-to-six-lts.decreases-loop
+abbrev bring-to-six-μ-loop : bring-to-six-lts.decreases-loop-j
 bring-to-six-μ-loop t₀ v i n free level count left₀ j₀ t left j = count - j
 
-bring-to-six-sub-count : (t : ℕ) → bring-to-six-lts.Need-overflow-sub-count (
+bring-to-six-sub-count : (t : ℕ) → bring-to-six-lts.Need-overflow_sub-count (
   adjacent-of-reads.Asked,
   adjacent-of-reads.Learnt,
   subdivide-neighbour-below t,
@@ -85,7 +85,7 @@ bring-to-six-sub-count t c =
     let l = s.requires.1.1.1.1 in
     (standing-inner s.requires.1.1.0 (λ z. omega arith)).top
 
-bring-to-six-loop-holds : (t : ℕ) → bring-to-six-lts.Need-loop-init (
+bring-to-six-loop-holds : (t : ℕ) → bring-to-six-lts.Need-loop-j-init (
   adjacent-of-reads.Asked,
   adjacent-of-reads.Learnt,
   subdivide-neighbour-below t,
@@ -98,7 +98,7 @@ bring-to-six-loop-holds t c =
     let l = s.requires.1.1.1.1 in
     turning-start s.args.t.now s.args.v s.args.n s.args.free l (standing-inner s.requires.1.1.0 (λ z. omega arith)).top s.requires.1.0
 
-bring-to-six-adjacent-of-requires : (t : ℕ) → bring-to-six-lts.Need-adjacent-of-requires (
+bring-to-six-adjacent-of-requires : (t : ℕ) → bring-to-six-lts.Need-adjacent_of-requires (
   adjacent-of-reads.Asked,
   adjacent-of-reads.Learnt,
   subdivide-neighbour-below t,
@@ -110,11 +110,11 @@ bring-to-six-adjacent-of-requires t c κs =
     let l = c.before.before in
     let s = l.before.before.before.before in
     let low = s.requires.1.1.1.1 in
-    let h = c.before.loop-test.true in
+    let h = c.loop-j-test.true in
     (standing-inner s.requires.1.1.0 (λ z. omega arith), omega arith)
 
 bring-to-six-subdivide-neighbour-requires :
-    (t : ℕ) → bring-to-six-lts.Need-subdivide-neighbour-requires (
+    (t : ℕ) → bring-to-six-lts.Need-subdivide_neighbour-s-requires (
       adjacent-of-reads.Asked,
       adjacent-of-reads.Learnt,
       subdivide-neighbour-below t,
@@ -126,9 +126,9 @@ bring-to-six-subdivide-neighbour-requires t c κs =
     let l = c.before.before.before in
     let s = l.before.before.before.before in
     let m = s.requires.0 in
-    (omega arith, l.loop.invariant.given)
+    (omega arith, l.loop-j.invariant.given)
 
-bring-to-six-same-length : (t : ℕ) → bring-to-six-lts.Need-same-length (
+bring-to-six-same-length : (t : ℕ) → bring-to-six-lts.Need-shape_of-t-then-s-ne-DONE (
   adjacent-of-reads.Asked,
   adjacent-of-reads.Learnt,
   subdivide-neighbour-below t,
@@ -139,9 +139,9 @@ bring-to-six-same-length : (t : ℕ) → bring-to-six-lts.Need-same-length (
 bring-to-six-same-length t c =
     let w = c.before.before.before.before in
     let l = w.before.before.before.before in
-    w.subdivide-neighbour.ensures.long ∙ l.loop.invariant.long
+    w.subdivide_neighbour-s.ensures.long ∙ l.loop-j.invariant.long
 
-bring-to-six-returns : (t : ℕ) → bring-to-six-lts.Need-returns (
+bring-to-six-returns : (t : ℕ) → bring-to-six-lts.Need-returns-then-s-ne-DONE (
   adjacent-of-reads.Asked,
   adjacent-of-reads.Learnt,
   subdivide-neighbour-below t,
@@ -154,11 +154,11 @@ bring-to-six-returns t c =
     let a = w.before in
     let l = a.before.before.before in
     let s = l.before.before.before.before in
-    let near = after_same (ap (near_of s.args.v.n.0 l.loop.t) a.adjacent-of.ensures) w.subdivide-neighbour.ensures in
-    turning-stop s.args.t.now s.args.v s.args.n l.loop.t l.loop.left l.loop.j l.loop.invariant a.before.before.loop-test.true
-    w.subdivide-neighbour.result.number w.subdivide-neighbour.result.free w.subdivide-neighbour.new.0 near c.if1.true
+    let near = after_same (ap (near_of s.args.v.n.0 l.loop-j.t) a.adjacent_of.ensures) w.subdivide_neighbour-s.ensures in
+    turning-stop s.args.t.now s.args.v s.args.n l.loop-j.t l.loop-j.left l.loop-j.j l.loop-j.invariant a.loop-j-test.true
+    w.subdivide_neighbour-s.result.number w.subdivide_neighbour-s.result.free w.subdivide_neighbour-s.new.t near c.if-s-ne-DONE.true
 
-bring-to-six-add-j : (t : ℕ) → bring-to-six-lts.Need-overflow-add-j (
+bring-to-six-add-j : (t : ℕ) → bring-to-six-lts.Need-overflow_add-j (
   adjacent-of-reads.Asked,
   adjacent-of-reads.Learnt,
   subdivide-neighbour-below t,
@@ -168,7 +168,7 @@ bring-to-six-add-j : (t : ℕ) → bring-to-six-lts.Need-overflow-add-j (
 ) (bring-to-six-at t) bring-to-six.Post bring-to-six-Inv-loop bring-to-six-μ-loop
 bring-to-six-add-j t c = search rules
 
-bring-to-six-loop-less : (t : ℕ) → bring-to-six-lts.Need-loop-smaller (
+bring-to-six-loop-less : (t : ℕ) → bring-to-six-lts.Need-loop-j-smaller (
   adjacent-of-reads.Asked,
   adjacent-of-reads.Learnt,
   subdivide-neighbour-below t,
@@ -177,9 +177,9 @@ bring-to-six-loop-less : (t : ℕ) → bring-to-six-lts.Need-loop-smaller (
   ends-six-reads.Learnt,
 ) (bring-to-six-at t) bring-to-six.Post bring-to-six-Inv-loop bring-to-six-μ-loop
 bring-to-six-loop-less t c =
-    let h = c.before.before.before.before.before.before.before.loop-test.true in omega arith
+    let h = c.loop-j-test.true in omega arith
 
-bring-to-six-loop-again : (t : ℕ) → bring-to-six-lts.Need-loop-preserved (
+bring-to-six-loop-again : (t : ℕ) → bring-to-six-lts.Need-loop-j-preserved (
   adjacent-of-reads.Asked,
   adjacent-of-reads.Learnt,
   subdivide-neighbour-below t,
@@ -192,11 +192,11 @@ bring-to-six-loop-again t c =
     let a = w.before in
     let l = a.before.before.before in
     let s = l.before.before.before.before in
-    let near = after_same (ap (near_of s.args.v.n.0 l.loop.t) a.adjacent-of.ensures) w.subdivide-neighbour.ensures in
-    turning-more s.args.t.now s.args.v s.args.n l.loop.t l.loop.left l.loop.j l.loop.invariant a.before.before.loop-test.true
-    w.subdivide-neighbour.result.number w.subdivide-neighbour.result.free w.subdivide-neighbour.new.0 near c.if1.false
+    let near = after_same (ap (near_of s.args.v.n.0 l.loop-j.t) a.adjacent_of.ensures) w.subdivide_neighbour-s.ensures in
+    turning-more s.args.t.now s.args.v s.args.n l.loop-j.t l.loop-j.left l.loop-j.j l.loop-j.invariant a.loop-j-test.true
+    w.subdivide_neighbour-s.result.number w.subdivide_neighbour-s.result.free w.subdivide_neighbour-s.new.t near c.if-s-ne-DONE.false
 
-bring-to-six-ends-six-requires : (t : ℕ) → bring-to-six-lts.Need-ends-six-requires (
+bring-to-six-ends-six-requires : (t : ℕ) → bring-to-six-lts.Need-ends_six-requires (
   adjacent-of-reads.Asked,
   adjacent-of-reads.Learnt,
   subdivide-neighbour-below t,
@@ -205,13 +205,13 @@ bring-to-six-ends-six-requires : (t : ℕ) → bring-to-six-lts.Need-ends-six-re
   ends-six-reads.Learnt,
 ) (bring-to-six-at t) bring-to-six.Post bring-to-six-Inv-loop bring-to-six-μ-loop
 bring-to-six-ends-six-requires t c κs =
-    let l = c.before.before in
+    let l = c.before in
     let s = l.before.before.before.before in
     let v = s.args.v.at in
     let i = s.args.i in
-    at_room l.loop.t s.args.n l.loop.invariant.given.table v i (l.loop.invariant.stays v i s.requires.1.1.1.0)
+    at_room l.loop-j.t s.args.n l.loop-j.invariant.given.table v i (l.loop-j.invariant.stays v i s.requires.1.1.1.0)
 
-bring-to-six-same-length-2 : (t : ℕ) → bring-to-six-lts.Need-same-length-2 (
+bring-to-six-same-length-2 : (t : ℕ) → bring-to-six-lts.Need-shape_of-t-then-ends_six (
   adjacent-of-reads.Asked,
   adjacent-of-reads.Learnt,
   subdivide-neighbour-below t,
@@ -219,9 +219,9 @@ bring-to-six-same-length-2 : (t : ℕ) → bring-to-six-lts.Need-same-length-2 (
   ends-six-reads.Asked,
   ends-six-reads.Learnt,
 ) (bring-to-six-at t) bring-to-six.Post bring-to-six-Inv-loop bring-to-six-μ-loop
-bring-to-six-same-length-2 t c = c.before.before.before.before.loop.invariant.long
+bring-to-six-same-length-2 t c = c.loop-j.invariant.long
 
-bring-to-six-returns-2 : (t : ℕ) → bring-to-six-lts.Need-returns-2 (
+bring-to-six-returns-2 : (t : ℕ) → bring-to-six-lts.Need-returns-then-ends_six (
   adjacent-of-reads.Asked,
   adjacent-of-reads.Learnt,
   subdivide-neighbour-below t,
@@ -230,15 +230,15 @@ bring-to-six-returns-2 : (t : ℕ) → bring-to-six-lts.Need-returns-2 (
   ends-six-reads.Learnt,
 ) (bring-to-six-at t) bring-to-six.Post bring-to-six-Inv-loop bring-to-six-μ-loop
 bring-to-six-returns-2 t c =
-    let l = c.before.before.before.before in
+    let l = c.before.before.before in
     let s = l.before.before.before.before in
     let v = s.args.v.at in
     let i = s.args.i in
-    let six = sym (ap is_six (slot_is l.loop.t v i (l.loop.invariant.stays v i s.requires.1.1.1.0))) in
-    turning-six s.args.t.now s.args.v s.args.n l.loop.t l.loop.left l.loop.j l.loop.invariant
-    c.before.before.before.loop-test.false (six ∙ sym c.before.ends-six.ensures ∙ c.if2.true)
+    let six = sym (ap is_six (slot_is l.loop-j.t v i (l.loop-j.invariant.stays v i s.requires.1.1.1.0))) in
+    turning-six s.args.t.now s.args.v s.args.n l.loop-j.t l.loop-j.left l.loop-j.j l.loop-j.invariant
+    c.loop-j-test.false (six ∙ sym c.ends_six.ensures ∙ c.if-ends_six.true)
 
-bring-to-six-same-length-3 : (t : ℕ) → bring-to-six-lts.Need-same-length-3 (
+bring-to-six-same-length-3 : (t : ℕ) → bring-to-six-lts.Need-shape_of-t (
   adjacent-of-reads.Asked,
   adjacent-of-reads.Learnt,
   subdivide-neighbour-below t,
@@ -246,9 +246,9 @@ bring-to-six-same-length-3 : (t : ℕ) → bring-to-six-lts.Need-same-length-3 (
   ends-six-reads.Asked,
   ends-six-reads.Learnt,
 ) (bring-to-six-at t) bring-to-six.Post bring-to-six-Inv-loop bring-to-six-μ-loop
-bring-to-six-same-length-3 t c = c.before.before.before.before.loop.invariant.long
+bring-to-six-same-length-3 t c = c.loop-j.invariant.long
 
-bring-to-six-returns-3 : (t : ℕ) → bring-to-six-lts.Need-returns-3 (
+bring-to-six-returns-3 : (t : ℕ) → bring-to-six-lts.Need-returns (
   adjacent-of-reads.Asked,
   adjacent-of-reads.Learnt,
   subdivide-neighbour-below t,
@@ -257,15 +257,15 @@ bring-to-six-returns-3 : (t : ℕ) → bring-to-six-lts.Need-returns-3 (
   ends-six-reads.Learnt,
 ) (bring-to-six-at t) bring-to-six.Post bring-to-six-Inv-loop bring-to-six-μ-loop
 bring-to-six-returns-3 t c =
-    let l = c.before.before.before.before in
+    let l = c.before.before.before in
     let s = l.before.before.before.before in
     let v = s.args.v.at in
     let i = s.args.i in
-    let six = sym (ap is_six (slot_is l.loop.t v i (l.loop.invariant.stays v i s.requires.1.1.1.0))) in
-    turning-short s.args.t.now s.args.v s.args.n l.loop.t l.loop.left l.loop.j l.loop.invariant
-    c.before.before.before.loop-test.false (six ∙ sym c.before.ends-six.ensures ∙ c.if2.false)
+    let six = sym (ap is_six (slot_is l.loop-j.t v i (l.loop-j.invariant.stays v i s.requires.1.1.1.0))) in
+    turning-short s.args.t.now s.args.v s.args.n l.loop-j.t l.loop-j.left l.loop-j.j l.loop-j.invariant
+    c.loop-j-test.false (six ∙ sym c.ends_six.ensures ∙ c.if-ends_six.false)
 
-subdivide-neighbour-locate-requires : (t : ℕ) → subdivide-neighbour-lts.Need-locate-requires (
+subdivide-neighbour-locate-requires : (t : ℕ) → subdivide-neighbour-lts.Need-locate-l-requires (
   locate-reads.Asked,
   locate-reads.Learnt,
   subdivide-held-reads.Asked,
@@ -275,9 +275,9 @@ subdivide-neighbour-locate-requires : (t : ℕ) → subdivide-neighbour-lts.Need
   subdivide-raised-reads.Asked,
   subdivide-raised-reads.Learnt,
 ) (subdivide-neighbour-at t) subdivide-neighbour.Post
-subdivide-neighbour-locate-requires t c κs = c.before.before.requires.1.table
+subdivide-neighbour-locate-requires t c κs = c.requires.1.table
 
-subdivide-neighbour-enum-told : (t : ℕ) → subdivide-neighbour-lts.Need-enum-told (
+subdivide-neighbour-enum-told : (t : ℕ) → subdivide-neighbour-lts.Need-enum_told-1 (
   locate-reads.Asked,
   locate-reads.Learnt,
   subdivide-held-reads.Asked,
@@ -289,7 +289,7 @@ subdivide-neighbour-enum-told : (t : ℕ) → subdivide-neighbour-lts.Need-enum-
 ) (subdivide-neighbour-at t) subdivide-neighbour.Post
 subdivide-neighbour-enum-told t c = search rules
 
-subdivide-neighbour-enum-known-l : (t : ℕ) → subdivide-neighbour-lts.Need-enum-known-l (
+subdivide-neighbour-enum-known-l : (t : ℕ) → subdivide-neighbour-lts.Need-enum_known-l (
   locate-reads.Asked,
   locate-reads.Learnt,
   subdivide-held-reads.Asked,
@@ -301,7 +301,7 @@ subdivide-neighbour-enum-known-l : (t : ℕ) → subdivide-neighbour-lts.Need-en
 ) (subdivide-neighbour-at t) subdivide-neighbour.Post
 subdivide-neighbour-enum-known-l t c = search rules
 
-subdivide-neighbour-same-length : (t : ℕ) → subdivide-neighbour-lts.Need-same-length (
+subdivide-neighbour-same-length : (t : ℕ) → subdivide-neighbour-lts.Need-shape_of-t-then-d-eq0 (
   locate-reads.Asked,
   locate-reads.Learnt,
   subdivide-held-reads.Asked,
@@ -313,7 +313,7 @@ subdivide-neighbour-same-length : (t : ℕ) → subdivide-neighbour-lts.Need-sam
 ) (subdivide-neighbour-at t) subdivide-neighbour.Post
 subdivide-neighbour-same-length t c = refl
 
-subdivide-neighbour-returns : (t : ℕ) → subdivide-neighbour-lts.Need-returns (
+subdivide-neighbour-returns : (t : ℕ) → subdivide-neighbour-lts.Need-returns-then-d-eq0 (
   locate-reads.Asked,
   locate-reads.Learnt,
   subdivide-held-reads.Asked,
@@ -324,15 +324,15 @@ subdivide-neighbour-returns : (t : ℕ) → subdivide-neighbour-lts.Need-returns
   subdivide-raised-reads.Learnt,
 ) (subdivide-neighbour-at t) subdivide-neighbour.Post
 subdivide-neighbour-returns t c =
-    let k = c.before.before in
-    let l = k.before.before in
-    let s = l.before.before.before in
-    let place = subst (Locates s.args.t.now s.args.p) k.l.given.1 l.locate.ensures in
+    let k = c.before in
+    let l = k.before in
+    let s = l.before.before in
+    let place = subst (Locates s.args.t.now s.args.p) k.in-In.is l.locate-l.ensures in
     let e = place.0 in
-    let u = k.l.given.0.0 in
-    after-here s.requires.1 16 (near-rim s.args.level.0 s.args.t.now s.args.p u e c.if1.true)
+    let u = k.in-In.u in
+    after-here s.requires.1 16 (near-rim s.args.level.0 s.args.t.now s.args.p u e c.if-d-eq0.true)
 
-subdivide-neighbour-same-length-2 : (t : ℕ) → subdivide-neighbour-lts.Need-same-length-2 (
+subdivide-neighbour-same-length-2 : (t : ℕ) → subdivide-neighbour-lts.Need-shape_of-t-then-own-level (
   locate-reads.Asked,
   locate-reads.Learnt,
   subdivide-held-reads.Asked,
@@ -344,7 +344,7 @@ subdivide-neighbour-same-length-2 : (t : ℕ) → subdivide-neighbour-lts.Need-s
 ) (subdivide-neighbour-at t) subdivide-neighbour.Post
 subdivide-neighbour-same-length-2 t c = refl
 
-subdivide-neighbour-returns-2 : (t : ℕ) → subdivide-neighbour-lts.Need-returns-2 (
+subdivide-neighbour-returns-2 : (t : ℕ) → subdivide-neighbour-lts.Need-returns-then-own-level (
   locate-reads.Asked,
   locate-reads.Learnt,
   subdivide-held-reads.Asked,
@@ -355,17 +355,17 @@ subdivide-neighbour-returns-2 : (t : ℕ) → subdivide-neighbour-lts.Need-retur
   subdivide-raised-reads.Learnt,
 ) (subdivide-neighbour-at t) subdivide-neighbour.Post
 subdivide-neighbour-returns-2 t c =
-    let k = c.before.before.before.before.before in
-    let l = k.before.before in
-    let s = l.before.before.before in
-    let place = subst (Locates s.args.t.now s.args.p) k.l.given.1 l.locate.ensures in
+    let k = c.before.before.before.before in
+    let l = k.before in
+    let s = l.before.before in
+    let place = subst (Locates s.args.t.now s.args.p) k.in-In.is l.locate-l.ensures in
     let e = place.0 in
-    let u = k.l.given.0.0 in
+    let u = k.in-In.u in
     after-here s.requires.1 7
-    (near-other s.args.level.0 s.args.t.now s.args.p u e c.before.before.before.if1.false c.before.before.if2.true c.if3.true)
+    (near-other s.args.level.0 s.args.t.now s.args.p u e c.if-d-eq0.false c.if-d-eq6.true c.if-own-level.true)
 
 subdivide-neighbour-subdivide-held-requires :
-    (t : ℕ) → subdivide-neighbour-lts.Need-subdivide-held-requires (
+    (t : ℕ) → subdivide-neighbour-lts.Need-subdivide_held-requires (
       locate-reads.Asked,
       locate-reads.Learnt,
       subdivide-held-reads.Asked,
@@ -376,15 +376,15 @@ subdivide-neighbour-subdivide-held-requires :
       subdivide-raised-reads.Learnt,
     ) (subdivide-neighbour-at t) subdivide-neighbour.Post
 subdivide-neighbour-subdivide-held-requires t c κs =
-    let k = c.before.before.before.before.before.before in
-    let l = k.before.before in
-    let s = l.before.before.before in
-    let place = subst (Locates s.args.t.now s.args.p) k.l.given.1 l.locate.ensures in
+    let k = c.before.before.before.before.before in
+    let l = k.before in
+    let s = l.before.before in
+    let place = subst (Locates s.args.t.now s.args.p) k.in-In.is l.locate-l.ensures in
     let e = place.0 in
-    let u = k.l.given.0.0 in
-    (s.requires.1, located s.requires.1.order s.args.p u k.l.given.0.1.0 place)
+    let u = k.in-In.u in
+    (s.requires.1, located s.requires.1.order s.args.p u k.in-In.i place)
 
-subdivide-neighbour-same-length-3 : (t : ℕ) → subdivide-neighbour-lts.Need-same-length-3 (
+subdivide-neighbour-same-length-3 : (t : ℕ) → subdivide-neighbour-lts.Need-shape_of-t-then-d-eq6 (
   locate-reads.Asked,
   locate-reads.Learnt,
   subdivide-held-reads.Asked,
@@ -394,9 +394,9 @@ subdivide-neighbour-same-length-3 : (t : ℕ) → subdivide-neighbour-lts.Need-s
   subdivide-raised-reads.Asked,
   subdivide-raised-reads.Learnt,
 ) (subdivide-neighbour-at t) subdivide-neighbour.Post
-subdivide-neighbour-same-length-3 t c = c.before.before.subdivide-held.ensures.long
+subdivide-neighbour-same-length-3 t c = c.subdivide_held.ensures.long
 
-subdivide-neighbour-returns-3 : (t : ℕ) → subdivide-neighbour-lts.Need-returns-3 (
+subdivide-neighbour-returns-3 : (t : ℕ) → subdivide-neighbour-lts.Need-returns-then-d-eq6 (
   locate-reads.Asked,
   locate-reads.Learnt,
   subdivide-held-reads.Asked,
@@ -407,18 +407,18 @@ subdivide-neighbour-returns-3 : (t : ℕ) → subdivide-neighbour-lts.Need-retur
   subdivide-raised-reads.Learnt,
 ) (subdivide-neighbour-at t) subdivide-neighbour.Post
 subdivide-neighbour-returns-3 t c =
-    let k = c.before.before.before.before.before.before.before.before.before in
-    let l = k.before.before in
-    let s = l.before.before.before in
-    let place = subst (Locates s.args.t.now s.args.p) k.l.given.1 l.locate.ensures in
+    let k = c.before.before.before.before.before.before.before.before in
+    let l = k.before in
+    let s = l.before.before in
+    let place = subst (Locates s.args.t.now s.args.p) k.in-In.is l.locate-l.ensures in
     let e = place.0 in
-    let u = k.l.given.0.0 in
+    let u = k.in-In.u in
     after_same
-    (near-six s.args.level.0 s.args.t.now s.args.p u e c.before.before.before.before.before.before.before.if1.false
-    c.before.before.before.before.before.before.if2.true c.before.before.before.before.if3.false)
-    c.before.before.subdivide-held.ensures
+    (near-six s.args.level.0 s.args.t.now s.args.p u e c.if-d-eq0.false
+    c.if-d-eq6.true c.if-own-level.false)
+    c.subdivide_held.ensures
 
-subdivide-neighbour-add-if4 : (t : ℕ) → subdivide-neighbour-lts.Need-overflow-add-if4 (
+subdivide-neighbour-add-if4 : (t : ℕ) → subdivide-neighbour-lts.Need-overflow_add-own (
   locate-reads.Asked,
   locate-reads.Learnt,
   subdivide-held-reads.Asked,
@@ -429,15 +429,15 @@ subdivide-neighbour-add-if4 : (t : ℕ) → subdivide-neighbour-lts.Need-overflo
   subdivide-raised-reads.Learnt,
 ) (subdivide-neighbour-at t) subdivide-neighbour.Post
 subdivide-neighbour-add-if4 t c =
-    let k = c.before.before.before in
-    let l = k.before.before in
-    let s = l.before.before.before in
-    let place = subst (Locates s.args.t.now s.args.p) k.l.given.1 l.locate.ensures in
+    let k = c.before.before in
+    let l = k.before in
+    let s = l.before.before in
+    let place = subst (Locates s.args.t.now s.args.p) k.in-In.is l.locate-l.ensures in
     let e = place.0 in
-    let u = k.l.given.0.0 in
+    let u = k.in-In.u in
     let v = valid-level u (of-true (lookup-valid s.args.t.now s.requires.1.order s.args.p u e)) in record { fits = omega arith }
 
-subdivide-neighbour-same-length-4 : (t : ℕ) → subdivide-neighbour-lts.Need-same-length-4 (
+subdivide-neighbour-same-length-4 : (t : ℕ) → subdivide-neighbour-lts.Need-shape_of-t-then-own-level-2 (
   locate-reads.Asked,
   locate-reads.Learnt,
   subdivide-held-reads.Asked,
@@ -449,7 +449,7 @@ subdivide-neighbour-same-length-4 : (t : ℕ) → subdivide-neighbour-lts.Need-s
 ) (subdivide-neighbour-at t) subdivide-neighbour.Post
 subdivide-neighbour-same-length-4 t c = refl
 
-subdivide-neighbour-returns-4 : (t : ℕ) → subdivide-neighbour-lts.Need-returns-4 (
+subdivide-neighbour-returns-4 : (t : ℕ) → subdivide-neighbour-lts.Need-returns-then-own-level-2 (
   locate-reads.Asked,
   locate-reads.Learnt,
   subdivide-held-reads.Asked,
@@ -460,17 +460,17 @@ subdivide-neighbour-returns-4 : (t : ℕ) → subdivide-neighbour-lts.Need-retur
   subdivide-raised-reads.Learnt,
 ) (subdivide-neighbour-at t) subdivide-neighbour.Post
 subdivide-neighbour-returns-4 t c =
-    let k = c.before.before.before.before.before in
-    let l = k.before.before in
-    let s = l.before.before.before in
-    let place = subst (Locates s.args.t.now s.args.p) k.l.given.1 l.locate.ensures in
+    let k = c.before.before.before.before in
+    let l = k.before in
+    let s = l.before.before in
+    let place = subst (Locates s.args.t.now s.args.p) k.in-In.is l.locate-l.ensures in
     let e = place.0 in
-    let u = k.l.given.0.0 in
+    let u = k.in-In.u in
     after-here s.requires.1 7
-    (near-far s.args.level.0 s.args.t.now s.args.p u e c.before.before.before.if1.false c.before.before.if2.false c.if4.true)
+    (near-far s.args.level.0 s.args.t.now s.args.p u e c.if-d-eq0.false c.if-d-eq6.false c.if-own-level-2.true)
 
 subdivide-neighbour-bring-to-six-requires :
-    (t : ℕ) → subdivide-neighbour-lts.Need-bring-to-six-requires (
+    (t : ℕ) → subdivide-neighbour-lts.Need-bring_to_six-s-requires (
       locate-reads.Asked,
       locate-reads.Learnt,
       subdivide-held-reads.Asked,
@@ -481,18 +481,18 @@ subdivide-neighbour-bring-to-six-requires :
       subdivide-raised-reads.Learnt,
     ) (subdivide-neighbour-at t) subdivide-neighbour.Post
 subdivide-neighbour-bring-to-six-requires t c κs =
-    let k = c.before.before.before.before.before.before in
-    let l = k.before.before in
-    let s = l.before.before.before in
-    let place = subst (Locates s.args.t.now s.args.p) k.l.given.1 l.locate.ensures in
+    let k = c.before.before.before.before.before in
+    let l = k.before in
+    let s = l.before.before in
+    let place = subst (Locates s.args.t.now s.args.p) k.in-In.is l.locate-l.ensures in
     let e = place.0 in
-    let u = k.l.given.0.0 in
+    let u = k.in-In.u in
     let m = s.requires.0 in
-    let one = c.before.if4.false in
-    let here = located s.requires.1.order s.args.p u k.l.given.0.1.0 place in
-    (omega arith, (s.requires.1, (here.0, (here.1, (standing-inner here.0 c.before.before.before.before.if1.false).low))))
+    let one = c.if-own-level-2.false in
+    let here = located s.requires.1.order s.args.p u k.in-In.i place in
+    (omega arith, (s.requires.1, (here.0, (here.1, (standing-inner here.0 c.if-d-eq0.false).low))))
 
-subdivide-neighbour-same-length-5 : (t : ℕ) → subdivide-neighbour-lts.Need-same-length-5 (
+subdivide-neighbour-same-length-5 : (t : ℕ) → subdivide-neighbour-lts.Need-shape_of-t-then-s-ne-DONE (
   locate-reads.Asked,
   locate-reads.Learnt,
   subdivide-held-reads.Asked,
@@ -502,9 +502,9 @@ subdivide-neighbour-same-length-5 : (t : ℕ) → subdivide-neighbour-lts.Need-s
   subdivide-raised-reads.Asked,
   subdivide-raised-reads.Learnt,
 ) (subdivide-neighbour-at t) subdivide-neighbour.Post
-subdivide-neighbour-same-length-5 t c = c.before.before.before.before.bring-to-six.ensures.long
+subdivide-neighbour-same-length-5 t c = c.bring_to_six-s.ensures.long
 
-subdivide-neighbour-returns-5 : (t : ℕ) → subdivide-neighbour-lts.Need-returns-5 (
+subdivide-neighbour-returns-5 : (t : ℕ) → subdivide-neighbour-lts.Need-returns-then-s-ne-DONE (
   locate-reads.Asked,
   locate-reads.Learnt,
   subdivide-held-reads.Asked,
@@ -515,19 +515,19 @@ subdivide-neighbour-returns-5 : (t : ℕ) → subdivide-neighbour-lts.Need-retur
   subdivide-raised-reads.Learnt,
 ) (subdivide-neighbour-at t) subdivide-neighbour.Post
 subdivide-neighbour-returns-5 t c =
-    let k = c.before.before.before.before.before.before.before.before.before.before.before in
-    let l = k.before.before in
-    let s = l.before.before.before in
-    let place = subst (Locates s.args.t.now s.args.p) k.l.given.1 l.locate.ensures in
+    let k = c.before.before.before.before.before.before.before.before.before.before in
+    let l = k.before in
+    let s = l.before.before in
+    let place = subst (Locates s.args.t.now s.args.p) k.in-In.is l.locate-l.ensures in
     let e = place.0 in
-    let u = k.l.given.0.0 in
+    let u = k.in-In.u in
     let w = c.before.before.before.before in
-    near-stop s.args.level.0 s.args.t.now s.args.p u e c.before.before.before.before.before.before.before.before.before.if1.false
-    c.before.before.before.before.before.before.before.before.if2.false c.before.before.before.before.before.before.if4.false
-    w.bring-to-six.result.number w.bring-to-six.result.free w.bring-to-six.new.0 w.bring-to-six.ensures c.if5.true
+    near-stop s.args.level.0 s.args.t.now s.args.p u e c.if-d-eq0.false
+    c.if-d-eq6.false c.if-own-level-2.false
+    w.bring_to_six-s.result.number w.bring_to_six-s.result.free w.bring_to_six-s.new.t w.bring_to_six-s.ensures c.if-s-ne-DONE.true
 
 subdivide-neighbour-subdivide-raised-requires :
-    (t : ℕ) → subdivide-neighbour-lts.Need-subdivide-raised-requires (
+    (t : ℕ) → subdivide-neighbour-lts.Need-subdivide_raised-requires (
       locate-reads.Asked,
       locate-reads.Learnt,
       subdivide-held-reads.Asked,
@@ -539,16 +539,16 @@ subdivide-neighbour-subdivide-raised-requires :
     ) (subdivide-neighbour-at t) subdivide-neighbour.Post
 subdivide-neighbour-subdivide-raised-requires t c κs =
     let w = c.before.before.before.before.before in
-    let k = w.before.before.before.before.before.before.before in
-    let l = k.before.before in
-    let s = l.before.before.before in
-    let u = k.l.given.0.0 in
-    let i = k.l.given.0.1.0 in
-    let place = subst (Locates s.args.t.now s.args.p) k.l.given.1 l.locate.ensures in
+    let k = w.before.before.before.before.before.before in
+    let l = k.before in
+    let s = l.before.before in
+    let u = k.in-In.u in
+    let i = k.in-In.i in
+    let place = subst (Locates s.args.t.now s.args.p) k.in-In.is l.locate-l.ensures in
     let slot = (located s.requires.1.order s.args.p u i place).1 in
-    (given-after s.requires.1 w.bring-to-six.ensures, record { point = u.at; ends = w.bring-to-six.ensures.stays u.at i slot })
+    (given-after s.requires.1 w.bring_to_six-s.ensures, record { point = u.at; ends = w.bring_to_six-s.ensures.stays u.at i slot })
 
-subdivide-neighbour-same-length-6 : (t : ℕ) → subdivide-neighbour-lts.Need-same-length-6 (
+subdivide-neighbour-same-length-6 : (t : ℕ) → subdivide-neighbour-lts.Need-shape_of-t-in-Nowhere (
   locate-reads.Asked,
   locate-reads.Learnt,
   subdivide-held-reads.Asked,
@@ -560,7 +560,7 @@ subdivide-neighbour-same-length-6 : (t : ℕ) → subdivide-neighbour-lts.Need-s
 ) (subdivide-neighbour-at t) subdivide-neighbour.Post
 subdivide-neighbour-same-length-6 t c = refl
 
-subdivide-neighbour-returns-6 : (t : ℕ) → subdivide-neighbour-lts.Need-returns-6 (
+subdivide-neighbour-returns-6 : (t : ℕ) → subdivide-neighbour-lts.Need-returns-in-Nowhere (
   locate-reads.Asked,
   locate-reads.Learnt,
   subdivide-held-reads.Asked,
@@ -571,12 +571,12 @@ subdivide-neighbour-returns-6 : (t : ℕ) → subdivide-neighbour-lts.Need-retur
   subdivide-raised-reads.Learnt,
 ) (subdivide-neighbour-at t) subdivide-neighbour.Post
 subdivide-neighbour-returns-6 t c =
-    let l = c.before.before in
-    let s = l.before.before.before in
+    let l = c.before in
+    let s = l.before.before in
     after-here s.requires.1 7 (near-absent s.args.level.0 s.args.t.now s.args.p
-    (subst (Locates s.args.t.now s.args.p) c.enum_told.given.1 l.locate.ensures))
+    (subst (Locates s.args.t.now s.args.p) c.in-Nowhere.is l.locate-l.ensures))
 
-subdivide-neighbour-same-length-7 : (t : ℕ) → subdivide-neighbour-lts.Need-same-length-7 (
+subdivide-neighbour-same-length-7 : (t : ℕ) → subdivide-neighbour-lts.Need-shape_of-t-else-s-ne-DONE (
   locate-reads.Asked,
   locate-reads.Learnt,
   subdivide-held-reads.Asked,
@@ -587,10 +587,10 @@ subdivide-neighbour-same-length-7 : (t : ℕ) → subdivide-neighbour-lts.Need-s
   subdivide-raised-reads.Learnt,
 ) (subdivide-neighbour-at t) subdivide-neighbour.Post
 subdivide-neighbour-same-length-7 t c =
-    let r = c.before.before in r.subdivide-raised.ensures.long
-    ∙ c.before.before.before.before.before.before.before.before.bring-to-six.ensures.long
+    let r = c.before.before in r.subdivide_raised.ensures.long
+    ∙ c.bring_to_six-s.ensures.long
 
-subdivide-neighbour-returns-7 : (t : ℕ) → subdivide-neighbour-lts.Need-returns-7 (
+subdivide-neighbour-returns-7 : (t : ℕ) → subdivide-neighbour-lts.Need-returns-else-s-ne-DONE (
   locate-reads.Asked,
   locate-reads.Learnt,
   subdivide-held-reads.Asked,
@@ -601,27 +601,27 @@ subdivide-neighbour-returns-7 : (t : ℕ) → subdivide-neighbour-lts.Need-retur
   subdivide-raised-reads.Learnt,
 ) (subdivide-neighbour-at t) subdivide-neighbour.Post
 subdivide-neighbour-returns-7 t c =
-    let k = c.before.before.before.before.before.before.before.before.before.before.before.before.before.before.before in
-    let l = k.before.before in
-    let s = l.before.before.before in
-    let place = subst (Locates s.args.t.now s.args.p) k.l.given.1 l.locate.ensures in
+    let k = c.before.before.before.before.before.before.before.before.before.before.before.before.before.before in
+    let l = k.before in
+    let s = l.before.before in
+    let place = subst (Locates s.args.t.now s.args.p) k.in-In.is l.locate-l.ensures in
     let e = place.0 in
-    let u = k.l.given.0.0 in
-    let i = k.l.given.0.1.0 in
+    let u = k.in-In.u in
+    let i = k.in-In.i in
     let slot = (located s.requires.1.order s.args.p u i place).1 in
     let w = c.before.before.before.before.before.before.before.before in
-    let t' = w.bring-to-six.new.0 in
+    let t' = w.bring_to_six-s.new.t in
     let r = c.before.before in
     near_on s.args.level.0 s.args.t.now s.args.p u e
-    c.before.before.before.before.before.before.before.before.before.before.before.before.before.if1.false
-    c.before.before.before.before.before.before.before.before.before.before.before.before.if2.false
-    c.before.before.before.before.before.before.before.before.before.before.if4.false w.bring-to-six.result.number
-    w.bring-to-six.result.free t' w.bring-to-six.ensures c.before.before.before.before.if5.false
-    r.subdivide-raised.result.number r.subdivide-raised.result.free r.subdivide-raised.new.0
-    (after_same (ap (raised_at t') (slot_is t' u.at i (w.bring-to-six.ensures.stays u.at i slot))) r.subdivide-raised.ensures)
+    c.if-d-eq0.false
+    c.if-d-eq6.false
+    c.if-own-level-2.false w.bring_to_six-s.result.number
+    w.bring_to_six-s.result.free t' w.bring_to_six-s.ensures c.if-s-ne-DONE.false
+    r.subdivide_raised.result.number r.subdivide_raised.result.free r.subdivide_raised.new.t
+    (after_same (ap (raised_at t') (slot_is t' u.at i (w.bring_to_six-s.ensures.stays u.at i slot))) r.subdivide_raised.ensures)
 
-pub +bring-to-six-subdivide-neighbour-spec : {M : Type 1} → statement M
-+bring-to-six-subdivide-neighbour-spec =
+pub +bring_to_six_subdivide_neighbour_spec : {M : Type 1} → statement M
++bring_to_six_subdivide_neighbour_spec =
     close μ-bring-to-six μ-subdivide-neighbour (λ t. bring-to-six-lts.spec (
       adjacent-of-reads.Asked,
       adjacent-of-reads.Learnt,

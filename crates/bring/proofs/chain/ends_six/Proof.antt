@@ -5,25 +5,25 @@ use Rattle.bring.specs.Bring.{is_six}
 use Rattle.bring.proofs.chain.ends_six.Statement.{statement}
 use Rattle.bring.proofs.chain.ends_six.Tie as tie
 
-held-in-requires : tie.Need-held-in-requires
+held-in-requires : tie.Need-held_in-l-requires
 held-in-requires c κs = search rules
 
-enum_told : tie.Need-enum-told
+enum_told : tie.Need-enum_told-1
 enum_told c = search rules
 
-enum-known-l : tie.Need-enum-known-l
+enum-known-l : tie.Need-enum_known-l
 enum-known-l c = search rules
 
-returns : tie.Need-returns
+returns : tie.Need-returns-in-Absent
 returns c =
-    let l = c.before.before in
-    ap is_six (sym c.enum_told.given.1 ∙ l.held_in.ensures)
+    let l = c.before in
+    ap is_six (sym c.in-Absent.is ∙ l.held_in-l.ensures)
 
-returns-2 : tie.Need-returns-2
+returns-2 : tie.Need-returns-in-Held
 returns-2 c =
-    let k = c.before.before in
-    let l = k.before.before in
-    ap is_six (sym k.l.given.1 ∙ l.held_in.ensures)
+    let k = c.before in
+    let l = k.before in
+    ap is_six (sym k.in-Held.is ∙ l.held_in-l.ensures)
 
-pub ends-six-spec : {M : Type 1} → statement M
-ends-six-spec = tie.close (tie.spec held-in-requires enum_told enum-known-l returns returns-2)
+pub ends_six_spec : {M : Type 1} → statement M
+ends_six_spec = tie.close (tie.spec held-in-requires enum_told enum-known-l returns returns-2)

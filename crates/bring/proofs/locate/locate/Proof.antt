@@ -30,37 +30,37 @@ module _ (f : tie.After-find) where
   unfolding look_up
   looked o e = ap (looked_at t) (ended o e)
 
-held-in-requires : tie.Need-held-in-requires
+held-in-requires : tie.Need-held_in-requires
 held-in-requires c κs =
-    let k = c.before in
-    let f = k.before.before in
-    at_room (t f) (s f).args.n (s f).requires (point f) k.i.given.0.0 (ended f _ k.i.given.1)
+    let k = c in
+    let f = k.before in
+    at_room (t f) (s f).args.n (s f).requires (point f) k.in-At.i (ended f _ k.in-At.is)
 
 -- past the slot where it ended
-abbrev searched : tie.After-held-in → tie.After-find
-searched h = h.before.before.before.before
+abbrev searched : tie.After-held_in → tie.After-find
+searched h = h.before.before
 
 -- what the slot holds is what stands at the point
-in-slot : (h : tie.After-held-in) → look_up (t (searched h)) (point (searched h)) ≡ h.held_in.result
-in-slot h = let k = h.before.before in looked (searched h) (found.At k.i.given.0.0) k.i.given.1 ∙ sym h.held_in.ensures
+in-slot : (h : tie.After-held_in) → look_up (t (searched h)) (point (searched h)) ≡ h.held_in.result
+in-slot h = let k = h.before in looked (searched h) (found.At k.in-At.i) k.in-At.is ∙ sym h.held_in.ensures
 
-returns : tie.Need-returns
-returns c = in-slot c.before.before ∙ c.enum_told.given.1
+returns : tie.Need-returns-in-Absent
+returns c = in-slot c.before ∙ c.in-Absent.is
 
-returns-2 : tie.Need-returns-2
+returns-2 : tie.Need-returns-in-Held
 returns-2 c =
-    let k = c.before in
-    let h = k.before.before in
-    (in-slot h ∙ k.u.given.1, ended (searched h) _ h.before.before.i.given.1)
+    let k = c in
+    let h = k.before in
+    (in-slot h ∙ k.in-Held.is, ended (searched h) _ h.in-At.is)
 
-returns-3 : tie.Need-returns-3
-returns-3 c = looked c.before.before (found.Free _) c.enum-told2.given.1
+returns-3 : tie.Need-returns-in-Free
+returns-3 c = looked c.before (found.Free _) c.in-Free.is
 
-returns-4 : tie.Need-returns-4
-returns-4 c = looked c.before.before found.Full c.enum-told3.given.1
+returns-4 : tie.Need-returns-in-Full
+returns-4 c = looked c.before found.Full c.in-Full.is
 
-pub locate-spec : {M : Type 1} → statement M
-locate-spec =
+pub locate_spec : {M : Type 1} → statement M
+locate_spec =
     tie.close
     (tie.spec
     (λ c κs. search rules)

@@ -32,146 +32,146 @@ round-first d = go (eqb 0 d)
     go true = refl
     go false = refl
 
-abbrev invariant-loop : tie.invariant-loop
-invariant-loop t v k n d faces₀ sides₀ plain₀ row first a₀ j₀ faces sides plain a j =
+abbrev invariant-loop-j : tie.invariant-loop-j
+invariant-loop-j t v k n d faces₀ sides₀ plain₀ row first a₀ j₀ faces sides plain a j =
     (j ≤ v.d)
     × (Summed (corner_count t k v) 1 j faces
     × (Summed (side_count t k v) 3 j sides
     × ((a ≡ placed_of t (adjacent_at v (round v.d j))) × (plain ≡ upto j (plain_at t k v)))))
 
-abbrev decreases-loop : tie.decreases-loop
-decreases-loop t v k n d faces₀ sides₀ plain₀ row first a₀ j₀ faces sides plain a j = v.d - j
+abbrev decreases-loop-j : tie.decreases-loop-j
+decreases-loop-j t v k n d faces₀ sides₀ plain₀ row first a₀ j₀ faces sides plain a j = v.d - j
 
-returns : tie.Need-returns invariant-loop decreases-loop
+returns : tie.Need-returns-then-d-eq0 invariant-loop-j decreases-loop-j
 returns c =
     let s = c.before.before in
     let a = s.args in
-    let none : (f : ℕ → ℕ) → 0 ≡ sum_below f a.v.d = λ f. sym (sum-none f) ∙ ap (sum_below f) (sym c.if1.true) in
-    let all = ap (λ (d : ℕ). upto d (plain_at a.t.now a.k a.v)) (sym c.if1.true) in (
+    let none : (f : ℕ → ℕ) → 0 ≡ sum_below f a.v.d = λ f. sym (sum-none f) ∙ ap (sum_below f) (sym c.if-d-eq0.true) in
+    let all = ap (λ (d : ℕ). upto d (plain_at a.t.now a.k a.v)) (sym c.if-d-eq0.true) in (
       (λ i. faces_and_sides (none (corner_count a.t.now a.k a.v) i) (none (side_count a.t.now a.k a.v) i) (all i)),
       (omega arith, omega arith),
     )
 
-ring-requires : tie.Need-ring-requires invariant-loop decreases-loop
+ring-requires : tie.Need-ring-requires invariant-loop-j decreases-loop-j
 ring-requires c κs =
     let i = c.before in
     let s = i.before.before in
-    valid-inner s.args.v 0 s.requires.1.0 (omega (arith, i.if1.false))
+    valid-inner s.args.v 0 s.requires.1.0 (omega (arith, i.if-d-eq0.false))
 
-point-at-requires : tie.Need-point-at-requires invariant-loop decreases-loop
+point-at-requires : tie.Need-point_at-requires invariant-loop-j decreases-loop-j
 point-at-requires c κs =
     let i = c.before.before.before in
     let s = i.before.before in
-    (c.before.ring.ensures, (valid-inner s.args.v 0 s.requires.1.0 (omega (arith, i.if1.false)), omega (arith, i.if1.false)))
+    (c.ring.ensures, (valid-inner s.args.v 0 s.requires.1.0 (omega (arith, i.if-d-eq0.false)), omega (arith, i.if-d-eq0.false)))
 
-loop-holds : tie.Need-loop-init invariant-loop decreases-loop
+loop-holds : tie.Need-loop-j-init invariant-loop-j decreases-loop-j
 loop-holds c =
-    let a = c.before.before.before.before.before.before.before.args in
+    let a = c.args in
     let t = a.t.now in (
       omega arith,
       (
         summed-start (corner_count t a.k a.v) 1,
         (
           summed-start (side_count t a.k a.v) 3,
-          (c.with-slot.ensures ∙ ap (placed_of t) (c.before.point_at.ensures ∙ ap (adjacent_at a.v) (round-first a.v.d)), refl),
+          (c.with_slot-first.ensures ∙ ap (placed_of t) (c.point_at.ensures ∙ ap (adjacent_at a.v) (round-first a.v.d)), refl),
         ),
       ),
     )
 
 -- in the loop there is a star
-module _ (c : tie.In-loop invariant-loop decreases-loop) where
-  abbrev s : tie.Start invariant-loop decreases-loop
+module _ (c : tie.In-loop-j invariant-loop-j decreases-loop-j) where
+  abbrev s : tie.Start invariant-loop-j decreases-loop-j
   s = c.before.before.before.before.before.before.before.before.before
 
   star : Inner s.args.v
-  star = valid-inner s.args.v c.before.loop.j s.pre.1.0 (omega (arith, c.loop-test.true))
+  star = valid-inner s.args.v c.loop-j.j s.requires.1.0 (omega (arith, c.loop-j-test.true))
 
 -- the first adjacent point, found before the loop
-next-placed-requires : tie.Need-next-placed-requires invariant-loop decreases-loop
+next-placed-requires : tie.Need-next_placed-b-requires invariant-loop-j decreases-loop-j
 next-placed-requires c κs =
     let i = c.before in
     let z = s i in
     let w = i.before.before in
     let p = w.before in
     let r = p.before.before in (
-      subst (λ (n : ℕ). Table z.args.t.now n) (sym z.pre.0.1.0) z.pre.0.0.fits,
+      subst (λ (n : ℕ). Table z.args.t.now n) (sym z.requires.0.1.0) z.requires.0.0.fits,
       (
         r.ring.ensures,
-        ((star i, omega (arith, i.loop-test.true)), w.with-slot.ensures ∙ ap (placed_of z.args.t.now) p.point_at.ensures),
+        ((star i, omega (arith, i.loop-j-test.true)), w.with_slot-first.ensures ∙ ap (placed_of z.args.t.now) p.point_at.ensures),
       ),
     )
 
 -- the next adjacent point
-module _ (c : tie.After-next-placed invariant-loop decreases-loop) where
-  abbrev loop : tie.In-loop invariant-loop decreases-loop
+module _ (c : tie.After-next_placed-b invariant-loop-j decreases-loop-j) where
+  abbrev loop : tie.In-loop-j invariant-loop-j decreases-loop-j
   loop = c.before.before
 
-  next : c.next-placed.result ≡ placed_of (s loop).args.t.now (adjacent_at (s loop).args.v (next_place (s loop).args.v.d loop.before.loop.j))
-  next = c.next-placed.ensures
+  next : c.next_placed-b.result ≡ placed_of (s loop).args.t.now (adjacent_at (s loop).args.v (next_place (s loop).args.v.d loop.loop-j.j))
+  next = c.next_placed-b.ensures
 
-count-corner-requires : tie.Need-count-corner-requires invariant-loop decreases-loop
+count-corner-requires : tie.Need-count_corner-c-requires invariant-loop-j decreases-loop-j
 count-corner-requires c κs =
     let i = loop c in
     let z = s i in
     let a = z.args in
-    let j = i.before.loop.j in
-    let n = ne_eqb j a.v.d (λ e. omega (arith, i.loop-test.taken)) in (
-      z.pre.0,
+    let j = i.loop-j.j in
+    let n = ne_eqb j a.v.d (λ e. omega (arith, i.loop-j-test.true)) in (
+      z.requires.0,
       (
-        (star i, omega (arith, i.loop-test.taken)),
+        (star i, omega (arith, i.loop-j-test.true)),
         (
-          z.pre.1.1,
-          (i.before.loop.inv.1.1.1.0 ∙ ap (λ (b : Bool). placed_of a.t.now (adjacent_at a.v (cond b 0 j))) n, next c),
+          z.requires.1.1,
+          (i.loop-j.invariant.1.1.1.0 ∙ ap (λ (b : Bool). placed_of a.t.now (adjacent_at a.v (cond b 0 j))) n, next c),
         ),
       ),
     )
 
-add-faces : tie.Need-overflow-add-faces invariant-loop decreases-loop
+add-faces : tie.Need-overflow_add-faces invariant-loop-j decreases-loop-j
 add-faces c =
     let i = loop c.before.before in
-    let l = i.before.loop.inv in
-    record { fits = omega (arith, l.1.0.most, l.0, (star i).top, c.before.count-corner.ensures.1.0) }
+    let l = i.loop-j.invariant in
+    record { fits = omega (arith, l.1.0.most, l.0, (star i).top, c.count_corner-c.ensures.1.0) }
 
-add-sides : tie.Need-overflow-add-sides invariant-loop decreases-loop
+add-sides : tie.Need-overflow_add-sides invariant-loop-j decreases-loop-j
 add-sides c =
     let i = loop c.before.before.before in
-    let l = i.before.loop.inv in
-    record { fits = omega (arith, l.1.1.0.most, l.0, (star i).top, c.before.before.count-corner.ensures.1.1) }
+    let l = i.loop-j.invariant in
+    record { fits = omega (arith, l.1.1.0.most, l.0, (star i).top, c.count_corner-c.ensures.1.1) }
 
-add-j : tie.Need-overflow-add-j invariant-loop decreases-loop
-add-j c = let i = loop c.before.before.before.before in record { fits = omega (arith, i.loop-test.taken, (star i).top) }
+add-j : tie.Need-overflow_add-j invariant-loop-j decreases-loop-j
+add-j c = let i = loop c.before.before.before.before in record { fits = omega (arith, i.loop-j-test.true, (star i).top) }
 
-loop-again : tie.Need-loop-preserved invariant-loop decreases-loop
+loop-again : tie.Need-loop-j-preserved invariant-loop-j decreases-loop-j
 loop-again c =
     let r = c.before.before.before in
     let i = loop r.before in
-    let l = i.before.loop in
+    let l = i.loop-j in
     let a = (s i).args in
     let t = a.t.now in
-    let e = r.count-corner.ensures in (
-      omega (arith, i.loop-test.taken),
+    let e = r.count_corner-c.ensures in (
+      omega (arith, i.loop-j-test.true),
       (
-        summed-more (corner_count t a.k a.v) 1 l.j l.faces r.count-corner.result.faces l.inv.1.0
+        summed-more (corner_count t a.k a.v) 1 l.j l.faces r.count_corner-c.result.faces l.invariant.1.0
             (ap (λ (x : Counted). x.faces) e.0) e.1.0,
         (
-          summed-more (side_count t a.k a.v) 3 l.j l.sides r.count-corner.result.sides l.inv.1.1.0
+          summed-more (side_count t a.k a.v) 3 l.j l.sides r.count_corner-c.result.sides l.invariant.1.1.0
               (ap (λ (x : Counted). x.sides) e.0) e.1.1,
           (
             next r.before,
-            all_more (plain_at t a.k a.v) l.j l.plain r.count-corner.result.plain l.inv.1.1.1.1
+            all_more (plain_at t a.k a.v) l.j l.plain r.count_corner-c.result.plain l.invariant.1.1.1.1
                 (ap (λ (x : Counted). x.plain) e.0),
           ),
         ),
       ),
     )
 
-returns-2 : tie.Need-returns-2 invariant-loop decreases-loop
+returns-2 : tie.Need-returns invariant-loop-j decreases-loop-j
 returns-2 c =
-    let l = c.before.loop in
+    let l = c.loop-j in
     let z = c.before.before.before.before.before.before.before.before.before in
     let a = z.args in
     let t = a.t.now in
-    let e : l.j ≡ a.v.d = omega (arith, l.invariant.0, c.loop-test.false) in
+    let e : l.j ≡ a.v.d = omega (arith, l.invariant.0, c.loop-j-test.false) in
     let d = valid-degree a.v z.requires.1.0 in (
       (λ i. faces_and_sides ((l.invariant.1.0.is ∙ ap (sum_below (corner_count t a.k a.v)) e) i)
           ((l.invariant.1.1.0.is ∙ ap (sum_below (side_count t a.k a.v)) e) i)
@@ -179,12 +179,12 @@ returns-2 c =
       (omega (arith, l.invariant.1.0.most, l.invariant.0, d), omega (arith, l.invariant.1.1.0.most, l.invariant.0, d)),
     )
 
-pub count-star-spec : {M : Type 1} → statement M
-count-star-spec =
+pub count_star_spec : {M : Type 1} → statement M
+count_star_spec =
     tie.close
     (tie.spec
-    invariant-loop
-    decreases-loop
+    invariant-loop-j
+    decreases-loop-j
     returns
     ring-requires
     point-at-requires

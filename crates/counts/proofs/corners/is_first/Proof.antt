@@ -6,18 +6,18 @@ use Rattle.firsts.specs.Earlier.{inners_in}
 use Rattle.counts.proofs.corners.is_first.Statement.{statement}
 use Rattle.counts.proofs.corners.is_first.Tie as tie
 
-returns : tie.Need-returns
+returns : tie.Need-returns-then-seen
 returns c =
-    let a = c.before.before.args in
+    let a = c.args in
     let x = not (inners_in a.t.now a.k a.a a.o a.b) in
-    sym (or-true x) ∙ ap (λ (b : Bool). x || b) (sym c.if1.true)
+    sym (or-true x) ∙ ap (λ (b : Bool). x || b) (sym c.if-seen.true)
 
-returns-2 : tie.Need-returns-2
+returns-2 : tie.Need-returns
 returns-2 c =
     let i = c.before in
-    let a = i.before.before.args in
-    ap not c.inners-before.ensures ∙ sym (or-false (not (inners_in a.t.now a.k a.a a.o a.b)))
-    ∙ ap (λ (b : Bool). not (inners_in a.t.now a.k a.a a.o a.b) || b) (sym i.if1.false)
+    let a = i.args in
+    ap not c.inners_before.ensures ∙ sym (or-false (not (inners_in a.t.now a.k a.a a.o a.b)))
+    ∙ ap (λ (b : Bool). not (inners_in a.t.now a.k a.a a.o a.b) || b) (sym i.if-seen.false)
 
-pub is-first-spec : {M : Type 1} → statement M
-is-first-spec = tie.close (tie.spec returns (λ c κs. search rules) returns-2)
+pub is_first_spec : {M : Type 1} → statement M
+is_first_spec = tie.close (tie.spec returns (λ c κs. search rules) returns-2)

@@ -5,11 +5,11 @@ use Rattle.counts.specs.Counted.{degree_at}
 use Rattle.counts.proofs.degrees.degree_in.Statement.{statement}
 use Rattle.counts.proofs.degrees.degree_in.Tie as tie
 
-returns : tie.Need-returns
-returns c = ap degree_at (sym c.enum_told.given.1 ∙ c.before.before.read-slot.ensures)
+returns : tie.Need-returns-in-Free
+returns c = ap degree_at (sym c.in-Free.is ∙ c.read_slot.ensures)
 
-returns-2 : tie.Need-returns-2
-returns-2 c = ap degree_at (sym c.before.v.given.1 ∙ c.before.before.before.read-slot.ensures)
+returns-2 : tie.Need-returns-in-Holds
+returns-2 c = ap degree_at (sym c.in-Holds.is ∙ c.read_slot.ensures)
 
-pub degree-in-spec : {M : Type 1} → statement M
-degree-in-spec = tie.close (tie.spec (λ c κs. search rules) (λ c. search rules) (λ c. search rules) returns returns-2)
+pub degree_in_spec : {M : Type 1} → statement M
+degree_in_spec = tie.close (tie.spec (λ c κs. search rules) (λ c. search rules) (λ c. search rules) returns returns-2)

@@ -10,23 +10,23 @@ use Rattle.counts.specs.Counted.{has_either, apex_seen}
 use Rattle.counts.proofs.sides.apex_seen.Statement.{statement}
 use Rattle.counts.proofs.sides.apex_seen.Tie as tie
 
-slot-of-requires : tie.Need-slot-of-requires
+slot-of-requires : tie.Need-slot_of-s-requires
 slot-of-requires c κs = let s = c.before in subst (Table s.args.t.now) (sym s.requires.1.0) (order-table s.args.t.now s.requires.0)
 
 earlier-requires : tie.Need-earlier-requires
 earlier-requires c κs = let s = c.before.before in
     (subst (Table s.args.t.now) (sym s.requires.1.0) (order-table s.args.t.now s.requires.0), s.requires.1.1)
 
-has-either-requires : tie.Need-has-either-requires
+has-either-requires : tie.Need-has_either-requires
 has-either-requires c κs =
-    let u = c.before in
-    let e = u.before.before in
+    let u = c in
+    let e = u.before in
     let x = e.before in
     let s = x.before.before in
     let t = s.args.t.now in (
       subst (Table t) (sym s.requires.1.0) (order-table t s.requires.0),
-      earlier-valid t s.requires.0 s.args.k (omega (arith, s.requires.1.0, s.requires.1.1)) x.slot_of.result u.u.given.0.0
-          (sym e.earlier.ensures ∙ u.u.given.1),
+      earlier-valid t s.requires.0 s.args.k (omega (arith, s.requires.1.0, s.requires.1.1)) x.slot_of-s.result u.in-Held.u
+          (sym e.earlier.ensures ∙ u.in-Held.is),
     )
 
 -- past the search, by what it found
@@ -39,22 +39,22 @@ module _ (c : tie.After-earlier) where
   unfolding apex_seen
   seen =
       let a = s.args in
-      ap (held_and (has_either a.t.now a.p a.q)) (c.earlier.ensures ∙ ap (earlier_in a.t.now a.k) c.before.slot_of.ensures)
+      ap (held_and (has_either a.t.now a.p a.q)) (c.earlier.ensures ∙ ap (earlier_in a.t.now a.k) c.slot_of-s.ensures)
 
-returns : tie.Need-returns
+returns : tie.Need-returns-in-Absent
 returns c =
-    let e = c.before.before in
+    let e = c.before in
     let a = (s e).args in
-    ap (held_and (has_either a.t.now a.p a.q)) (sym c.enum_told.given.1) ∙ seen e
+    ap (held_and (has_either a.t.now a.p a.q)) (sym c.in-Absent.is) ∙ seen e
 
-returns-2 : tie.Need-returns-2
+returns-2 : tie.Need-returns-in-Held
 returns-2 c =
-    let u = c.before.before in
-    let e = u.before.before in
+    let u = c.before in
+    let e = u.before in
     let a = (s e).args in
-    c.has_either.ensures ∙ ap (held_and (has_either a.t.now a.p a.q)) (sym u.u.given.1) ∙ seen e
+    c.has_either.ensures ∙ ap (held_and (has_either a.t.now a.p a.q)) (sym u.in-Held.is) ∙ seen e
 
-pub apex-seen-spec : {M : Type 1} → statement M
-apex-seen-spec =
+pub apex_seen_spec : {M : Type 1} → statement M
+apex_seen_spec =
     tie.close
     (tie.spec slot-of-requires earlier-requires (λ c. search rules) (λ c. search rules) has-either-requires returns returns-2)

@@ -10,47 +10,47 @@ use Rattle.counts.specs.Counted.{far_seen, far_before}
 use Rattle.counts.proofs.sides.far_before.Statement.{statement}
 use Rattle.counts.proofs.sides.far_before.Tie as tie
 
-abbrev invariant-loop : tie.invariant-loop
-invariant-loop t p q k n c₀ c = (c ≤ 8) × (among c (far_seen t k p q) ≡ false)
+abbrev invariant-loop-c : tie.invariant-loop-c
+invariant-loop-c t p q k n c₀ c = (c ≤ 8) × (among c (far_seen t k p q) ≡ false)
 
-abbrev decreases-loop : tie.decreases-loop
-decreases-loop t p q k n c₀ c = 8 - c
+abbrev decreases-loop-c : tie.decreases-loop-c
+decreases-loop-c t p q k n c₀ c = 8 - c
 
-far-seen-requires : tie.Need-far-seen-requires invariant-loop decreases-loop
+far-seen-requires : tie.Need-far_seen-requires invariant-loop-c decreases-loop-c
 far-seen-requires c κs =
     let s = c.before.before.before in
-    (s.requires.0, (s.requires.1.0, (s.requires.1.1, omega (arith, c.loop-test.true))))
+    (s.requires.0, (s.requires.1.0, (s.requires.1.1, omega (arith, c.loop-c-test.true))))
 
-returns : tie.Need-returns invariant-loop decreases-loop
+returns : tie.Need-returns-then-far_seen invariant-loop-c decreases-loop-c
 unfolding far_before
 returns c =
     let i = c.before.before in
-    let a = i.before.before.before.args in
-    sym (at-among (far_seen a.t.now a.k a.p a.q) 8 i.before.loop.c (omega (arith, i.loop-test.true))
-    (sym c.before.far-seen.ensures ∙ c.if1.true))
+    let a = i.args in
+    sym (at-among (far_seen a.t.now a.k a.p a.q) 8 i.loop-c.c (omega (arith, i.loop-c-test.true))
+    (sym c.far_seen.ensures ∙ c.if-far_seen.true))
 
-loop-again : tie.Need-loop-preserved invariant-loop decreases-loop
+loop-again : tie.Need-loop-c-preserved invariant-loop-c decreases-loop-c
 loop-again c =
     let i = c.before.before in
-    let a = i.before.before.before.args in (
-      omega (arith, i.loop-test.true),
-      among-more (far_seen a.t.now a.k a.p a.q) i.before.loop.c i.before.loop.invariant.1 (sym c.before.far-seen.ensures ∙ c.if1.false),
+    let a = i.args in (
+      omega (arith, i.loop-c-test.true),
+      among-more (far_seen a.t.now a.k a.p a.q) i.loop-c.c i.loop-c.invariant.1 (sym c.far_seen.ensures ∙ c.if-far_seen.false),
     )
 
-returns-2 : tie.Need-returns-2 invariant-loop decreases-loop
+returns-2 : tie.Need-returns invariant-loop-c decreases-loop-c
 unfolding far_before
 returns-2 c =
     let o = c.before in
-    let a = o.before.before.args in
-    let e : o.loop.c ≡ 8 = omega (arith, o.loop.invariant.0, c.loop-test.false) in
-    sym o.loop.invariant.1 ∙ ap (λ (k : ℕ). among k (far_seen a.t.now a.k a.p a.q)) e
+    let a = o.args in
+    let e : o.loop-c.c ≡ 8 = omega (arith, o.loop-c.invariant.0, c.loop-c-test.false) in
+    sym o.loop-c.invariant.1 ∙ ap (λ (k : ℕ). among k (far_seen a.t.now a.k a.p a.q)) e
 
-pub far-before-spec : {M : Type 1} → statement M
-far-before-spec =
+pub far_before_spec : {M : Type 1} → statement M
+far_before_spec =
     tie.close
     (tie.spec
-    invariant-loop
-    decreases-loop
+    invariant-loop-c
+    decreases-loop-c
     (λ c. search rules)
     far-seen-requires
     returns

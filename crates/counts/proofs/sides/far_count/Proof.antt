@@ -25,32 +25,32 @@ module _ (s : tie.Start) where
   before = placed_at s.args.t.now _ _ s.requires.1.1.0.adjacent
 
   after : s.args.b.at ≡ adjacent_at s.args.v (next_place s.args.v.d s.args.j)
-  after = placed_at s.args.t.now _ _ s.pre.1.1.0.next
+  after = placed_at s.args.t.now _ _ s.requires.1.1.0.next
 
   opposite : StarPoint s.args.o.at
   opposite = let a = s.args in
-      chosen-bound a.v s.pre.1.0.0 a.t.now a.j a.o.at s.pre.1.0.1 s.pre.1.1.0.chosen
+      chosen-bound a.v s.requires.1.0.0 a.t.now a.j a.o.at s.requires.1.0.1 s.requires.1.1.0.chosen
 
   -- what the ends are known to have
   first : ltb 0 s.args.fits.adjacent || ltb 0 s.args.fits.opposite ≡ true → end_has s.args.t.now s.args.a.at s.args.o.at ≡ true
   first h =
       let a = s.args in
       let t = a.t.now in
-      let r = s.pre.1.1.0 in
+      let r = s.requires.1.1.0 in
       ap (λ (p : Point). end_has t p a.o.at) before
-      ∙ before-ended t 0 (omega arith) (face_on a.v a.j a.o.at) a.a.slot a.o.slot a.b.slot a.fits s.pre.1.1.1.0
+      ∙ before-ended t 0 (omega arith) (face_on a.v a.j a.o.at) a.a.slot a.o.slot a.b.slot a.fits s.requires.1.1.1.0
       (placed-slot t _ _ r.adjacent ∙ ap (slot_in t) before) r.opposite h
 
   second : ltb 0 s.args.fits.next || ltb 0 s.args.fits.opposite ≡ true → end_has s.args.t.now s.args.b.at s.args.o.at ≡ true
   second h =
       let a = s.args in
       let t = a.t.now in
-      let r = s.pre.1.1.0 in
+      let r = s.requires.1.1.0 in
       ap (λ (p : Point). end_has t p a.o.at) after
-      ∙ after-ended t 0 (omega arith) (face_on a.v a.j a.o.at) a.a.slot a.o.slot a.b.slot a.fits s.pre.1.1.1.0
+      ∙ after-ended t 0 (omega arith) (face_on a.v a.j a.o.at) a.a.slot a.o.slot a.b.slot a.fits s.requires.1.1.1.0
       (placed-slot t _ _ r.next ∙ ap (slot_in t) after) r.opposite h
 
-far-one-requires : tie.Need-far-one-requires
+far-one-requires : tie.Need-far_one-before-requires
 far-one-requires c κs =
     let s = c.before.before.before.before in
     let a = s.args in
@@ -62,7 +62,7 @@ far-one-requires c κs =
       ),
     )
 
-far-one-requires-2 : tie.Need-far-one-requires-2
+far-one-requires-2 : tie.Need-far_one-after-requires
 far-one-requires-2 c κs =
     let s = c.before.before.before.before.before.before.before in
     let a = s.args in
@@ -84,10 +84,10 @@ returns c =
     let s = x.before.before.before.before.before in
     let a = s.args in
     let one : Point → ℕ = λ p. far_one a.t.now a.k a.v.at p a.o.at in (
-      (λ i. (x.far-one.ensures.0 ∙ ap one (before s)) i + (c.far-one2.ensures.0 ∙ ap one (after s)) i)
+      (λ i. (x.far_one-before.ensures.0 ∙ ap one (before s)) i + (c.far_one-after.ensures.0 ∙ ap one (after s)) i)
           ∙ far-counted a.t.now a.k a.v a.j a.o.at s.requires.1.1.0.chosen,
-      omega (arith, x.far-one.ensures.1, c.far-one2.ensures.1),
+      omega (arith, x.far_one-before.ensures.1, c.far_one-after.ensures.1),
     )
 
-pub far-count-spec : {M : Type 1} → statement M
-far-count-spec = tie.close (tie.spec far-one-requires far-one-requires-2 (λ c. search rules) returns)
+pub far_count_spec : {M : Type 1} → statement M
+far_count_spec = tie.close (tie.spec far-one-requires far-one-requires-2 (λ c. search rules) returns)

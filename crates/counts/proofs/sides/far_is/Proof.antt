@@ -13,52 +13,52 @@ use Rattle.counts.proofs.sides.far_is.Statement.{statement}
 use Rattle.counts.proofs.sides.far_is.Tie as tie
 
 -- what the first test says, and the second
-module _ (c : tie.After-same-point) where
+module _ (c : tie.After-same_point) where
   first : (b : Bool) → c.same_point.result ≡ b
-      → same_point (adjacent_at c.before.before.before.args.u c.before.before.before.args.i) c.before.before.before.args.p ≡ b
-  first b e = ap (λ (q : Point). same_point q c.before.before.before.args.p) (sym c.before.adjacent-of.ensures) ∙ sym c.same_point.ensures ∙ e
+      → same_point (adjacent_at c.args.u c.args.i) c.args.p ≡ b
+  first b e = ap (λ (q : Point). same_point q c.args.p) (sym c.adjacent_of.ensures) ∙ sym c.same_point.ensures ∙ e
 
-module _ (c : tie.After-same-point2) where
-  second : (b : Bool) → c.same-point2.result ≡ b
-      → same_point (adjacent_at c.before.before.before.before.before.before.before.args.u
-      (next_place c.before.before.before.before.before.before.before.args.u.d
-      c.before.before.before.before.before.before.before.args.i)) c.before.before.before.before.before.before.before.args.p ≡ b
+module _ (c : tie.After-same_point-2) where
+  second : (b : Bool) → c.same_point-2.result ≡ b
+      → same_point (adjacent_at c.args.u
+      (next_place c.args.u.d
+      c.args.i)) c.args.p ≡ b
   second b e =
       let n = c.before.before in
-      let a = n.before.before.before.before.before.args in
-      ap (λ (q : Point). same_point q a.p) (sym (c.before.adjacent-of2.ensures ∙ ap (adjacent_at a.u) n.next_place.ensures.0))
-      ∙ sym c.same-point2.ensures ∙ e
+      let a = n.args in
+      ap (λ (q : Point). same_point q a.p) (sym (c.adjacent_of-2.ensures ∙ ap (adjacent_at a.u) n.next_place.ensures.0))
+      ∙ sym c.same_point-2.ensures ∙ e
 
-returns : tie.Need-returns
+returns : tie.Need-returns-then-same_point
 returns c =
     let h = c.before in
     let e = h.before in
     let s = e.before in
-    let a = s.before.before.before.args in
+    let a = s.args in
     c.spot_is.ensures ∙ ap (λ (x : Spot). spot_is x a.q) h.chosen.ensures
-    ∙ far-first a.t.now a.p a.q a.u a.i (first s true e.if1.true)
+    ∙ far-first a.t.now a.p a.q a.u a.i (first s true e.if-same_point.true)
 
-returns-2 : tie.Need-returns-2
+returns-2 : tie.Need-returns-then-same_point-2
 returns-2 c =
     let h = c.before in
     let f = h.before in
     let r = f.before in
     let e = r.before.before.before in
     let s = e.before in
-    let a = s.before.before.before.args in
-    c.spot-is2.ensures ∙ ap (λ (x : Spot). spot_is x a.q) h.chosen2.ensures
-    ∙ far-second a.t.now a.p a.q a.u a.i (first s false e.if1.false) (second r true f.if2.true)
+    let a = s.args in
+    c.spot_is-then-same_point-2.ensures ∙ ap (λ (x : Spot). spot_is x a.q) h.chosen-then-same_point-2.ensures
+    ∙ far-second a.t.now a.p a.q a.u a.i (first s false e.if-same_point.false) (second r true f.if-same_point-2.true)
 
-returns-3 : tie.Need-returns-3
+returns-3 : tie.Need-returns
 returns-3 c =
     let r = c.before in
     let e = r.before.before.before in
     let s = e.before in
-    let a = s.before.before.before.args in
-    far-neither a.t.now a.p a.q a.u a.i (first s false e.if1.false) (second r false c.if2.false)
+    let a = s.args in
+    far-neither a.t.now a.p a.q a.u a.i (first s false e.if-same_point.false) (second r false c.if-same_point-2.false)
 
-pub far-is-spec : {M : Type 1} → statement M
-far-is-spec =
+pub far_is_spec : {M : Type 1} → statement M
+far_is_spec =
     tie.close
     (tie.spec
     (λ c κs. search rules)

@@ -10,16 +10,16 @@ use Rattle.counts.specs.Counted.{far_seen}
 use Rattle.counts.proofs.sides.far_seen.Statement.{statement}
 use Rattle.counts.proofs.sides.far_seen.Tie as tie
 
-has-far-requires : tie.Need-has-far-requires
+has-far-requires : tie.Need-has_far-requires
 has-far-requires c κs =
-    let u = c.before in
-    let e = u.before.before in
+    let u = c in
+    let e = u.before in
     let x = e.before in
     let s = x.before.before.before in
     let t = s.args.t.now in (
       subst (Table t) (sym s.requires.0.1.0) (order-table t s.requires.0.0),
-      earlier-valid t s.requires.0.0 s.args.k (omega (arith, s.requires.0.1.0, s.requires.0.1.1)) x.slot_of.result u.u.given.0.0
-          (sym e.earlier.ensures ∙ u.u.given.1),
+      earlier-valid t s.requires.0.0 s.args.k (omega (arith, s.requires.0.1.0, s.requires.0.1.1)) x.slot_of-s.result u.in-Held.u
+          (sym e.earlier.ensures ∙ u.in-Held.is),
     )
 
 -- past the search, by what it found
@@ -34,23 +34,23 @@ module _ (c : tie.After-earlier) where
       let a = s.args in
       ap (held_and (has_far a.t.now a.p a.q))
       (c.earlier.ensures
-      ∙ ap (earlier_in a.t.now a.k) (c.before.slot_of.ensures ∙ ap (slot_in a.t.now) c.before.before.across.ensures))
+      ∙ ap (earlier_in a.t.now a.k) (c.slot_of-s.ensures ∙ ap (slot_in a.t.now) c.across.ensures))
 
-returns : tie.Need-returns
+returns : tie.Need-returns-in-Absent
 returns c =
-    let e = c.before.before in
+    let e = c.before in
     let a = (s e).args in
-    ap (held_and (has_far a.t.now a.p a.q)) (sym c.enum_told.given.1) ∙ seen e
+    ap (held_and (has_far a.t.now a.p a.q)) (sym c.in-Absent.is) ∙ seen e
 
-returns-2 : tie.Need-returns-2
+returns-2 : tie.Need-returns-in-Held
 returns-2 c =
-    let u = c.before.before in
-    let e = u.before.before in
+    let u = c.before in
+    let e = u.before in
     let a = (s e).args in
-    c.has-far.ensures ∙ ap (held_and (has_far a.t.now a.p a.q)) (sym u.u.given.1) ∙ seen e
+    c.has_far.ensures ∙ ap (held_and (has_far a.t.now a.p a.q)) (sym u.in-Held.is) ∙ seen e
 
-pub far-seen-spec : {M : Type 1} → statement M
-far-seen-spec =
+pub far_seen_spec : {M : Type 1} → statement M
+far_seen_spec =
     tie.close
     (tie.spec
     (λ c κs. search rules)

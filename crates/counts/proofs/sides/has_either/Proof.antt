@@ -8,16 +8,16 @@ use Rattle.counts.proofs.sides.has_either.Statement.{statement}
 use Rattle.counts.proofs.sides.has_either.Tie as tie
 
 -- what the first test says
-first : (c : tie.After-has-far) (b : Bool) → c.has-far.result ≡ b
-    → b || has_far c.before.before.args.t.now c.before.before.args.q c.before.before.args.p c.before.before.args.u
-    ≡ has_either c.before.before.args.t.now c.before.before.args.p c.before.before.args.q c.before.before.args.u
+first : (c : tie.After-has_far) (b : Bool) → c.has_far.result ≡ b
+    → b || has_far c.args.t.now c.args.q c.args.p c.args.u
+    ≡ has_either c.args.t.now c.args.p c.args.q c.args.u
 unfolding has_either
-first c b e = let a = c.before.before.args in ap (λ (x : Bool). x || has_far a.t.now a.q a.p a.u) (sym e ∙ c.has-far.ensures)
+first c b e = let a = c.args in ap (λ (x : Bool). x || has_far a.t.now a.q a.p a.u) (sym e ∙ c.has_far.ensures)
 
-returns-2 : tie.Need-returns-2
-returns-2 c = c.has-far2.ensures ∙ first c.before.before _ c.before.if1.false
+returns-2 : tie.Need-returns
+returns-2 c = c.has_far-2.ensures ∙ first c.before.before _ c.if-has_far.false
 
-pub has-either-spec : {M : Type 1} → statement M
-has-either-spec =
+pub has_either_spec : {M : Type 1} → statement M
+has_either_spec =
     tie.close
-    (tie.spec (λ c κs. search rules) (λ c. first c.before _ c.if1.true) (λ c κs. search rules) returns-2)
+    (tie.spec (λ c κs. search rules) (λ c. first c.before _ c.if-has_far.true) (λ c κs. search rules) returns-2)

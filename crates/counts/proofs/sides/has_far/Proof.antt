@@ -11,47 +11,47 @@ use Rattle.firsts.specs.EarlierLaws.{valid-inner}
 use Rattle.counts.proofs.sides.has_far.Statement.{statement}
 use Rattle.counts.proofs.sides.has_far.Tie as tie
 
-abbrev invariant-loop : tie.invariant-loop
-invariant-loop t u p q n d i₀ i = (i ≤ u.d) × (among i (far_is t p q u) ≡ false)
+abbrev invariant-loop-i : tie.invariant-loop-i
+invariant-loop-i t u p q n d i₀ i = (i ≤ u.d) × (among i (far_is t p q u) ≡ false)
 
-abbrev decreases-loop : tie.decreases-loop
-decreases-loop t u p q n d i₀ i = u.d - i
+abbrev decreases-loop-i : tie.decreases-loop-i
+decreases-loop-i t u p q n d i₀ i = u.d - i
 
-far-is-requires : tie.Need-far-is-requires invariant-loop decreases-loop
+far-is-requires : tie.Need-far_is-requires invariant-loop-i decreases-loop-i
 far-is-requires c κs =
     let s = c.before.before.before in
-    (s.requires.0, (valid-inner s.args.u c.before.loop.i s.requires.1 (omega (arith, c.loop-test.true)), omega (arith, c.loop-test.true)))
+    (s.requires.0, (valid-inner s.args.u c.loop-i.i s.requires.1 (omega (arith, c.loop-i-test.true)), omega (arith, c.loop-i-test.true)))
 
-returns : tie.Need-returns invariant-loop decreases-loop
+returns : tie.Need-returns-then-far_is invariant-loop-i decreases-loop-i
 unfolding has_far
 returns c =
     let i = c.before.before in
-    let a = i.before.before.before.args in
-    sym (at-among (far_is a.t.now a.p a.q a.u) a.u.d i.before.loop.i (omega (arith, i.loop-test.true))
-    (sym c.before.far-is.ensures ∙ c.if1.true))
+    let a = i.args in
+    sym (at-among (far_is a.t.now a.p a.q a.u) a.u.d i.loop-i.i (omega (arith, i.loop-i-test.true))
+    (sym c.far_is.ensures ∙ c.if-far_is.true))
 
-loop-again : tie.Need-loop-preserved invariant-loop decreases-loop
+loop-again : tie.Need-loop-i-preserved invariant-loop-i decreases-loop-i
 loop-again c =
     let l = c.before.before.before in
-    let a = l.before.before.args in (
-      omega (arith, c.before.before.loop-test.true),
-      among-more (far_is a.t.now a.p a.q a.u) l.loop.i l.loop.invariant.1 (sym c.before.far-is.ensures ∙ c.if1.false),
+    let a = l.args in (
+      omega (arith, c.loop-i-test.true),
+      among-more (far_is a.t.now a.p a.q a.u) l.loop-i.i l.loop-i.invariant.1 (sym c.far_is.ensures ∙ c.if-far_is.false),
     )
 
-returns-2 : tie.Need-returns-2 invariant-loop decreases-loop
+returns-2 : tie.Need-returns invariant-loop-i decreases-loop-i
 unfolding has_far
 returns-2 c =
     let l = c.before in
-    let a = l.before.before.args in
-    let e : l.loop.i ≡ a.u.d = omega (arith, l.loop.invariant.0, c.loop-test.false) in
-    sym l.loop.invariant.1 ∙ ap (λ (k : ℕ). among k (far_is a.t.now a.p a.q a.u)) e
+    let a = l.args in
+    let e : l.loop-i.i ≡ a.u.d = omega (arith, l.loop-i.invariant.0, c.loop-i-test.false) in
+    sym l.loop-i.invariant.1 ∙ ap (λ (k : ℕ). among k (far_is a.t.now a.p a.q a.u)) e
 
-pub has-far-spec : {M : Type 1} → statement M
-has-far-spec =
+pub has_far_spec : {M : Type 1} → statement M
+has_far_spec =
     tie.close
     (tie.spec
-    invariant-loop
-    decreases-loop
+    invariant-loop-i
+    decreases-loop-i
     (λ c. search rules)
     far-is-requires
     returns

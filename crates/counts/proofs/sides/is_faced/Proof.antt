@@ -7,22 +7,22 @@ use Rattle.counts.specs.CaseLaws.{faced-first, faced-second}
 use Rattle.counts.proofs.sides.is_faced.Statement.{statement}
 use Rattle.counts.proofs.sides.is_faced.Tie as tie
 
-returns : tie.Need-returns
+returns : tie.Need-returns-then-has_face
 returns c =
     let h = c.before in
-    let a = h.before.before.args in
-    faced-first a.t.now a.u a.i (sym h.has-face.ensures ∙ c.if1.true)
+    let a = h.args in
+    faced-first a.t.now a.u a.i (sym h.has_face.ensures ∙ c.if-has_face.true)
 
-returns-2 : tie.Need-returns-2
+returns-2 : tie.Need-returns
 returns-2 c =
     let p = c.before in
     let e = p.before in
     let h = e.before in
-    let a = h.before.before.args in
-    c.has-face2.ensures ∙ ap (λ (j : ℕ). is_point (chosen_at a.t.now a.u j)) p.prev-place.ensures.0
-    ∙ faced-second a.t.now a.u a.i (sym h.has-face.ensures ∙ e.if1.false)
+    let a = h.args in
+    c.has_face-2.ensures ∙ ap (λ (j : ℕ). is_point (chosen_at a.t.now a.u j)) p.prev_place.ensures.0
+    ∙ faced-second a.t.now a.u a.i (sym h.has_face.ensures ∙ e.if-has_face.false)
 
-pub is-faced-spec : {M : Type 1} → statement M
-is-faced-spec =
+pub is_faced_spec : {M : Type 1} → statement M
+is_faced_spec =
     tie.close
     (tie.spec (λ c κs. search rules) returns (λ c κs. search rules) (λ c κs. search rules) returns-2)

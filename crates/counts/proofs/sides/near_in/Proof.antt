@@ -9,33 +9,33 @@ use Rattle.firsts.specs.EarlierLaws.{earlier-valid}
 use Rattle.counts.proofs.sides.near_in.Statement.{statement}
 use Rattle.counts.proofs.sides.near_in.Tie as tie
 
-has-near-requires : tie.Need-has-near-requires
+has-near-requires : tie.Need-has_near-requires
 has-near-requires c κs =
-    let u = c.before in
-    let e = u.before.before in
+    let u = c in
+    let e = u.before in
     let s = e.before.before in
     let t = s.args.t.now in (
       subst (Table t) (sym s.requires.1.0) (order-table t s.requires.0),
-      earlier-valid t s.requires.0 s.args.k (omega (arith, s.requires.1.0, s.requires.1.1)) s.args.s u.u.given.0.0
-          (sym e.earlier.ensures ∙ u.u.given.1),
+      earlier-valid t s.requires.0 s.args.k (omega (arith, s.requires.1.0, s.requires.1.1)) s.args.s u.in-Held.u
+          (sym e.earlier.ensures ∙ u.in-Held.is),
     )
 
-returns : tie.Need-returns
+returns : tie.Need-returns-in-Absent
 unfolding near_in
 returns c =
-    let e = c.before.before in
-    let a = e.before.before.args in
-    ap (held_and (has_near a.t.now a.p)) (sym c.enum_told.given.1 ∙ e.earlier.ensures)
+    let e = c.before in
+    let a = e.args in
+    ap (held_and (has_near a.t.now a.p)) (sym c.in-Absent.is ∙ e.earlier.ensures)
 
-returns-2 : tie.Need-returns-2
+returns-2 : tie.Need-returns-in-Held
 unfolding near_in
 returns-2 c =
-    let u = c.before.before in
-    let e = u.before.before in
-    let a = e.before.before.args in
-    c.has-near.ensures ∙ ap (held_and (has_near a.t.now a.p)) (sym u.u.given.1 ∙ e.earlier.ensures)
+    let u = c.before in
+    let e = u.before in
+    let a = e.args in
+    c.has_near.ensures ∙ ap (held_and (has_near a.t.now a.p)) (sym u.in-Held.is ∙ e.earlier.ensures)
 
-pub near-in-spec : {M : Type 1} → statement M
-near-in-spec =
+pub near_in_spec : {M : Type 1} → statement M
+near_in_spec =
     tie.close
     (tie.spec (λ c κs. search rules) (λ c. search rules) (λ c. search rules) has-near-requires returns returns-2)

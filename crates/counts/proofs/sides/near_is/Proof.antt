@@ -11,25 +11,25 @@ use Rattle.counts.proofs.sides.near_is.Statement.{statement}
 use Rattle.counts.proofs.sides.near_is.Tie as tie
 
 -- what the test says
-module _ (c : tie.After-same-point) where
+module _ (c : tie.After-same_point) where
   tested : (b : Bool) → c.same_point.result ≡ b
-      → same_point (adjacent_at c.before.before.before.args.u c.before.before.before.args.i) c.before.before.before.args.p ≡ b
-  tested b e = ap (λ (q : Point). same_point q c.before.before.before.args.p) (sym c.before.adjacent-of.ensures) ∙ sym c.same_point.ensures ∙ e
+      → same_point (adjacent_at c.args.u c.args.i) c.args.p ≡ b
+  tested b e = ap (λ (q : Point). same_point q c.args.p) (sym c.adjacent_of.ensures) ∙ sym c.same_point.ensures ∙ e
 
-returns : tie.Need-returns
+returns : tie.Need-returns-then-not-same_point
 returns c =
     let s = c.before in
-    let a = s.before.before.before.args in
-    ap (λ (b : Bool). b && faced a.t.now a.u a.i) (sym (tested s false (not-true s.same_point.result c.if1.true)))
+    let a = s.args in
+    ap (λ (b : Bool). b && faced a.t.now a.u a.i) (sym (tested s false (not-true s.same_point.result c.if-not-same_point.true-raw)))
 
-returns-2 : tie.Need-returns-2
+returns-2 : tie.Need-returns
 returns-2 c =
     let e = c.before in
     let s = e.before in
-    let a = s.before.before.before.args in
-    c.is-faced.ensures ∙ ap (λ (b : Bool). b && faced a.t.now a.u a.i) (sym (tested s true (not-false s.same_point.result e.if1.false)))
+    let a = s.args in
+    c.is_faced.ensures ∙ ap (λ (b : Bool). b && faced a.t.now a.u a.i) (sym (tested s true (not-false s.same_point.result e.if-not-same_point.false-raw)))
 
-pub near-is-spec : {M : Type 1} → statement M
-near-is-spec =
+pub near_is_spec : {M : Type 1} → statement M
+near_is_spec =
     tie.close
     (tie.spec (λ c κs. search rules) (λ c κs. search rules) returns (λ c κs. search rules) returns-2)

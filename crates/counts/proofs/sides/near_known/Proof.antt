@@ -12,17 +12,17 @@ use Rattle.firsts.specs.ToldLaws.{near-earlier}
 use Rattle.counts.proofs.sides.near_known.Statement.{statement}
 use Rattle.counts.proofs.sides.near_known.Tie as tie
 
-returns : tie.Need-returns
+returns : tie.Need-returns-then-k-s
 unfolding near_in earlier_in
 returns c =
-    let a = c.before.before.args in
-    ap (λ (b : Bool). held_and (has_near a.t.now a.p) (cond b (held_in (slot_at a.t.now a.s)) Absent)) (sym (le-ltb a.s a.k c.if1.true))
+    let a = c.args in
+    ap (λ (b : Bool). held_and (has_near a.t.now a.p) (cond b (held_in (slot_at a.t.now a.s)) Absent)) (sym (le-ltb a.s a.k c.if-k-s.true))
 
-returns-2 : tie.Need-returns-2
+returns-2 : tie.Need-returns-then-known
 returns-2 c =
     let s = c.before.before.before in
     let a = s.args in
-    sym (near-earlier a.t.now a.k a.s a.p c.before.if1.false (omega (arith, s.requires.0.1.0, s.requires.0.1.1)) ∙ s.requires.1 c.if2.true)
+    sym (near-earlier a.t.now a.k a.s a.p c.if-k-s.false (omega (arith, s.requires.0.1.0, s.requires.0.1.1)) ∙ s.requires.1 c.if-known.true)
 
-pub near-known-spec : {M : Type 1} → statement M
-near-known-spec = tie.close (tie.spec returns returns-2 (λ c κs. search rules) (λ c. c.near-in.ensures))
+pub near_known_spec : {M : Type 1} → statement M
+near_known_spec = tie.close (tie.spec returns returns-2 (λ c κs. search rules) (λ c. c.near_in.ensures))

@@ -12,49 +12,49 @@ use Rattle.local.specs.Slots.{is_some, pass_below, some-none, pass-none, some_mo
 use Rattle.local.proofs.checks.all_pass.Statement.{statement}
 use Rattle.local.proofs.checks.all_pass.Tie as tie
 
-abbrev invariant-loop : tie.invariant-loop
-invariant-loop t n i₀ any₀ i any = (i ≤ n) × ((pass_below t i ≡ true) × (any ≡ is_some (records_below t i)))
+abbrev invariant-loop-i : tie.invariant-loop-i
+invariant-loop-i t n i₀ any₀ i any = (i ≤ n) × ((pass_below t i ≡ true) × (any ≡ is_some (records_below t i)))
 
-abbrev decreases-loop : tie.decreases-loop
-decreases-loop t n i₀ any₀ i any = n - i
+abbrev decreases-loop-i : tie.decreases-loop-i
+decreases-loop-i t n i₀ any₀ i any = n - i
 
-loop-holds : tie.Need-loop-init invariant-loop decreases-loop
-loop-holds c = let t = c.before.args.t.now in (omega arith, (pass-none t, sym (some-none t)))
+loop-holds : tie.Need-loop-i-init invariant-loop-i decreases-loop-i
+loop-holds c = let t = c.args.t.now in (omega arith, (pass-none t, sym (some-none t)))
 
-returns : tie.Need-returns invariant-loop decreases-loop
+returns : tie.Need-returns-then-not-v invariant-loop-i decreases-loop-i
 returns c =
     let j = c.before.before in
     let l = j.before.before in
     let s = l.before.before in
-    let h : l.loop.i < slots_of s.args.t.now = omega (arith, j.before.loop-test.true, s.requires.1) in
-    passes-failed s.args.t.now l.loop.i h
-    (ap (λ (v : Judged). v.passes) (sym j.judge.ensures) ∙ not-true j.judge.result.passes c.if1.true)
+    let h : l.loop-i.i < slots_of s.args.t.now = omega (arith, j.loop-i-test.true, s.requires.1) in
+    passes-failed s.args.t.now l.loop-i.i h
+    (ap (λ (v : Judged). v.passes) (sym j.judge-v.ensures) ∙ not-true j.judge-v.result.passes c.if-not-v.true)
 
-loop-again : tie.Need-loop-preserved invariant-loop decreases-loop
+loop-again : tie.Need-loop-i-preserved invariant-loop-i decreases-loop-i
 loop-again c =
     let e = c.before in
     let j = e.before.before in
     let l = j.before.before in
-    let t = l.before.before.args.t.now in
-    let v = j.judge.ensures in
-    let p = ap (λ (v : Judged). v.passes) (sym v) ∙ not-false j.judge.result.passes e.if1.false in (
+    let t = l.args.t.now in
+    let v = j.judge-v.ensures in
+    let p = ap (λ (v : Judged). v.passes) (sym v) ∙ not-false j.judge-v.result.passes e.if-not-v.false in (
       search rules,
-      (sym (pass-more t l.loop.i) ∙ (λ i. l.loop.invariant.1.0 i && p i), (λ i. l.loop.invariant.1.1 i || (v i).holds) ∙ some_more t l.loop.i),
+      (sym (pass-more t l.loop-i.i) ∙ (λ i. l.loop-i.invariant.1.0 i && p i), (λ i. l.loop-i.invariant.1.1 i || (v i).holds) ∙ some_more t l.loop-i.i),
     )
 
-returns-2 : tie.Need-returns-2 invariant-loop decreases-loop
+returns-2 : tie.Need-returns invariant-loop-i decreases-loop-i
 returns-2 c =
     let l = c.before in
     let s = l.before.before in
-    let e : l.loop.i ≡ slots_of s.args.t.now = omega arith in
-    l.loop.invariant.1.1 ∙ passes-all s.args.t.now l.loop.i e l.loop.invariant.1.0
+    let e : l.loop-i.i ≡ slots_of s.args.t.now = omega arith in
+    l.loop-i.invariant.1.1 ∙ passes-all s.args.t.now l.loop-i.i e l.loop-i.invariant.1.0
 
-pub all-pass-spec : {M : Type 1} → statement M
-all-pass-spec =
+pub all_pass_spec : {M : Type 1} → statement M
+all_pass_spec =
     tie.close
     (tie.spec
-    invariant-loop
-    decreases-loop
+    invariant-loop-i
+    decreases-loop-i
     loop-holds
     (λ c κs. search rules)
     returns

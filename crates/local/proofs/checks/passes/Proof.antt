@@ -10,23 +10,23 @@ use Rattle.local.specs.PlaceLaws.{local-place}
 use Rattle.local.proofs.checks.passes.Statement.{statement}
 use Rattle.local.proofs.checks.passes.Tie as tie
 
-module _ (c : tie.After-place-passes) where
+module _ (c : tie.After-place_passes) where
   -- the place decided, what degree 6 asks is left
-  past : (b : Bool) → c.place-passes.result ≡ b
-      → b && (not (eqb c.before.before.args.r.d 6) || six_test (sheet_of c.before.before.args.t.now) c.before.before.args.r) ≡ local_test
-      (sheet_of c.before.before.args.t.now) c.before.before.args.r
+  past : (b : Bool) → c.place_passes.result ≡ b
+      → b && (not (eqb c.args.r.d 6) || six_test (sheet_of c.args.t.now) c.args.r) ≡ local_test
+      (sheet_of c.args.t.now) c.args.r
   past b e =
-      let a = c.before.before.args in
-      ap (λ (x : Bool). x && (not (eqb a.r.d 6) || six_test (sheet_of a.t.now) a.r)) (sym e ∙ c.place-passes.ensures)
+      let a = c.args in
+      ap (λ (x : Bool). x && (not (eqb a.r.d 6) || six_test (sheet_of a.t.now) a.r)) (sym e ∙ c.place_passes.ensures)
       ∙ local-place (sheet_of a.t.now) a.r
 
-returns : tie.Need-returns
-returns c = past c.before false (not-true c.before.place-passes.result c.if1.true)
+returns : tie.Need-returns-then-not-place_passes
+returns c = past c.before false (not-true c.place_passes.result c.if-not-place_passes.true-raw)
 
-returns-2 : tie.Need-returns-2
+returns-2 : tie.Need-returns
 returns-2 c =
     let v = c.before.before in
-    c.six-passes.ensures ∙ past v true (not-false v.place-passes.result c.before.if1.false)
+    c.six_passes.ensures ∙ past v true (not-false v.place_passes.result c.if-not-place_passes.false-raw)
 
-pub passes-spec : {M : Type 1} → statement M
-passes-spec = tie.close (tie.spec (λ c κs. search rules) returns (λ c κs. search rules) returns-2)
+pub passes_spec : {M : Type 1} → statement M
+passes_spec = tie.close (tie.spec (λ c κs. search rules) returns (λ c κs. search rules) returns-2)

@@ -18,14 +18,14 @@ returns c =
     let m2 = h2.before in
     let h1 = m2.before in
     let m1 = h1.before in
-    let t = m1.before.before.args.t.now in
-    let e1 = b1.bit.ensures.0 ∙ ap one (h1.is-there.ensures ∙ held-there t m1.moved.ensures) in
-    let e2 = b2.bit2.ensures.0 ∙ ap one (h2.is-there2.ensures ∙ held-there t m2.moved2.ensures) in
-    let e3 = c.bit3.ensures.0 ∙ ap one (h3.is-there3.ensures ∙ held-there t m3.moved3.ensures) in
-    ((λ i. e1 i + e2 i + e3 i), omega (arith, b1.bit.ensures.1, b2.bit2.ensures.1, c.bit3.ensures.1))
+    let t = m1.args.t.now in
+    let e1 = b1.bit.ensures.0 ∙ ap one (h1.is_there-x.ensures ∙ held-there t m1.moved.ensures) in
+    let e2 = b2.bit-2.ensures.0 ∙ ap one (h2.is_there-y.ensures ∙ held-there t m2.moved-2.ensures) in
+    let e3 = c.bit-3.ensures.0 ∙ ap one (h3.is_there-z.ensures ∙ held-there t m3.moved-3.ensures) in
+    ((λ i. e1 i + e2 i + e3 i), omega (arith, b1.bit.ensures.1, b2.bit-2.ensures.1, c.bit-3.ensures.1))
 
-pub ring-count-spec : {M : Type 1} → statement M
-ring-count-spec =
+pub ring_count_spec : {M : Type 1} → statement M
+ring_count_spec =
     tie.close
     (tie.spec
     (λ c κs. search rules)

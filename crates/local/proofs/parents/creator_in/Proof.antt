@@ -17,25 +17,25 @@ early e f h = omega arith
 late : {x i r n : ℕ} → x ≡ r → i ≡ n → i - 1 ≤ x → n - 1 ≤ r
 late e f h = omega arith
 
-rank-requires-2 : tie.Need-rank-requires-2
+rank-requires-2 : tie.Need-rank-requires
 rank-requires-2 c κs =
     let s = c.before.before.before in
     omega (arith, ap (λ (q : Point). q.m.0) c.parent.ensures, parent-depth s.args.p 0 s.requires.depth)
 
-rank-requires-3 : tie.Need-rank-requires-3
+rank-requires-3 : tie.Need-rank-requires-2
 rank-requires-3 c κs =
     let s = c.before.before.before.before.before.before.before in
-    omega (arith, ap (λ (q : Point). q.m.0) c.parent2.ensures, parent-depth s.args.p 1 s.requires.depth)
+    omega (arith, ap (λ (q : Point). q.m.0) c.parent-2.ensures, parent-depth s.args.p 1 s.requires.depth)
 
-returns : tie.Need-returns
+returns : tie.Need-returns-then-rank-b
 returns c =
     let q = c.before.before in
     let w = q.before in
     let s = w.before.before in
-    let a = s.before.args in
-    creator-first a.p a.s (early (q.rank2.ensures ∙ ap rank_of w.parent.ensures) s.rank.ensures c.if1.true)
+    let a = s.args in
+    creator-first a.p a.s (early (q.rank.ensures ∙ ap rank_of w.parent.ensures) s.rank-b.ensures c.if-rank-b.true)
 
-returns-2 : tie.Need-returns-2
+returns-2 : tie.Need-returns-then-rank-b-2
 returns-2 c =
     let u = c.before.before in
     let v = u.before in
@@ -43,11 +43,11 @@ returns-2 c =
     let q = l.before.before in
     let w = q.before in
     let s = w.before.before in
-    let a = s.before.args in
-    creator-second a.p a.s (late (q.rank2.ensures ∙ ap rank_of w.parent.ensures) s.rank.ensures l.if1.false)
-    (early (u.rank3.ensures ∙ ap rank_of v.parent2.ensures) s.rank.ensures c.if2.true)
+    let a = s.args in
+    creator-second a.p a.s (late (q.rank.ensures ∙ ap rank_of w.parent.ensures) s.rank-b.ensures l.if-rank-b.false)
+    (early (u.rank-2.ensures ∙ ap rank_of v.parent-2.ensures) s.rank-b.ensures c.if-rank-b-2.true)
 
-returns-3 : tie.Need-returns-3
+returns-3 : tie.Need-returns
 returns-3 c =
     let u = c.before.before in
     let v = u.before in
@@ -55,12 +55,12 @@ returns-3 c =
     let q = l.before.before in
     let w = q.before in
     let s = w.before.before in
-    let a = s.before.args in
-    creator-third a.p a.s (late (q.rank2.ensures ∙ ap rank_of w.parent.ensures) s.rank.ensures l.if1.false)
-    (late (u.rank3.ensures ∙ ap rank_of v.parent2.ensures) s.rank.ensures c.if2.false)
+    let a = s.args in
+    creator-third a.p a.s (late (q.rank.ensures ∙ ap rank_of w.parent.ensures) s.rank-b.ensures l.if-rank-b.false)
+    (late (u.rank-2.ensures ∙ ap rank_of v.parent-2.ensures) s.rank-b.ensures c.if-rank-b-2.false)
 
-pub creator-in-spec : {M : Type 1} → statement M
-creator-in-spec =
+pub creator_in_spec : {M : Type 1} → statement M
+creator_in_spec =
     tie.close
     (tie.spec
     (λ c κs. search rules)

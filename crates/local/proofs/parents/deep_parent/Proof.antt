@@ -18,5 +18,5 @@ returns c =
     ∙ ap (stand_at t) p.stepped.ensures
     ∙ (λ i. stand_at t (step_end (to_z-of_z s.ranges.a i) (to_z-of_z s.ranges.b i) s.args.m.0 (to_z-of_z s.ranges.x i) (to_z-of_z s.ranges.y i)))
 
-pub deep-parent-spec : {M : Type 1} → statement M
-deep-parent-spec = tie.close (tie.spec (λ c κs. search rules) (λ c κs. search rules) (λ c κs. search rules) returns)
+pub deep_parent_spec : {M : Type 1} → statement M
+deep_parent_spec = tie.close (tie.spec (λ c κs. search rules) (λ c κs. search rules) (λ c κs. search rules) returns)

@@ -31,14 +31,14 @@ module _ (s : tie.Start) where
   t = s.args.t.now
 
   a-is : read p.a ≡ p.a
-  a-is = to_z-of_z (small-a p s.pre.1.0.small)
+  a-is = to_z-of_z (small-a p s.requires.1.0.small)
 
   b-is : read p.b ≡ p.b
-  b-is = to_z-of_z (small_b p s.pre.1.0.small)
+  b-is = to_z-of_z (small_b p s.requires.1.0.small)
 
   sized : (nat_abs (read p.a) ≤ summable) × (nat_abs (read p.b) ≤ summable)
   sized =
-      let (x, y) = small_size p s.pre.1.0.small in
+      let (x, y) = small_size p s.requires.1.0.small in
       (subst (λ (z : ℤ). nat_abs z ≤ summable) (sym a-is) x, subst (λ (z : ℤ). nat_abs z ≤ summable) (sym b-is) y)
 
 -- a step in direction e, as the code reads it
@@ -60,64 +60,64 @@ module _ {w : Point} (e : ℕ) (h : w ≡ way_of e) where
       ∙ ap (stand_at (t s)) (parent-step (p s) j s.requires.1.1)
 
 -- each step, by the lattice's rule
-module _ (c : tie.After-foremost) where
+module _ (c : tie.After-foremost-x) where
   abbrev from : tie.Start
   from = c.before.before.before
 
-  first : c.foremost.result ≡ way_of (birth_of (p from))
-  first = c.foremost.ensures ∙ move-first _ ∙ ap way_of c.before.birth.ensures
+  first : c.foremost-x.result ≡ way_of (birth_of (p from))
+  first = c.foremost-x.ensures ∙ move-first _ ∙ ap way_of c.birth.ensures
 
 -- two directions on
 abbrev on : ℕ → ℕ
 on e = suc (suc e)
 
-abbrev born : tie.After-foremost → ℕ
+abbrev born : tie.After-foremost-x → ℕ
 born c = birth_of (p (from c))
 
 between : (c : tie.After-turn60) → c.turn60.result ≡ way_of (on (born c.before))
 between c = way-turned _ c.turn60.ensures (first c.before)
 
-second : (c : tie.After-turn602) → c.turn602.result ≡ way_of (on (on (born c.before.before)))
-second c = way-turned _ c.turn602.ensures (between c.before)
+second : (c : tie.After-turn60-y) → c.turn60-y.result ≡ way_of (on (on (born c.before.before)))
+second c = way-turned _ c.turn60-y.ensures (between c.before)
 
-beyond : (c : tie.After-turn603) → c.turn603.result ≡ way_of (on (on (on (born c.before.before.before))))
-beyond c = way-turned _ c.turn603.ensures (second c.before)
+beyond : (c : tie.After-turn60-2) → c.turn60-2.result ≡ way_of (on (on (on (born c.before.before.before))))
+beyond c = way-turned _ c.turn60-2.ensures (second c.before)
 
-third : (c : tie.After-turn604) → c.turn604.result ≡ way_of (on (on (on (on (born c.before.before.before.before)))))
-third c = way-turned _ c.turn604.ensures (beyond c.before)
+third : (c : tie.After-turn60-z) → c.turn60-z.result ≡ way_of (on (on (on (on (born c.before.before.before.before)))))
+third c = way-turned _ c.turn60-z.ensures (beyond c.before)
 
 turn60-requires : tie.Need-turn60-requires
 turn60-requires c κs = let n = way-near _ (first c) in (omega (arith, n.0), omega (arith, n.1))
 
-turn60-requires-2 : tie.Need-turn60-requires-2
+turn60-requires-2 : tie.Need-turn60-y-requires
 turn60-requires-2 c κs = let n = way-near _ (between c) in (omega (arith, n.0), omega (arith, n.1))
 
-turn60-requires-3 : tie.Need-turn60-requires-3
+turn60-requires-3 : tie.Need-turn60-requires-2
 turn60-requires-3 c κs = let n = way-near _ (second c) in (omega (arith, n.0), omega (arith, n.1))
 
-turn60-requires-4 : tie.Need-turn60-requires-4
+turn60-requires-4 : tie.Need-turn60-z-requires
 turn60-requires-4 c κs = let n = way-near _ (beyond c) in (omega (arith, n.0), omega (arith, n.1))
 
-deep-parent-requires : tie.Need-deep-parent-requires
+deep-parent-requires : tie.Need-deep_parent-first-requires
 deep-parent-requires c κs =
     let q = c.before.before.before.before.before in
     let f = q.before.before.before.before in
     let s = from f in
-    (s.pre.0, (sized s, (short _ (first f), s.pre.1.1)))
+    (s.requires.0, (sized s, (short _ (first f), s.requires.1.1)))
 
-deep-parent-requires-2 : tie.Need-deep-parent-requires-2
+deep-parent-requires-2 : tie.Need-deep_parent-second-requires
 deep-parent-requires-2 c κs =
     let q = c.before.before.before.before.before.before.before.before.before.before in
     let f = q.before.before.before.before in
     let s = from f in
-    (s.pre.0, (sized s, (short _ (second q.before.before), s.pre.1.1)))
+    (s.requires.0, (sized s, (short _ (second q.before.before), s.requires.1.1)))
 
-deep-parent-requires-3 : tie.Need-deep-parent-requires-3
+deep-parent-requires-3 : tie.Need-deep_parent-third-requires
 deep-parent-requires-3 c κs =
     let q = c.before.before.before.before.before.before.before.before.before.before.before.before.before.before.before in
     let f = q.before.before.before.before in
     let s = from f in
-    (s.pre.0, (sized s, (short _ (third q), s.pre.1.1)))
+    (s.requires.0, (sized s, (short _ (third q), s.requires.1.1)))
 
 returns : tie.Need-returns
 returns c =
@@ -126,13 +126,13 @@ returns c =
     let q = u.before.before.before.before.before.before in
     let f = q.before.before.before.before in
     let s = from f in
-    let e₁ = u.deep-parent.ensures ∙ end _ (first f) s 0 (omega arith) in
-    let e₂ = v.deep-parent2.ensures ∙ end _ (second q.before.before) s 1 (omega arith) in
-    let e₃ = c.deep-parent3.ensures ∙ end _ (third q) s 2 (omega arith) in
+    let e₁ = u.deep_parent-first.ensures ∙ end _ (first f) s 0 (omega arith) in
+    let e₂ = v.deep_parent-second.ensures ∙ end _ (second q.before.before) s 1 (omega arith) in
+    let e₃ = c.deep_parent-third.ensures ∙ end _ (third q) s 2 (omega arith) in
     λ i. record { first = e₁ i; second = e₂ i; third = e₃ i }
 
-pub deep-parents-spec : {M : Type 1} → statement M
-deep-parents-spec =
+pub deep_parents_spec : {M : Type 1} → statement M
+deep_parents_spec =
     tie.close
     (tie.spec
     (λ c κs. search rules)

@@ -9,7 +9,7 @@ returns : tie.Need-returns
 returns c =
     let l = c.before in
     let p = l.before in
-    c.stand.ensures ∙ ap stand_of l.look_up.ensures ∙ ap (stand_at p.before.before.args.t.now) p.parent.ensures
+    c.stand.ensures ∙ ap stand_of l.look_up.ensures ∙ ap (stand_at p.args.t.now) p.parent.ensures
 
-pub parent-of-spec : {M : Type 1} → statement M
-parent-of-spec = tie.close (tie.spec (λ c κs. search rules) (λ c κs. search rules) (λ c κs. search rules) returns)
+pub parent_of_spec : {M : Type 1} → statement M
+parent_of_spec = tie.close (tie.spec (λ c κs. search rules) (λ c κs. search rules) (λ c κs. search rules) returns)

@@ -15,18 +15,18 @@ six u h = simp (eq-eqb u.d 6 h)
 other : (u : Record) → (u.d ≡ 6 → ⊥) → 1 ≡ stand_of (Held u)
 other u h = simp (ne_eqb u.d 6 h)
 
-returns-2 : tie.Need-returns-2
+returns-2 : tie.Need-returns-then-u-eq6
 returns-2 c =
-    let k = c.before.before.before.before in
-    six k.l.given.0.0 c.before.if1.true ∙ ap stand_of (sym k.l.given.1)
-
-returns-3 : tie.Need-returns-3
-returns-3 c =
     let k = c.before.before.before in
-    other k.l.given.0.0 c.if1.false ∙ ap stand_of (sym k.l.given.1)
+    six k.in-Held.u c.if-u-eq6.true ∙ ap stand_of (sym k.in-Held.is)
 
-pub stand-spec : {M : Type 1} → statement M
-stand-spec =
+returns-3 : tie.Need-returns-else-u-eq6
+returns-3 c =
+    let k = c.before.before in
+    other k.in-Held.u c.if-u-eq6.false ∙ ap stand_of (sym k.in-Held.is)
+
+pub stand_spec : {M : Type 1} → statement M
+stand_spec =
     tie.close
     (tie.spec
     (λ c. search rules)

@@ -16,13 +16,13 @@ use Rattle.local.specs.PlaceLaws.{corner-by}
 use Rattle.local.proofs.places.corner_passes.Statement.{statement}
 use Rattle.local.proofs.places.corner_passes.Tie as tie
 
-ring-count-requires : tie.Need-ring-count-requires
+ring-count-requires : tie.Need-ring_count-h-requires
 ring-count-requires c κs =
     let s = c.before.before.before.before in
-    let e = turn_even c.before.class.result in
+    let e = turn_even c.class.result in
     (s.requires.0.0, (valid-small s.args.r s.requires.0.1, (omega (arith, c.turn.ensures), omega (arith, c.turn.ensures))))
 
-module _ (c : tie.After-ring-count) where
+module _ (c : tie.After-ring_count-h) where
   abbrev start : tie.Start
   start = c.before.before.before.before.before
 
@@ -35,41 +35,41 @@ module _ (c : tie.After-ring-count) where
   abbrev h : ℕ
   h = ring_of R start.args.r.at (turn_of (class_of start.args.r.at))
 
-  number : c.ring-count.result ≡ h
-  number = c.ring-count.ensures.0 ∙ ap (ring_of R start.args.r.at) (c.before.turn.ensures ∙ ap turn_of c.before.before.class.ensures)
+  number : c.ring_count-h.result ≡ h
+  number = c.ring_count-h.ensures.0 ∙ ap (ring_of R start.args.r.at) (c.turn.ensures ∙ ap turn_of c.class.ensures)
 
   by : ringed h (eqb d 0) && (eqb d 0 || star_test R start.args.r) ≡ starred (corner_test R start.args.r) R start.args.r
   by = corner-by start.args.t.now start.args.r
 
-returns : tie.Need-returns
-returns c = let v = c.before in ring-none (h v) (d v) (star_test (R v) (start v).args.r) (sym (number v) ∙ c.if1.true) ∙ by v
+returns : tie.Need-returns-then-h-eq0
+returns c = let v = c.before in ring-none (h v) (d v) (star_test (R v) (start v).args.r) (sym (number v) ∙ c.if-h-eq0.true) ∙ by v
 
-some : (c : tie.Else1) → h c.before ≡ 0 → ⊥
-some c e = c.if1.false (number c.before ∙ e)
+some : (c : tie.Else-h-eq0) → h c.before ≡ 0 → ⊥
+some c e = c.if-h-eq0.false (number c.before ∙ e)
 
-returns-2 : tie.Need-returns-2
+returns-2 : tie.Need-returns-then-d-eq0
 returns-2 c =
     let l = c.before in
     let v = l.before in
-    ap (λ (x : ℕ). ltb x 3) (number v) ∙ ring-boundary (h v) (d v) (star_test (R v) (start v).args.r) (some l) c.if2.true ∙ by v
+    ap (λ (x : ℕ). ltb x 3) (number v) ∙ ring-boundary (h v) (d v) (star_test (R v) (start v).args.r) (some l) c.if-d-eq0.true ∙ by v
 
-returns-3 : tie.Need-returns-3
+returns-3 : tie.Need-returns-then-h-lt3
 returns-3 c =
     let e = c.before in
     let l = e.before in
     let v = l.before in
-    ring_cut (h v) (d v) (star_test (R v) (start v).args.r) (some l) e.if2.false (omega (arith, number v, c.if3.true)) ∙ by v
+    ring_cut (h v) (d v) (star_test (R v) (start v).args.r) (some l) e.if-d-eq0.false (omega (arith, number v, c.if-h-lt3.true)) ∙ by v
 
-returns-4 : tie.Need-returns-4
+returns-4 : tie.Need-returns
 returns-4 c =
     let f = c.before in
     let e = f.before in
     let l = e.before in
     let v = l.before in
-    c.star-passes.ensures ∙ ring-whole (h v) (d v) (star_test (R v) (start v).args.r) (some l) e.if2.false (omega (arith, number v, f.if3.false)) ∙ by v
+    c.star_passes.ensures ∙ ring-whole (h v) (d v) (star_test (R v) (start v).args.r) (some l) e.if-d-eq0.false (omega (arith, number v, f.if-h-lt3.false)) ∙ by v
 
-pub corner-passes-spec : {M : Type 1} → statement M
-corner-passes-spec =
+pub corner_passes_spec : {M : Type 1} → statement M
+corner_passes_spec =
     tie.close
     (tie.spec
     (λ c κs. search rules)

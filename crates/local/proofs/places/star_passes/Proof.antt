@@ -13,36 +13,36 @@ use Rattle.local.proofs.places.star_passes.Tie as tie
 rank-requires : tie.Need-rank-requires
 rank-requires c κs = let s = c.before.before in omega (arith, valid-depth s.args.r s.requires.1)
 
-returns : tie.Need-returns
+returns : tie.Need-returns-then-rank-eq0
 returns c =
     let v = c.before.before.before in
-    let a = v.before.before.before.args in
-    c.same-star.ensures ∙ root-star a.t.now a.r (sym v.rank.ensures ∙ c.before.if1.true)
+    let a = v.args in
+    c.same_star.ensures ∙ root-star a.t.now a.r (sym v.rank.ensures ∙ c.if-rank-eq0.true)
 
-no-root : (c : tie.Else1) → rank_of c.before.before.before.before.before.args.r.at ≡ 0 → ⊥
-no-root c e = c.if1.false (c.before.before.rank.ensures ∙ e)
+no-root : (c : tie.Else-rank-eq0) → rank_of c.args.r.at ≡ 0 → ⊥
+no-root c e = c.if-rank-eq0.false (c.rank.ensures ∙ e)
 
-ranked : (c : tie.Else1) → 0 < rank_of c.before.before.before.before.before.args.r.at
+ranked : (c : tie.Else-rank-eq0) → 0 < rank_of c.args.r.at
 ranked c = let n = no-root c in omega arith
 
-parents-of-requires : tie.Need-parents-of-requires
+parents-of-requires : tie.Need-parents_of-requires
 parents-of-requires c κs =
     let s = c.before.before.before.before.before in
     (s.requires.0, valid-born s.args.r s.requires.1 (ranked c))
 
-as-told-requires : tie.Need-as-told-requires
+as-told-requires : tie.Need-as_told-requires
 as-told-requires c κs =
     let s = c.before.before.before.before.before.before in
     (valid-depth s.args.r s.requires.1, ranked c.before)
 
-returns-2 : tie.Need-returns-2
+returns-2 : tie.Need-returns
 returns-2 c =
     let p = c.before in
-    let a = p.before.before.before.before.before.before.args in
-    c.as-told.ensures ∙ ap (told_in a.r) p.parents-of.ensures ∙ parents-star a.t.now a.r (no-root p.before)
+    let a = p.args in
+    c.as_told.ensures ∙ ap (told_in a.r) p.parents_of.ensures ∙ parents-star a.t.now a.r (no-root p.before)
 
-pub star-passes-spec : {M : Type 1} → statement M
-star-passes-spec =
+pub star_passes_spec : {M : Type 1} → statement M
+star_passes_spec =
     tie.close
     (tie.spec
     rank-requires

@@ -22,18 +22,18 @@ returns c =
     let x = y.before in
     let v = x.before in
     let s = v.before in
-    let w = v.both3.result in
+    let w = v.both3-whole.result in
     let fx = to_z-of_z s.ranges.x in
     let fy = to_z-of_z s.ranges.y in
-    let whole = asked₂ (λ a b. by3 a && by3 b) s.ranges.x s.ranges.y v.both3.ensures in
-    let ex = to_z-of_z (record { sfits = x.third-if.type-inv }) ∙ x.third-if.ensures ∙ ap (third_of w) fx in
-    let ey = to_z-of_z (record { sfits = y.third-if2.type-inv }) ∙ y.third-if2.ensures ∙ ap (third_of w) fy in
+    let whole = asked₂ (λ a b. by3 a && by3 b) s.ranges.x s.ranges.y v.both3-whole.ensures in
+    let ex = to_z-of_z {w = mir.Syntax.w32} (record { sfits = x.third_if.type_inv }) ∙ x.third_if.ensures ∙ ap (third_of w) fx in
+    let ey = to_z-of_z {w = mir.Syntax.w32} (record { sfits = y.third_if-2.type_inv }) ∙ y.third_if-2.ensures ∙ ap (third_of w) fy in
     c.normalise.ensures
     ∙ (λ i. normal_of (ex i) (ey i) (s.args.m.0 - n.bit.ensures.0 i))
     ∙ lowest-terms s.args.x s.args.y s.args.m.0 w whole s.requires
 
-pub lowest-spec : {M : Type 1} → statement M
-lowest-spec =
+pub lowest_spec : {M : Type 1} → statement M
+lowest_spec =
     tie.close
     (tie.spec
     (λ c κs. search rules)

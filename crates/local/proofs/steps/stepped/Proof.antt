@@ -17,5 +17,5 @@ y s = whole s.args.b summable s.requires.0.1 +ᵐ whole s.args.y 10 s.requires.1
 returns : tie.Need-returns
 returns c = let s = c.before in c.lowest.ensures ∙ (λ i. normal_of (back (x s) tt i) (back (y s) tt i) s.args.m.0)
 
-pub stepped-spec : {M : Type 1} → statement M
-stepped-spec = tie.close (tie.spec (λ c. need (x c) tt) (λ c. need (y c) tt) (λ c κs. search rules) returns)
+pub stepped_spec : {M : Type 1} → statement M
+stepped_spec = tie.close (tie.spec (λ c. need (x c) tt) (λ c. need (y c) tt) (λ c κs. search rules) returns)

@@ -14,13 +14,13 @@ use Rattle.local.proofs.told.as_told.Statement.{statement}
 use Rattle.local.proofs.told.as_told.Tie as tie
 
 -- the number of those subdivided, a level below the rank
-splits-is : (c : tie.After-splits) → let a = c.before.before.before.before.args in c.splits.result ≡ splits_in a.s (rank_of a.r.at - 1)
-splits-is c = c.splits.ensures.0 ∙ ap (λ (k : ℕ). splits_in c.before.before.before.before.args.s (k - 1)) c.before.before.rank.ensures
+splits-is : (c : tie.After-splits-i) → let a = c.args in c.splits-i.result ≡ splits_in a.s (rank_of a.r.at - 1)
+splits-is c = c.splits-i.ensures.0 ∙ ap (λ (k : ℕ). splits_in c.args.s (k - 1)) c.rank-b.ensures
 
-add-either : tie.Need-overflow-add-either
+add-either : tie.Need-overflow_add-birth
 add-either c =
     let b = c.before in
-    record { fits = omega (arith, birth-below b.before.before.before.before.before.args.r.at, b.birth.ensures, c.turn-since.ensures.1) }
+    record { fits = omega (arith, birth-below b.args.r.at, b.birth.ensures, c.turn_since.ensures.1) }
 
 returns : tie.Need-returns
 returns c =
@@ -30,17 +30,17 @@ returns c =
     let u = e₁.before in
     let b = u.before in
     let s = b.before in
-    let a = s.before.before.before.before.args in
-    let i = s.splits.result in
+    let a = s.args in
+    let i = s.splits-i.result in
     let n = a.r.n.0 in
-    c.same-star.ensures
-    ∙ (λ j. same_star a.r (g.degree.ensures j) (e₁.either.ensures j) (e₂.either2.ensures j))
-    ∙ (λ j. same_star a.r (get_or degrees i 0) (cond (eqb i 7) (n % 2) (b.birth.ensures j + u.turn-since.ensures.0 j))
-    (cond (eqb i 7) n (s.before.before.rank.ensures j - 1)))
+    c.same_star.ensures
+    ∙ (λ j. same_star a.r (g.degree.ensures j) (e₁.either-k.ensures j) (e₂.either.ensures j))
+    ∙ (λ j. same_star a.r (get_or degrees i 0) (cond (eqb i 7) (n % 2) (b.birth.ensures j + u.turn_since.ensures.0 j))
+    (cond (eqb i 7) n (s.rank-b.ensures j - 1)))
     ∙ told-by a.r a.s i (sym (splits-is s))
 
-pub as-told-spec : {M : Type 1} → statement M
-as-told-spec =
+pub as_told_spec : {M : Type 1} → statement M
+as_told_spec =
     tie.close
     (tie.spec
     (λ c κs. search rules)

@@ -15,5 +15,5 @@ packed i h = let l : i < 8 = omega arith in rule 8 (λ i. 1700025411 / 2 ^ (4 * 
 returns : tie.Need-returns
 returns c = packed c.args.i c.requires
 
-pub degree-spec : {M : Type 1} → statement M
-degree-spec = tie.close (tie.spec (λ c. search rules) (λ c. search rules) (λ c. search rules) (λ c. search rules) returns)
+pub degree_spec : {M : Type 1} → statement M
+degree_spec = tie.close (tie.spec (λ c. search rules) (λ c. search rules) (λ c. search rules) (λ c. search rules) returns)

@@ -17,5 +17,5 @@ packed i h =
 returns : tie.Need-returns
 returns c = packed c.args.i c.requires
 
-pub turn-since-spec : {M : Type 1} → statement M
-turn-since-spec = tie.close (tie.spec (λ c. search rules) (λ c. search rules) (λ c. search rules) (λ c. search rules) returns)
+pub turn_since_spec : {M : Type 1} → statement M
+turn_since_spec = tie.close (tie.spec (λ c. search rules) (λ c. search rules) (λ c. search rules) (λ c. search rules) returns)

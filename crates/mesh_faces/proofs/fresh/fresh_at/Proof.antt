@@ -7,7 +7,7 @@ use Rattle.firsts.specs.Earlier.{placed_of}
 use Rattle.mesh_faces.proofs.fresh.fresh_at.Statement.{statement}
 use Rattle.mesh_faces.proofs.fresh.fresh_at.Tie as tie
 
-fresh-between-requires : tie.Need-fresh-between-requires
+fresh-between-requires : tie.Need-fresh_between-requires
 fresh-between-requires c κs =
     let w = c.before.before.before in
     let s = w.before.before.before in
@@ -20,9 +20,9 @@ fresh-between-requires c κs =
           s.requires.1.1,
           (
             (
-              w.with-slot.ensures ∙ ap (placed_of t) w.before.adjacent-of.ensures,
-              c.with-slot2.ensures
-                  ∙ ap (placed_of t) (c.before.adjacent-of2.ensures ∙ ap (adjacent_at a.v) c.before.before.next_place.ensures.0),
+              w.with_slot-a.ensures ∙ ap (placed_of t) w.adjacent_of.ensures,
+              c.with_slot-b.ensures
+                  ∙ ap (placed_of t) (c.adjacent_of-2.ensures ∙ ap (adjacent_at a.v) c.next_place.ensures.0),
             ),
             λ e. absurd (never e),
           ),
@@ -30,8 +30,8 @@ fresh-between-requires c κs =
       ),
     )
 
-pub fresh-at-spec : {M : Type 1} → statement M
-fresh-at-spec =
+pub fresh_at_spec : {M : Type 1} → statement M
+fresh_at_spec =
     tie.close
     (tie.spec
     (λ c κs. search rules)
@@ -40,4 +40,4 @@ fresh-at-spec =
     (λ c κs. search rules)
     (λ c κs. search rules)
     fresh-between-requires
-    (λ c. c.fresh-between.ensures))
+    (λ c. c.fresh_between.ensures))

@@ -10,39 +10,39 @@ use Rattle.mesh_faces.proofs.torn.is_whole.Statement.{statement}
 use Rattle.mesh_faces.proofs.torn.is_whole.Tie as tie
 
 -- what the first test says
-module _ (c : tie.After-is-there) where
+module _ (c : tie.After-is_there) where
   abbrev s : tie.Start
   s = c.before.before.before
 
-  there : (b : Bool) → c.is-there.result ≡ b → holds s.args.t.now (adjacent_at s.args.v s.args.j) ≡ b
-  there b e = ap (holds s.args.t.now) (sym c.before.adjacent-of.ensures) ∙ sym c.is-there.ensures ∙ e
+  there : (b : Bool) → c.is_there.result ≡ b → holds s.args.t.now (adjacent_at s.args.v s.args.j) ≡ b
+  there b e = ap (holds s.args.t.now) (sym c.adjacent_of.ensures) ∙ sym c.is_there.ensures ∙ e
 
-returns : tie.Need-returns
+returns : tie.Need-returns-then-not-is_there
 returns c =
     let r = c.before in
     let a = (s r).args in
-    sym (ap (λ (b : Bool). b && is_point (chosen_at a.t.now a.v a.j)) (there r false (not-true r.is-there.result c.if1.true)))
+    sym (ap (λ (b : Bool). b && is_point (chosen_at a.t.now a.v a.j)) (there r false (not-true r.is_there.result c.if-not-is_there.true-raw)))
 
-returns-2 : tie.Need-returns-2
+returns-2 : tie.Need-returns-in-At
 returns-2 c =
-    let h = c.before.before in
+    let h = c.before in
     let e = h.before in
     let r = e.before in
-    let first = there r true (not-false r.is-there.result e.if1.false) in
-    let second = sym h.chosen.ensures ∙ c.enum_told.given.1 in
+    let first = there r true (not-false r.is_there.result e.if-not-is_there.false-raw) in
+    let second = sym h.chosen.ensures ∙ c.in-At.is in
     sym (λ i. first i && is_point (second i))
 
-returns-3 : tie.Need-returns-3
+returns-3 : tie.Need-returns-in-Nothing
 returns-3 c =
-    let h = c.before.before in
+    let h = c.before in
     let e = h.before in
     let r = e.before in
-    let first = there r true (not-false r.is-there.result e.if1.false) in
-    let second = sym h.chosen.ensures ∙ c.enum-told2.given.1 in
+    let first = there r true (not-false r.is_there.result e.if-not-is_there.false-raw) in
+    let second = sym h.chosen.ensures ∙ c.in-Nothing.is in
     sym (λ i. first i && is_point (second i))
 
-pub is-whole-spec : {M : Type 1} → statement M
-is-whole-spec =
+pub is_whole_spec : {M : Type 1} → statement M
+is_whole_spec =
     tie.close
     (tie.spec
     (λ c κs. search rules)

@@ -12,51 +12,51 @@ use Rattle.undoing.specs.FreeLaws.{free-next}
 use Rattle.undoing.proofs.undo.free_slot.Statement.{statement}
 use Rattle.undoing.proofs.undo.free_slot.Tie as tie
 
-abbrev invariant-loop : tie.invariant-loop
-invariant-loop t₀ i p c₀ t c = (t ≡ sets t₀ (slot_width * i) (ones c)) × (c ≤ slot_width) × (length t ≡ length t₀)
+abbrev invariant-loop-c : tie.invariant-loop-c
+invariant-loop-c t₀ i p c₀ t c = (t ≡ sets t₀ (slot_width * i) (ones c)) × (c ≤ slot_width) × (length t ≡ length t₀)
 
-abbrev decreases-loop : tie.decreases-loop
-decreases-loop t₀ i p c₀ t c = slot_width - c
+abbrev decreases-loop-c : tie.decreases-loop-c
+decreases-loop-c t₀ i p c₀ t c = slot_width - c
 
-mul-p : tie.Need-overflow-mul-p invariant-loop decreases-loop
+mul-p : tie.Need-overflow_mul-p invariant-loop-c decreases-loop-c
 mul-p c = search rules
 
-loop-holds : tie.Need-loop-init invariant-loop decreases-loop
+loop-holds : tie.Need-loop-c-init invariant-loop-c decreases-loop-c
 loop-holds c = (refl, omega arith, refl)
 
-add-t : tie.Need-overflow-add-t invariant-loop decreases-loop
+add-t : tie.Need-overflow_add-t invariant-loop-c decreases-loop-c
 add-t c = search rules
 
-slice-write-t : tie.Need-slice-write-t invariant-loop decreases-loop
+slice-write-t : tie.Need-bounds-t-p invariant-loop-c decreases-loop-c
 slice-write-t c = search rules
 
-add-c : tie.Need-overflow-add-c invariant-loop decreases-loop
+add-c : tie.Need-overflow_add-c invariant-loop-c decreases-loop-c
 add-c c = search rules
 
-loop-less : tie.Need-loop-smaller invariant-loop decreases-loop
+loop-less : tie.Need-loop-c-smaller invariant-loop-c decreases-loop-c
 loop-less c = search rules
 
-loop-again : tie.Need-loop-preserved invariant-loop decreases-loop
+loop-again : tie.Need-loop-c-preserved invariant-loop-c decreases-loop-c
 loop-again c =
     let l = c.before in
-    let a = l.before.args in (
-      ap (λ (u : List ℕ). set u (slot_width * a.i + l.loop.c) 255) l.loop.invariant.0 ∙ free-next a.t.now (slot_width * a.i) l.loop.c,
+    let a = l.args in (
+      ap (λ (u : List ℕ). set u (slot_width * a.i + l.loop-c.c) 255) l.loop-c.invariant.0 ∙ free-next a.t.now (slot_width * a.i) l.loop-c.c,
       omega arith,
-      length-set l.loop.t (slot_width * a.i + l.loop.c) 255 ∙ l.loop.invariant.2,
+      length-set l.loop-c.t (slot_width * a.i + l.loop-c.c) 255 ∙ l.loop-c.invariant.2,
     )
 
-same_length : tie.Need-same-length invariant-loop decreases-loop
-same_length c = c.before.loop.invariant.2
+same_length : tie.Need-shape_of-t invariant-loop-c decreases-loop-c
+same_length c = c.loop-c.invariant.2
 
-returns : tie.Need-returns invariant-loop decreases-loop
+returns : tie.Need-returns invariant-loop-c decreases-loop-c
 unfolding freed
 returns c =
     let l = c.before in
-    let a = l.before.args in
-    let e : l.loop.c ≡ slot_width = omega arith in
-    l.loop.invariant.0 ∙ ap (λ (k : ℕ). sets a.t.now (slot_width * a.i) (ones k)) e
+    let a = l.args in
+    let e : l.loop-c.c ≡ slot_width = omega arith in
+    l.loop-c.invariant.0 ∙ ap (λ (k : ℕ). sets a.t.now (slot_width * a.i) (ones k)) e
 
-pub free-slot-spec : {M : Type 1} → statement M
-free-slot-spec =
+pub free_slot_spec : {M : Type 1} → statement M
+free_slot_spec =
     tie.close
-    (tie.spec invariant-loop decreases-loop mul-p loop-holds add-t slice-write-t add-c loop-less loop-again same_length returns)
+    (tie.spec invariant-loop-c decreases-loop-c mul-p loop-holds add-t slice-write-t add-c loop-less loop-again same_length returns)

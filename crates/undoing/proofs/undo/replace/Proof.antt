@@ -15,7 +15,7 @@ use Rattle.undoing.proofs.undo.replace.Tie as tie
 -- past the search
 module _ (f : tie.After-find) where
   abbrev s : tie.Start
-  s = f.before.before.before.before
+  s = f.before.before.before
 
   abbrev t : List ℕ
   t = s.args.t.now
@@ -26,24 +26,24 @@ module _ (f : tie.After-find) where
   comes : (o : Found) → f.find.result ≡ o → replace_at t s.args.r o ≡ replace_of t s.args.r
   comes o e = replaced-at t s.args.r o (ended o e)
 
-write-slot-requires : tie.Need-write-slot-requires
+write-slot-requires : tie.Need-write_slot-requires
 write-slot-requires c κs =
-    let k = c.before.before in
-    let f = k.before.before in
-    at_room (t f) (s f).args.n (s f).requires (s f).args.r.at k.i.given.0.0 (ended f _ k.i.given.1)
+    let k = c.before in
+    let f = k.before in
+    at_room (t f) (s f).args.n (s f).requires (s f).args.r.at k.in-At.i (ended f _ k.in-At.is)
 
-returns : tie.Need-returns
+returns : tie.Need-returns-in-At
 returns c =
     let w = c.before.before in
-    let k = w.before.before.before in
-    let f = k.before.before in
-    w.write-slot.ensures ∙ comes f (found.At k.i.given.0.0) k.i.given.1
+    let k = w.before.before in
+    let f = k.before in
+    w.write_slot.ensures ∙ comes f (found.At k.in-At.i) k.in-At.is
 
-returns-2 : tie.Need-returns-2
-returns-2 c = let f = c.before.before in comes f (found.Free _) c.enum_told.given.1
+returns-2 : tie.Need-returns-in-Free
+returns-2 c = let f = c.before in comes f (found.Free _) c.in-Free.is
 
-returns-3 : tie.Need-returns-3
-returns-3 c = let f = c.before.before in comes f found.Full c.enum-told2.given.1
+returns-3 : tie.Need-returns-in-Full
+returns-3 c = let f = c.before in comes f found.Full c.in-Full.is
 
 pub replace_spec : {M : Type 1} → statement M
 replace_spec =

@@ -10,16 +10,16 @@ use Rattle.undoing.specs.UndoLaws.{former-inner, undone-is}
 use Rattle.undoing.proofs.undo.undo_at.Statement.{statement}
 use Rattle.undoing.proofs.undo.undo_at.Tie as tie
 
-formerly-requires : tie.Need-formerly-requires
+formerly-requires : tie.Need-formerly-v-requires
 formerly-requires c κs = let s = c.before in (six_low s.requires.1.0 s.requires.1.1.0, s.requires.1.1.1)
 
-restore-all-requires : tie.Need-restore-all-requires
+restore-all-requires : tie.Need-restore_all-requires
 restore-all-requires c κs =
     let f = c.before.before.before.before.before in
     let s = f.before.before in
     let i = s.requires.1.0 in
     let d = s.requires.1.1.0 in
-    (search rules, subst (λ (y : Record). Inner y × (y.d ≡ 6)) (sym f.formerly.ensures) (former-inner s.args.c i d s.requires.1.1.1, d))
+    (search rules, subst (λ (y : Record). Inner y × (y.d ≡ 6)) (sym f.formerly-v.ensures) (former-inner s.args.c i d s.requires.1.1.1, d))
 
 returns : tie.Need-returns
 returns c =
@@ -28,13 +28,13 @@ returns c =
     let m = a.before.before.before.before in
     let f = m.before.before in
     let s = f.before.before in
-    let e = f.formerly.ensures in
+    let e = f.formerly-v.ensures in
     r.replace.ensures
-    ∙ (λ i. replace_of ((a.restore-all.ensures ∙ (λ j. restored_to (m.unenter-all.ensures j) (e j) 6)) i) (e i))
+    ∙ (λ i. replace_of ((a.restore_all.ensures ∙ (λ j. restored_to (m.unenter_all.ensures j) (e j) 6)) i) (e i))
     ∙ undone-is s.args.t.now s.args.c
 
-pub undo-at-spec : {M : Type 1} → statement M
-undo-at-spec =
+pub undo_at_spec : {M : Type 1} → statement M
+undo_at_spec =
     tie.close
     (tie.spec
     formerly-requires
