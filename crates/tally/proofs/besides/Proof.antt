@@ -9,12 +9,12 @@ use Rattle.tally.proofs.besides.Tie as tie
 returns : tie.Need-returns
 unfolding beside_of sum_below
 returns c =
-    let x = c.before.before.beside.ensures in
-    let y = c.before.beside2.ensures in
-    let z = c.beside3.ensures in
+    let x = c.beside.ensures in
+    let y = c.beside-2.ensures in
+    let z = c.beside-3.ensures in
     (omega (arith, x.0, y.0, z.0), omega (arith, x.1, y.1, z.1))
 
-pub besides-spec : {M : Type 1} → statement M
-besides-spec =
+pub besides_spec : {M : Type 1} → statement M
+besides_spec =
     tie.close
     (tie.spec (λ c κs. search rules) (λ c κs. search rules) (λ c. search rules) (λ c κs. search rules) (λ c. search rules) returns)

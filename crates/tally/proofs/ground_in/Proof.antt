@@ -13,13 +13,13 @@ use Rattle.tally.proofs.ground_in.Tie as tie
 abbrev f : Record → ℕ
 f v = bit (on_ground v.at)
 
-returns : tie.Need-returns
-returns c = (ap (slot_sum f) (sym c.enum_told.given.1 ∙ c.before.before.read-slot.ensures), omega arith)
+returns : tie.Need-returns-in-Free
+returns c = (ap (slot_sum f) (sym c.in-Free.is ∙ c.read_slot.ensures), omega arith)
 
-returns-2 : tie.Need-returns-2
+returns-2 : tie.Need-returns-in-Holds
 returns-2 c =
-    let v = c.before.before.before in
-    (c.one-if.ensures.0 ∙ ap (slot_sum f) (sym v.v.given.1 ∙ v.before.before.read-slot.ensures), c.one-if.ensures.1)
+    let v = c.before.before in
+    (c.one_if.ensures.0 ∙ ap (slot_sum f) (sym v.in-Holds.is ∙ v.read_slot.ensures), c.one_if.ensures.1)
 
-pub ground-in-spec : {M : Type 1} → statement M
-ground-in-spec = tie.close (tie.spec (λ c κs. search rules) (λ c. search rules) (λ c. search rules) (λ c κs. search rules) returns returns-2)
+pub ground_in_spec : {M : Type 1} → statement M
+ground_in_spec = tie.close (tie.spec (λ c κs. search rules) (λ c. search rules) (λ c. search rules) (λ c κs. search rules) returns returns-2)

@@ -13,15 +13,15 @@ use Rattle.tally.proofs.hexagon_in.Tie as tie
 abbrev f : Record → ℕ
 f v = bit (is_centre v.at)
 
-returns : tie.Need-returns
-returns c = (ap (slot_sum f) (sym c.enum_told.given.1 ∙ c.before.before.read-slot.ensures), omega arith)
+returns : tie.Need-returns-in-Free
+returns c = (ap (slot_sum f) (sym c.in-Free.is ∙ c.read_slot.ensures), omega arith)
 
-returns-2 : tie.Need-returns-2
+returns-2 : tie.Need-returns-in-Holds
 returns-2 c =
     let v = c.before.before.before in
-    let e = c.one-if.ensures in
-    (e.0 ∙ ap bit c.before.is-centre.ensures ∙ ap (slot_sum f) (sym v.v.given.1 ∙ v.before.before.read-slot.ensures), e.1)
+    let e = c.one_if.ensures in
+    (e.0 ∙ ap bit c.is_centre.ensures ∙ ap (slot_sum f) (sym v.in-Holds.is ∙ v.read_slot.ensures), e.1)
 
-pub hexagon-in-spec : {M : Type 1} → statement M
-hexagon-in-spec =
+pub hexagon_in_spec : {M : Type 1} → statement M
+hexagon_in_spec =
     tie.close (tie.spec (λ c κs. search rules) (λ c. search rules) (λ c. search rules) (λ c κs. search rules) (λ c κs. search rules) returns returns-2)

@@ -18,45 +18,45 @@ abbrev f : List ℕ → Record → ℕ
 f t v = cond (is_centre v.at) (besides_at t v.at) 0
 
 -- a record is there
-module _ (c : tie.After-v) where
+module _ (c : tie.In-Holds) where
   abbrev start : tie.Start
-  start = c.before.before.before.before
+  start = c.before.before.before
 
   abbrev t : List ℕ
   t = start.args.t.now
 
   abbrev v : Record
-  v = c.v.given.0.0
+  v = c.in-Holds.v
 
   held : slot_at t start.args.k ≡ Holds v
-  held = sym c.before.before.read-slot.ensures ∙ c.v.given.1
+  held = sym c.read_slot.ensures ∙ c.in-Holds.is
 
   by-centre : (b : Bool) → is_centre v.at ≡ b → cond b (besides_at t v.at) 0 ≡ slot_sum (f t) (slot_at t start.args.k)
   by-centre b e = ap (λ (x : Bool). cond x (besides_at t v.at) 0) (sym e) ∙ ap (slot_sum (f t)) (sym held)
 
 besides-requires : tie.Need-besides-requires
 besides-requires c κs =
-    let k = c.before.before.before in
+    let k = c.before.before.before.before in
     let s = start k in
-    let below : s.args.k < slots_of (t k) = omega (arith, s.pre.1.0, s.pre.1.1) in
-    (s.pre.0, (s.pre.1.0, valid-small (v k) (s.pre.0.valid s.args.k (v k) below (held k))))
+    let below : s.args.k < slots_of (t k) = omega (arith, s.requires.1.0, s.requires.1.1) in
+    (s.requires.0, (s.requires.1.0, valid-small (v k) (s.requires.0.valid s.args.k (v k) below (held k))))
 
-returns : tie.Need-returns
+returns : tie.Need-returns-then-is_centre
 returns c =
-    let e = c.before in
+    let e = c.before.before in
     let k = e.before.before.before in
-    (c.besides.ensures.0 ∙ by-centre k true (sym e.before.is-centre.ensures ∙ e.if1.true), c.besides.ensures.1)
+    (c.besides.ensures.0 ∙ by-centre k true (sym e.is_centre.ensures ∙ e.if-is_centre.true), c.besides.ensures.1)
 
-returns-2 : tie.Need-returns-2
+returns-2 : tie.Need-returns-in-Free
 returns-2 c =
-    let r = c.before.before in
-    (ap (slot_sum (f r.before.before.args.t.now)) (sym c.enum_told.given.1 ∙ r.read-slot.ensures), omega arith)
+    let r = c.before in
+    (ap (slot_sum (f r.args.t.now)) (sym c.in-Free.is ∙ r.read_slot.ensures), omega arith)
 
-returns-3 : tie.Need-returns-3
-returns-3 c = (by-centre c.before.before.before false (sym c.before.is-centre.ensures ∙ c.if1.false), omega arith)
+returns-3 : tie.Need-returns-else-is_centre
+returns-3 c = (by-centre c.before.before.before false (sym c.is_centre.ensures ∙ c.if-is_centre.false), omega arith)
 
-pub pairs-in-spec : {M : Type 1} → statement M
-pairs-in-spec =
+pub pairs_in_spec : {M : Type 1} → statement M
+pairs_in_spec =
     tie.close
     (tie.spec
     (λ c κs. search rules)

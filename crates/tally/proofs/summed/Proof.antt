@@ -24,80 +24,80 @@ ground t k = slot_sum (λ (v : Record). bit (on_ground v.at)) (slot_at t k)
 abbrev pairs : List ℕ → ℕ → ℕ
 pairs t k = slot_sum (λ (v : Record). cond (is_centre v.at) (besides_at t v.at) 0) (slot_at t k)
 
-abbrev invariant-loop : tie.invariant-loop
-invariant-loop t n h₀ g₀ p₀ k₀ h g p k = (k ≤ n) × (Summed (hexagon t) 1 k h × (Summed (ground t) 1 k g × Summed (pairs t) 3 k p))
+abbrev invariant-loop-k : tie.invariant-loop-k
+invariant-loop-k t n h₀ g₀ p₀ k₀ h g p k = (k ≤ n) × (Summed (hexagon t) 1 k h × (Summed (ground t) 1 k g × Summed (pairs t) 3 k p))
 
-abbrev decreases-loop : tie.decreases-loop
-decreases-loop t n h₀ g₀ p₀ k₀ h g p k = n - k
+abbrev decreases-loop-k : tie.decreases-loop-k
+decreases-loop-k t n h₀ g₀ p₀ k₀ h g p k = n - k
 
-loop-holds : tie.Need-loop-init invariant-loop decreases-loop
+loop-holds : tie.Need-loop-k-init invariant-loop-k decreases-loop-k
 loop-holds c =
-    let t = c.before.args.t.now in
+    let t = c.args.t.now in
     (omega arith, (summed-start (hexagon t) 1, (summed-start (ground t) 1, summed-start (pairs t) 3)))
 
 -- no sum passes 32 bits
-few : (s : tie.Start invariant-loop decreases-loop) → s.args.n ≤ 65536
+few : (s : tie.Start invariant-loop-k decreases-loop-k) → s.args.n ≤ 65536
 few s = omega (arith, s.requires.0.fits.most, s.requires.1)
 
-hexagon-in-requires : tie.Need-hexagon-in-requires invariant-loop decreases-loop
-hexagon-in-requires c κs = let s = c.before.before.before in (s.requires.0, (s.requires.1, omega (arith, c.loop-test.true)))
+hexagon-in-requires : tie.Need-hexagon_in-hexagons-requires invariant-loop-k decreases-loop-k
+hexagon-in-requires c κs = let s = c.before.before.before in (s.requires.0, (s.requires.1, omega (arith, c.loop-k-test.true)))
 
-add-hexagons : tie.Need-overflow-add-hexagons invariant-loop decreases-loop
+add-hexagons : tie.Need-overflow_add-hexagons invariant-loop-k decreases-loop-k
 add-hexagons c =
     let l = c.before.before in
-    record { fits = omega (arith, l.loop.invariant.1.0.most, l.loop.invariant.0, few l.before.before, c.hexagon-in.ensures.1) }
+    record { fits = omega (arith, l.loop-k.invariant.1.0.most, l.loop-k.invariant.0, few l.before.before, c.hexagon_in-hexagons.ensures.1) }
 
-ground-in-requires : tie.Need-ground-in-requires invariant-loop decreases-loop
-ground-in-requires c κs = let s = c.before.before.before.before in (s.requires.0, (s.requires.1, omega (arith, c.before.loop-test.true)))
+ground-in-requires : tie.Need-ground_in-ground-requires invariant-loop-k decreases-loop-k
+ground-in-requires c κs = let s = c.before.before.before.before in (s.requires.0, (s.requires.1, omega (arith, c.loop-k-test.true)))
 
-add-ground : tie.Need-overflow-add-ground invariant-loop decreases-loop
+add-ground : tie.Need-overflow_add-ground invariant-loop-k decreases-loop-k
 add-ground c =
     let l = c.before.before.before in
-    record { fits = omega (arith, l.loop.invariant.1.1.0.most, l.loop.invariant.0, few l.before.before, c.ground-in.ensures.1) }
+    record { fits = omega (arith, l.loop-k.invariant.1.1.0.most, l.loop-k.invariant.0, few l.before.before, c.ground_in-ground.ensures.1) }
 
-pairs-in-requires : tie.Need-pairs-in-requires invariant-loop decreases-loop
-pairs-in-requires c κs = let s = c.before.before.before.before.before in (s.requires.0, (s.requires.1, omega (arith, c.before.before.loop-test.true)))
+pairs-in-requires : tie.Need-pairs_in-pairs-requires invariant-loop-k decreases-loop-k
+pairs-in-requires c κs = let s = c.before.before.before.before.before in (s.requires.0, (s.requires.1, omega (arith, c.loop-k-test.true)))
 
-add-pairs : tie.Need-overflow-add-pairs invariant-loop decreases-loop
+add-pairs : tie.Need-overflow_add-pairs invariant-loop-k decreases-loop-k
 add-pairs c =
     let l = c.before.before.before.before in
-    record { fits = omega (arith, l.loop.invariant.1.1.1.most, l.loop.invariant.0, few l.before.before, c.pairs-in.ensures.1) }
+    record { fits = omega (arith, l.loop-k.invariant.1.1.1.most, l.loop-k.invariant.0, few l.before.before, c.pairs_in-pairs.ensures.1) }
 
-loop-again : tie.Need-loop-preserved invariant-loop decreases-loop
+loop-again : tie.Need-loop-k-preserved invariant-loop-k decreases-loop-k
 loop-again c =
     let g = c.before in
     let h = g.before in
     let l = h.before.before in
-    let t = l.before.before.args.t.now in
-    let i = l.loop.invariant.1 in (
-      omega (arith, h.before.loop-test.true),
+    let t = l.args.t.now in
+    let i = l.loop-k.invariant.1 in (
+      omega (arith, h.loop-k-test.true),
       (
-        summed-more (hexagon t) 1 l.loop.k _ _ i.0 h.hexagon-in.ensures.0 h.hexagon-in.ensures.1,
+        summed-more (hexagon t) 1 l.loop-k.k _ _ i.0 h.hexagon_in-hexagons.ensures.0 h.hexagon_in-hexagons.ensures.1,
         (
-          summed-more (ground t) 1 l.loop.k _ _ i.1.0 g.ground-in.ensures.0 g.ground-in.ensures.1,
-          summed-more (pairs t) 3 l.loop.k _ _ i.1.1 c.pairs-in.ensures.0 c.pairs-in.ensures.1,
+          summed-more (ground t) 1 l.loop-k.k _ _ i.1.0 g.ground_in-ground.ensures.0 g.ground_in-ground.ensures.1,
+          summed-more (pairs t) 3 l.loop-k.k _ _ i.1.1 c.pairs_in-pairs.ensures.0 c.pairs_in-pairs.ensures.1,
         ),
       ),
     )
 
-returns : tie.Need-returns invariant-loop decreases-loop
+returns : tie.Need-returns invariant-loop-k decreases-loop-k
 unfolding hexagons_in ground_in pairs_in
 returns c =
     let l = c.before in
     let s = l.before.before in
     let t = s.args.t.now in
-    let i = l.loop.invariant in
-    let e : l.loop.k ≡ slots_of t = omega (arith, i.0, c.loop-test.false, s.requires.1) in (
+    let i = l.loop-k.invariant in
+    let e : l.loop-k.k ≡ slots_of t = omega (arith, i.0, c.loop-k-test.false, s.requires.1) in (
       (i.1.0.is ∙ ap (sum_below (hexagon t)) e, omega (arith, i.1.0.most, i.0)),
       (i.1.1.0.is ∙ ap (sum_below (ground t)) e, i.1.1.1.is ∙ ap (sum_below (pairs t)) e),
     )
 
-pub summed-spec : {M : Type 1} → statement M
-summed-spec =
+pub summed_spec : {M : Type 1} → statement M
+summed_spec =
     tie.close
     (tie.spec
-    invariant-loop
-    decreases-loop
+    invariant-loop-k
+    decreases-loop-k
     loop-holds
     hexagon-in-requires
     add-hexagons

@@ -8,17 +8,17 @@ use Rattle.together.specs.Plain.{plain-grown}
 use Rattle.tally.proofs.surveyed.Statement.{statement}
 use Rattle.tally.proofs.surveyed.Tie as tie
 
-grown : (c : tie.Then1) → Grown c.before.before.before.args.t.now
+grown : (c : tie.Then-all_pass) → Grown c.args.t.now
 grown c =
     let p = c.before in
     let s = p.before.before in
-    passes-grown s.args.t.now s.requires.0 (of-true (sym p.all_pass.ensures ∙ c.if1.true))
+    passes-grown s.args.t.now s.requires.0 (of-true (sym p.all_pass.ensures ∙ c.if-all_pass.true))
 
-tally-requires : tie.Need-tally-requires
-tally-requires c κs = (grown c, c.before.before.before.requires.1)
+tally-requires : tie.Need-tally-counts-requires
+tally-requires c κs = (grown c, c.requires.1)
 
-returns : tie.Need-returns
-returns c = (c.tally.ensures, sym (plain-grown _ (grown c.before)))
+returns : tie.Need-returns-then-all_pass
+returns c = (c.tally-counts.ensures, sym (plain-grown _ (grown c.before)))
 
-pub surveyed-spec : {M : Type 1} → statement M
-surveyed-spec = tie.close (tie.spec (λ c κs. search rules) tally-requires returns (λ c κs. search rules) (λ c. search rules))
+pub surveyed_spec : {M : Type 1} → statement M
+surveyed_spec = tie.close (tie.spec (λ c κs. search rules) tally-requires returns (λ c κs. search rules) (λ c. search rules))

@@ -35,34 +35,34 @@ module _ (h : tie.After-sort) where
   s = h.before.before.before
 
   abbrev o₁ : List ℕ
-  o₁ = h.sort.last.0
+  o₁ = h.sort.new.out
 
   lines : (ks : List ℕ) → Queued s ks → length (texts (key_line s.args.s) (keys_in o₁ s.args.k)) ≡ length (texts (key_line s.args.s) ks)
   lines ks q = queue-lines s.args.s ks s.args.out.now s.args.k (end s ks) q o₁ h.sort.ensures
 
-keys-length-requires : tie.Need-keys-length-requires
+keys-length-requires : tie.Need-keys_length-requires
 keys-length-requires c κs =
-    let h = c.before.before.before in
+    let h = c.before.before in
     let z = s h in
     let a = z.args in
-    let ks = z.pre.1.0 in
-    let q = z.pre.1.1 in
+    let ks = z.requires.1.0 in
+    let q = z.requires.1.1 in
     let keys = queue-keys a.s ks a.out.now a.k (end z ks) q in (
-      (z.pre.0, omega (arith, keys, q.room, h.sort.ensures.long)),
+      (z.requires.0, omega (arith, keys, q.room, h.sort.ensures.long)),
       omega (arith, lines h ks q, q.room, h.sort.ensures.long),
     )
 
-add-end : tie.Need-overflow-add-end
+add-end : tie.Need-overflow_add-end
 add-end c =
-    let h = c.before.before.before.before in
+    let h = c.before.before.before in
     let z = s h in
-    let q = z.pre.1.1 in
-    record { fits = omega (arith, c.keys_length.ensures, lines h z.pre.1.0 q, q.room, z.good.0.0) }
+    let q = z.requires.1.1 in
+    record { fits = omega (arith, c.keys_length.ensures, lines h z.requires.1.0 q, q.room, z.well_formed.0.0) }
 
 -- past the length
-module _ (x : tie.After-keys-length) where
+module _ (x : tie.After-keys_length) where
   abbrev h : tie.After-sort
-  h = x.before.before.before.before
+  h = x.before.before.before
 
   ends : (ks : List ℕ) → Queued (s h) ks → (s h).args.start + x.keys_length.result ≡ end (s h) ks
   ends ks q = ap (λ (n : ℕ). (s h).args.start + n) (x.keys_length.ensures ∙ lines h ks q)
@@ -73,11 +73,11 @@ module _ (x : tie.After-keys-length) where
       subst (λ (n : ℕ). Queue a.s (sort_by ltb ks) (o₁ h) a.k n) (sym (ends ks q))
       (queue-sorted a.s ks a.out.now a.k (end (s h) ks) q (o₁ h) h.sort.ensures)
 
-write-faces-requires : tie.Need-write-faces-requires
+write-faces-requires : tie.Need-write_faces-requires
 write-faces-requires c κs =
     let x = c.before in
     let z = s (h x) in
-    (z.pre.0, (sort_by ltb z.pre.1.0, sorted x z.pre.1.0 z.pre.1.1))
+    (z.requires.0, (sort_by ltb z.requires.1.0, sorted x z.requires.1.0 z.requires.1.1))
 
 returns : tie.Need-returns
 returns c =
@@ -87,13 +87,13 @@ returns c =
     let a = z.args in (
       λ ks q. (
         ends x ks q,
-        y.write-faces.ensures.0 (sort_by ltb ks) a.start (sorted x ks q) (omega (arith, texts-sort (key_line a.s) ltb ks, ends x ks q))
+        y.write_faces.ensures.0 (sort_by ltb ks) a.start (sorted x ks q) (omega (arith, texts-sort (key_line a.s) ltb ks, ends x ks q))
             ∙ ap (λ (l : List ℕ). texts (key_line a.s) (sort_by ltb ks) ++ l)
             (ap (λ (n : ℕ). drop n (o₁ (h x))) (ends x ks q)
             ∙ queue-past a.s ks a.out.now a.k (end z ks) q (o₁ (h x)) (h x).sort.ensures),
       ),
-      y.write-faces.ensures.1 ∙ (h x).sort.ensures.long,
+      y.write_faces.ensures.1 ∙ (h x).sort.ensures.long,
     )
 
-pub write-sorted-spec : {M : Type 1} → statement M
-write-sorted-spec = tie.close (tie.spec sort-requires keys-length-requires add-end write-faces-requires (λ c. search rules) returns)
+pub write_sorted_spec : {M : Type 1} → statement M
+write_sorted_spec = tie.close (tie.spec sort-requires keys-length-requires add-end write-faces-requires (λ c. search rules) returns)

@@ -14,21 +14,21 @@ use Rattle.writers.proofs.is_short.Tie as tie
 most : (s : tie.Start) → length (file_of s.args.table.now s.args.marks.now) + longest * s.args.free ≤ longest * s.args.n
 most s = omega (arith, file-most s.args.table.now s.requires.0.0 s.args.marks.now, s.requires.0.1, s.requires.1)
 
-sub-if1 : tie.Need-overflow-sub-if1
+sub-if1 : tie.Need-overflow_sub-n
 sub-if1 c = omega (arith, most c.before)
 
-returns : tie.Need-returns
+returns : tie.Need-returns-then-n-free
 returns c =
     let s = c.before.before in
-    sym (le-ltb s.args.room (length (file_of s.args.table.now s.args.marks.now)) (omega (arith, most s, c.if1.true)))
+    sym (le-ltb s.args.room (length (file_of s.args.table.now s.args.marks.now)) (omega (arith, most s, c.if-n-free.true)))
 
-returns-2 : tie.Need-returns-2
+returns-2 : tie.Need-returns
 returns-2 c =
     let s = c.before.before.before in
-    ap (ltb s.args.room) (counted-all s.args.table.now s.args.marks.now s.args.n s.requires.0.1 c.file-length.ensures)
+    ap (ltb s.args.room) (counted-all s.args.table.now s.args.marks.now s.args.n s.requires.0.1 c.file_length.ensures)
 
-pub is-short-spec : {M : Type 1} → statement M
-is-short-spec =
+pub is_short_spec : {M : Type 1} → statement M
+is_short_spec =
     tie.close
     (tie.spec
     sub-if1

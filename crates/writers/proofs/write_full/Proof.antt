@@ -10,23 +10,23 @@ use Rattle.writers.specs.CallLaws.{out-is, write-disorder, write-order, unmarked
 use Rattle.writers.proofs.write_full.Statement.{statement}
 use Rattle.writers.proofs.write_full.Tie as tie
 
-returns : tie.Need-returns
+returns : tie.Need-returns-then-not-checked
 returns c =
     let i = c.before.before.before in
     let s = i.before.before.before in
     let t = s.args.table.now in
     out-is s.args.out.now c.answer.ensures.0 c.answer.ensures.1
-    ∙ write-disorder (full_file t) t s.args.out.now (sym i.check-order.ensures.0 ∙ not-true i.check-order.result.ok c.before.if1.true)
+    ∙ write-disorder (full_file t) t s.args.out.now (sym i.check_order-checked.ensures.0 ∙ not-true i.check_order-checked.result.ok c.if-not-checked.true)
 
-write-kept-requires : tie.Need-write-kept-requires
+write-kept-requires : tie.Need-write_kept-requires
 write-kept-requires c κs =
     let n = c.before.before in
     let i = n.before.before.before in
     let s = i.before.before.before in
-    let ok = not-false i.check-order.result.ok n.before.if1.false in
-    ((test-order s.args.table.now (sym i.check-order.ensures.0 ∙ ok), n.slots-of.ensures), i.check-order.ensures.1 ok)
+    let ok = not-false i.check_order-checked.result.ok n.if-not-checked.false in
+    ((test-order s.args.table.now (sym i.check_order-checked.ensures.0 ∙ ok), n.slots_of-n.ensures), i.check_order-checked.ensures.1 ok)
 
-returns-2 : tie.Need-returns-2
+returns-2 : tie.Need-returns
 returns-2 c =
     let w = c.before.before in
     let e = w.before.before.before.before in
@@ -34,11 +34,11 @@ returns-2 c =
     let s = i.before.before.before in
     let t = s.args.table.now in
     let o = s.args.out.now in
-    w.write-Kept.ensures ∙ ap (λ (x : List ℕ). put_of x o) (unmarked-file t)
-    ∙ write-order (full_file t) t o (sym i.check-order.ensures.0 ∙ not-false i.check-order.result.ok e.if1.false)
+    w.write_kept.ensures ∙ ap (λ (x : List ℕ). put_of x o) (unmarked-file t)
+    ∙ write-order (full_file t) t o (sym i.check_order-checked.ensures.0 ∙ not-false i.check_order-checked.result.ok e.if-not-checked.false)
 
-pub write-full-spec : {M : Type 1} → statement M
-write-full-spec =
+pub write_full_spec : {M : Type 1} → statement M
+write_full_spec =
     tie.close
     (tie.spec
     (λ c κs. search rules)

@@ -28,39 +28,39 @@ module _ (s : tie.Start) where
   abbrev file : List ℕ
   file = file_of t m
 
-returns : tie.Need-returns
+returns : tie.Need-returns-then-is_short
 returns c =
     let f = c.before.before in
     let s = f.before.before.before in
-    let short = ltb-true (length (o s)) (length (file s)) (sym f.is-short.ensures ∙ c.before.if1.true) in
+    let short = ltb-true (length (o s)) (length (file s)) (sym f.is_short.ensures ∙ c.if-is_short.true) in
     out-is (o s) c.answer.ensures.0 c.answer.ensures.1 ∙ put-short (t s) (m s) (o s) (length (file s)) refl (omega arith)
 
 -- the file has room
-enough : (e : tie.Else1) → let s = e.before.before.before.before in length (file s) ≤ length (o s)
+enough : (e : tie.Else-is_short) → let s = e.before.before.before.before in length (file s) ≤ length (o s)
 enough e =
     let f = e.before in
     let s = f.before.before.before in
-    ltb-false (length (o s)) (length (file s)) (sym f.is-short.ensures ∙ e.if1.false)
+    ltb-false (length (o s)) (length (file s)) (sym f.is_short.ensures ∙ e.if-is_short.false)
 
-put-keys-requires : tie.Need-put-keys-requires
+put-keys-requires : tie.Need-put_keys-put-requires
 put-keys-requires c κs =
     let e = c.before in
     let s = e.before.before.before.before in
     (s.requires.0, omega (arith, enough e, keys-all (t s) (m s) s.args.n s.requires.0.1))
 
 -- past the keys
-module _ (c : tie.After-put-keys) where
+module _ (c : tie.After-put_keys-put) where
   abbrev s : tie.Start
   s = c.before.before.before.before.before.before
 
-  long : c.put-keys.result.bytes ≡ length (file s)
-  long = counted-all (t s) (m s) s.args.n s.pre.0.1 c.put-keys.ensures.1
+  long : c.put_keys-put.result.bytes ≡ length (file s)
+  long = counted-all (t s) (m s) s.args.n s.requires.0.1 c.put_keys-put.ensures.1
 
-  room : c.put-keys.result.bytes ≤ length (o s)
+  room : c.put_keys-put.result.bytes ≤ length (o s)
   room = omega (arith, long, enough c.before.before)
 
-  filled : Filled (o s) (keys_of (t s) (m s)) c.put-keys.new.1.1.1.0 c.put-keys.result.keys
-  filled = filled-all (t s) (m s) (o s) s.args.n s.pre.0.1 c.put-keys.ensures.0
+  filled : Filled (o s) (keys_of (t s) (m s)) c.put_keys-put.new.out c.put_keys-put.result.keys
+  filled = filled-all (t s) (m s) (o s) s.args.n s.requires.0.1 c.put_keys-put.ensures.0
 
 sort-requires : tie.Need-sort-requires
 sort-requires c κs =
@@ -73,31 +73,31 @@ sort-requires c κs =
 
 -- past the sort
 module _ (c : tie.After-sort) where
-  abbrev w : tie.After-put-keys
+  abbrev w : tie.After-put_keys-put
   w = c.before.before.before.before
 
-  stand : Keyed (ordered (t (s w)) (m (s w))) c.sort.new.0 w.put-keys.result.keys w.put-keys.result.bytes
+  stand : Keyed (ordered (t (s w)) (m (s w))) c.sort.new.out w.put_keys-put.result.keys w.put_keys-put.result.bytes
   stand =
-      ready (t (s w)) (m (s w)) (o (s w)) w.put-keys.result.bytes (long w) _ _ w.put-keys.result.keys (room w) (filled w) c.sort.ensures
-      (s w).pre.0.0
+      ready (t (s w)) (m (s w)) (o (s w)) w.put_keys-put.result.bytes (long w) _ _ w.put_keys-put.result.keys (room w) (filled w) c.sort.ensures
+      (s w).requires.0.0
 
-write-lines-requires : tie.Need-write-lines-requires
+write-lines-requires : tie.Need-write_lines-requires
 write-lines-requires c κs = let h = c.before.before.before in (ordered (t (s (w h))) (m (s (w h))), stand h)
 
-returns-2 : tie.Need-returns-2
+returns-2 : tie.Need-returns
 returns-2 c =
     let x = c.before.before.before in
     let h = x.before.before.before.before in
     let k = w h in
     let g = s k in
-    let total = k.put-keys.result.bytes in
-    let past = ready-past (t g) (m g) (o g) total (long k) _ _ k.put-keys.result.keys (room k) (filled k) h.sort.ensures in
-    out-is _ c.answer2.ensures.0 c.answer2.ensures.1
+    let total = k.put_keys-put.result.bytes in
+    let past = ready-past (t g) (m g) (o g) total (long k) _ _ k.put_keys-put.result.keys (room k) (filled k) h.sort.ensures in
+    out-is _ c.answer-2.ensures.0 c.answer-2.ensures.1
     ∙ put-done (t g) (m g) (o g) total (long k) _ (room k)
-    (x.write-lines.ensures (ordered (t g) (m g)) (stand h) ∙ (λ i. ordered-file (t g) g.pre.0.0 (m g) i ++ past i))
+    (x.write_lines.ensures (ordered (t g) (m g)) (stand h) ∙ (λ i. ordered-file (t g) g.requires.0.0 (m g) i ++ past i))
 
-pub write-kept-spec : {M : Type 1} → statement M
-write-kept-spec =
+pub write_kept_spec : {M : Type 1} → statement M
+write_kept_spec =
     tie.close
     (tie.spec
     (λ c κs. search rules)

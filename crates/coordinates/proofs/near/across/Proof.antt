@@ -25,5 +25,5 @@ returns c =
     let e = back (all c) tt in
     (e, subst (λ (z : ℤ). nat_abs z ≤ 3 * widest) (sym e) (bound c.args.a c.args.b c.requires.0 c.requires.1))
 
-pub across-spec : {M : Type 1} → statement M
-across-spec = tie.close (tie.spec (λ c. need (twice c) tt) (λ c. need (all c) tt) returns)
+pub across_spec : {M : Type 1} → statement M
+across_spec = tie.close (tie.spec (λ c. need (twice c) tt) (λ c. need (all c) tt) returns)

@@ -10,8 +10,8 @@ use Rattle.coordinates.proofs.near.guess.Tie as tie
 few : (b p : ℕ) → b ≤ widest → b * 4540467268 / 262144 / p < 4294967294
 few b p h = let l = div-le_self (b * 4540467268 / 262144) p in omega arith
 
-pub guess-spec : {M : Type 1} → statement M
-guess-spec =
+pub guess_spec : {M : Type 1} → statement M
+guess_spec =
     tie.close
     (tie.spec
     (λ c. record { fits = omega (arith, c.requires.0) })

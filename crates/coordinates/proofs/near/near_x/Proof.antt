@@ -8,18 +8,18 @@ use Rattle.coordinates.specs.NearLaws.{x-inside, x_below}
 use Rattle.coordinates.proofs.near.near_x.Statement.{statement}
 use Rattle.coordinates.proofs.near.near_x.Tie as tie
 
-is : (c : tie.After-power) → (10000 * c.before.args.s + c.power.result) / (2 * c.power.result) ≡ near_x c.before.args.s c.before.args.m
+is : (c : tie.After-power-p) → (10000 * c.args.s + c.power-p.result) / (2 * c.power-p.result) ≡ near_x c.args.s c.args.m
 unfolding near_x
-is c = ap (λ (p : ℕ). (10000 * c.before.args.s + p) / (2 * p)) c.power.ensures.0
+is c = ap (λ (p : ℕ). (10000 * c.args.s + p) / (2 * p)) c.power-p.ensures.0
 
-cast-result : tie.Need-overflow-cast-result
+cast-result : tie.Need-overflow_cast-result-2
 cast-result c =
-    let s = c.before.args.s in
-    let m = c.before.args.m in
-    omega (arith, is c, x_below s m (near_x s m) (x-inside s m), c.before.requires.0)
+    let s = c.args.s in
+    let m = c.args.m in
+    omega (arith, is c, x_below s m (near_x s m) (x-inside s m), c.requires.0)
 
-pub near-x-spec : {M : Type 1} → statement M
-near-x-spec =
+pub near_x_spec : {M : Type 1} → statement M
+near_x_spec =
     tie.close
     (tie.spec
     (λ c κs. search rules)

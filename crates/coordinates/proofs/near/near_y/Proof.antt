@@ -28,19 +28,19 @@ returns : tie.Need-returns
 returns c =
     let p = c.before.before in
     let s = p.before in
-    let e = c.root-near.ensures in
-    is s.args.b s.args.m p.power.result c.root-near.result s.requires.0 p.power.ensures.0 (e.0, e.1.0)
+    let e = c.root_near-w.ensures in
+    is s.args.b s.args.m p.power-p.result c.root_near-w.result s.requires.0 p.power-p.ensures.0 (e.0, e.1.0)
 
-pub near-y-spec : {M : Type 1} → statement M
-near-y-spec =
+pub near_y_spec : {M : Type 1} → statement M
+near_y_spec =
     tie.close
     (tie.spec
     (λ c κs. search rules)
-    (λ c. record { fits = omega (arith, square c.before.args.b c.before.requires.0) })
-    (λ c. record { fits = omega (arith, square c.before.args.b c.before.requires.0) })
-    (λ c. record { fits = omega (arith, power-square c.power.result c.power.ensures.1.1) })
-    (λ c. one-le-mul c.power.ensures.1.0 c.power.ensures.1.0)
-    (λ c κs. (c.before.requires.0, c.power.ensures.1.0))
+    (λ c. record { fits = omega (arith, square c.args.b c.requires.0) })
+    (λ c. record { fits = omega (arith, square c.args.b c.requires.0) })
+    (λ c. record { fits = omega (arith, power-square c.power-p.result c.power-p.ensures.1.1) })
+    (λ c. one-le-mul c.power-p.ensures.1.0 c.power-p.ensures.1.0)
+    (λ c κs. (c.requires.0, c.power-p.ensures.1.0))
     (λ c κs. search rules)
     (λ c. search rules)
     (λ c. search rules)

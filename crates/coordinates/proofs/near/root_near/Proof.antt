@@ -9,8 +9,8 @@ use Rattle.coordinates.proofs.near.root_near.Tie as tie
 small : (x : ℕ) → x ≤ 4294967295 → x * x < 18446744073709551616
 small x h = let m = mul-le-mul h h in omega arith
 
-pub root-near-spec : {M : Type 1} → statement M
-root-near-spec =
+pub root_near_spec : {M : Type 1} → statement M
+root_near_spec =
     tie.close
     (tie.spec
     (λ c. search rules)
@@ -18,9 +18,9 @@ root-near-spec =
     (λ c. record { fits = small c.args.guess (omega (arith, c.requires)) })
     (λ c κs. search rules)
     (λ c. search rules)
-    (λ c. record { fits = small (c.before.args.guess + 1) (omega (arith, c.before.requires)) })
+    (λ c. record { fits = small (c.args.guess + 1) (omega (arith, c.requires)) })
     (λ c. search rules)
-    (λ c. record { fits = small (c.before.before.args.guess + 2) (omega (arith, c.before.before.requires)) })
+    (λ c. record { fits = small (c.args.guess + 2) (omega (arith, c.requires)) })
     (λ c. search rules)
     (λ c κs. search rules)
     (λ c. search rules))

@@ -17,19 +17,19 @@ use Rattle.coordinates.proofs.texts.decimals_back.Tie as tie
 whole_long : (n : ℕ) → length (ended (digits (n / 10000)) dot) + 5 ≡ length (decimals n)
 whole_long n = let a = decimals-long n in let b = length-append (digits (n / 10000)) (dot ∷ []) in omega arith
 
-sub_at : tie.Need-overflow-sub-at
-sub_at c = omega (arith, whole_long c.before.args.n, c.before.requires.0)
+sub_at : tie.Need-overflow_sub-at
+sub_at c = omega (arith, whole_long c.args.n, c.requires.0)
 
-write-bytes-requires : tie.Need-write-bytes-requires
+write-bytes-requires : tie.Need-write_bytes-requires
 write-bytes-requires c κs =
     let s = c.before.before.before.before.before.before.before in
     omega (arith, whole_long s.args.n, s.requires.0, s.requires.1)
 
-number-back-requires : tie.Need-number-back-requires
+number-back-requires : tie.Need-number_back-requires
 number-back-requires c κs =
     let w = c.before.before.before in
     let s = w.before.before.before.before.before.before.before.before in
-    (omega (arith, whole_long s.args.n, s.requires.0), omega (arith, w.write_bytes.auto.0, s.requires.1))
+    (omega (arith, whole_long s.args.n, s.requires.0), omega (arith, w.write_bytes.auto.out, s.requires.1))
 
 returns : tie.Need-returns
 unfolding decimals four
@@ -44,16 +44,16 @@ returns c =
     let o = s.args.out.now in
     let at = s.args.end - 5 in
     let f = s.args.n % 10000 in
-    let tail : Wrote o at (ended (four f) blank) w.write_bytes.new.0 s.args.end = record {
+    let tail : Wrote o at (ended (four f) blank) w.write_bytes.new.out s.args.end = record {
       bytes =
           w.write_bytes.ensures.bytes
-          ∙ (λ i. sets o at (d₁.digit.ensures i ∷ d₂.digit2.ensures i ∷ d₃.digit3.ensures i ∷ d₄.digit4.ensures i ∷ blank ∷ []));
+          ∙ (λ i. sets o at (d₁.digit.ensures i ∷ d₂.digit-2.ensures i ∷ d₃.digit-3.ensures i ∷ d₄.digit-4.ensures i ∷ blank ∷ []));
       past = omega (arith, whole_long s.args.n, s.requires.0);
     } in
-    wrote-before tail x.number-back.ensures
+    wrote-before tail x.number_back.ensures
 
-pub decimals-back-spec : {M : Type 1} → statement M
-decimals-back-spec =
+pub decimals_back_spec : {M : Type 1} → statement M
+decimals_back_spec =
     tie.close
     (tie.spec
     sub_at

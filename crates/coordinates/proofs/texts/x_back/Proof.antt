@@ -15,49 +15,49 @@ use Rattle.coordinates.specs.Coordinates.{across_of, near_x, coordinate, text_x}
 use Rattle.coordinates.proofs.texts.x_back.Statement.{statement}
 use Rattle.coordinates.proofs.texts.x_back.Tie as tie
 
-module _ (c : tie.After-across) where
+module _ (c : tie.After-across-s) where
   abbrev s : tie.Start
   s = c.before.before
 
-  same : to_z w32 (of_z w32 c.across.result) ≡ c.across.result
-  same = to_z-of_z (record { sfits = c.across.type-inv })
+  same : to_z w32 (of_z w32 c.across-s.result) ≡ c.across-s.result
+  same = to_z-of_z {w = w32} (record { sfits = c.across-s.type_inv })
 
-  is : to_z w32 (of_z w32 c.across.result) ≡ across_of (pt s.args.a s.args.b s.args.m)
+  is : to_z w32 (of_z w32 c.across-s.result) ≡ across_of (pt s.args.a s.args.b s.args.m)
   is =
-      let a = to_z-of_z s.fits.a in
-      let b = to_z-of_z s.fits.b in
-      same ∙ c.across.ensures.0 ∙ (λ i. a i +ℤ a i +ℤ b i)
+      let a = to_z-of_z s.ranges.a in
+      let b = to_z-of_z s.ranges.b in
+      same ∙ c.across-s.ensures.0 ∙ (λ i. a i +ℤ a i +ℤ b i)
 
-near-x-requires : tie.Need-near-x-requires
+near-x-requires : tie.Need-near_x-n-requires
 near-x-requires c κs =
     let x = c.before in
-    (omega (arith, c.size.ensures, ap nat_abs (same x), x.across.ensures.1), (s x).requires.0.m)
+    (omega (arith, c.size.ensures, ap nat_abs (same x), x.across-s.ensures.1), (s x).requires.0.m)
 
-module _ (c : tie.After-near-x) where
-  abbrev x : tie.After-across
+module _ (c : tie.After-near_x-n) where
+  abbrev x : tie.After-across-s
   x = c.before.before
 
-  text : coordinate (to_z w32 (of_z w32 x.across.result)) c.near-x.result ≡ text_x (pt (s x).args.a (s x).args.b (s x).args.m)
+  text : coordinate (to_z w32 (of_z w32 x.across-s.result)) c.near_x-n.result ≡ text_x (pt (s x).args.a (s x).args.b (s x).args.m)
   text =
-      let n = c.near-x.ensures ∙ ap (λ (k : ℕ). near_x k (s x).args.m) (c.before.size.ensures ∙ ap nat_abs (is x)) in
+      let n = c.near_x-n.ensures ∙ ap (λ (k : ℕ). near_x k (s x).args.m) (c.size.ensures ∙ ap nat_abs (is x)) in
       λ i. coordinate (is x i) (n i)
 
-coordinate-back-requires : tie.Need-coordinate-back-requires
+coordinate-back-requires : tie.Need-coordinate_back-requires
 coordinate-back-requires c κs =
     let n = c.before in
     let z = s (x n) in
-    (omega (arith, ap length (text n), z.pre.1.0), z.pre.1.1)
+    (omega (arith, ap length (text n), z.requires.1.0), z.requires.1.1)
 
 returns : tie.Need-returns
 returns c =
     let w = c.before.before in
     let n = w.before.before in
     let z = s (x n) in
-    subst (λ (l : List ℕ). Wrote z.args.out.now w.coordinate-back.result l w.coordinate-back.new.0 z.args.end) (text n)
-    w.coordinate-back.ensures
+    subst (λ (l : List ℕ). Wrote z.args.out.now w.coordinate_back.result l w.coordinate_back.new.out z.args.end) (text n)
+    w.coordinate_back.ensures
 
-pub x-back-spec : {M : Type 1} → statement M
-x-back-spec =
+pub x_back_spec : {M : Type 1} → statement M
+x_back_spec =
     tie.close
     (tie.spec
     (λ c κs. search rules)

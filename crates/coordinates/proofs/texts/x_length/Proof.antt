@@ -13,31 +13,31 @@ use Rattle.coordinates.specs.Coordinates.{across_of, near_x, coordinate, text_x}
 use Rattle.coordinates.proofs.texts.x_length.Statement.{statement}
 use Rattle.coordinates.proofs.texts.x_length.Tie as tie
 
-module _ (c : tie.After-across) where
+module _ (c : tie.After-across-s) where
   abbrev s : tie.Start
   s = c.before
 
-  same : to_z w32 (of_z w32 c.across.result) ≡ c.across.result
-  same = to_z-of_z (record { sfits = c.across.type-inv })
+  same : to_z w32 (of_z w32 c.across-s.result) ≡ c.across-s.result
+  same = to_z-of_z {w = w32} (record { sfits = c.across-s.type_inv })
 
-  is : to_z w32 (of_z w32 c.across.result) ≡ across_of (pt s.args.a s.args.b s.args.m)
+  is : to_z w32 (of_z w32 c.across-s.result) ≡ across_of (pt s.args.a s.args.b s.args.m)
   is =
-      let a = to_z-of_z s.fits.a in
-      let b = to_z-of_z s.fits.b in
-      same ∙ c.across.ensures.0 ∙ (λ i. a i +ℤ a i +ℤ b i)
+      let a = to_z-of_z s.ranges.a in
+      let b = to_z-of_z s.ranges.b in
+      same ∙ c.across-s.ensures.0 ∙ (λ i. a i +ℤ a i +ℤ b i)
 
-near-x-requires : tie.Need-near-x-requires
+near-x-requires : tie.Need-near_x-requires
 near-x-requires c κs =
     let x = c.before in
-    (omega (arith, c.size.ensures, ap nat_abs (same x), x.across.ensures.1), (s x).requires.m)
+    (omega (arith, c.size.ensures, ap nat_abs (same x), x.across-s.ensures.1), (s x).requires.m)
 
 returns : tie.Need-returns
 returns c =
     let n = c.before in
     let x = n.before.before in
     let m = (s x).args.m in
-    let k = n.near-x.ensures ∙ ap (λ (k : ℕ). near_x k m) (n.before.size.ensures ∙ ap nat_abs (is x)) in
-    (c.coordinate-length.ensures.0 ∙ (λ i. length (coordinate (is x i) (k i))), c.coordinate-length.ensures.1)
+    let k = n.near_x.ensures ∙ ap (λ (k : ℕ). near_x k m) (n.size.ensures ∙ ap nat_abs (is x)) in
+    (c.coordinate_length.ensures.0 ∙ (λ i. length (coordinate (is x i) (k i))), c.coordinate_length.ensures.1)
 
-pub x-length-spec : {M : Type 1} → statement M
-x-length-spec = tie.close (tie.spec (λ c κs. search rules) (λ c κs. search rules) near-x-requires (λ c κs. search rules) returns)
+pub x_length_spec : {M : Type 1} → statement M
+x_length_spec = tie.close (tie.spec (λ c κs. search rules) (λ c κs. search rules) near-x-requires (λ c κs. search rules) returns)

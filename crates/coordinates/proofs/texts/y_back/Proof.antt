@@ -17,19 +17,19 @@ use Rattle.coordinates.proofs.texts.y_back.Tie as tie
 same : (s : tie.Start) → to_z w32 (of_z w32 s.args.b) ≡ s.args.b
 same s = to_z-of_z s.ranges.b
 
-near-y-requires : tie.Need-near-y-requires
+near-y-requires : tie.Need-near_y-n-requires
 near-y-requires c κs = let s = c.before.before in (omega (arith, c.size.ensures, ap nat_abs (same s), s.requires.0.0), s.requires.0.1)
 
-module _ (c : tie.After-near-y) where
+module _ (c : tie.After-near_y-n) where
   abbrev s : tie.Start
   s = c.before.before.before
 
-  text : coordinate (to_z w32 (of_z w32 s.args.b)) c.near-y.result ≡ coordinate s.args.b (near_y (nat_abs s.args.b) s.args.m)
+  text : coordinate (to_z w32 (of_z w32 s.args.b)) c.near_y-n.result ≡ coordinate s.args.b (near_y (nat_abs s.args.b) s.args.m)
   text =
-      let n = c.near-y.ensures ∙ ap (λ (k : ℕ). near_y k s.args.m) (c.before.size.ensures ∙ ap nat_abs (same s)) in
+      let n = c.near_y-n.ensures ∙ ap (λ (k : ℕ). near_y k s.args.m) (c.size.ensures ∙ ap nat_abs (same s)) in
       λ i. coordinate (same s i) (n i)
 
-coordinate-back-requires : tie.Need-coordinate-back-requires
+coordinate-back-requires : tie.Need-coordinate_back-requires
 coordinate-back-requires c κs =
     let n = c.before in
     (omega (arith, ap length (text n), (s n).requires.1.0), (s n).requires.1.1)
@@ -39,8 +39,8 @@ returns c =
     let w = c.before.before in
     let n = w.before.before in
     let z = s n in
-    subst (λ (l : List ℕ). Wrote z.args.out.now w.coordinate-back.result l w.coordinate-back.new.0 z.args.end) (text n)
-    w.coordinate-back.ensures
+    subst (λ (l : List ℕ). Wrote z.args.out.now w.coordinate_back.result l w.coordinate_back.new.out z.args.end) (text n)
+    w.coordinate_back.ensures
 
-pub y-back-spec : {M : Type 1} → statement M
-y-back-spec = tie.close (tie.spec (λ c κs. search rules) near-y-requires coordinate-back-requires (λ c. search rules) returns)
+pub y_back_spec : {M : Type 1} → statement M
+y_back_spec = tie.close (tie.spec (λ c κs. search rules) near-y-requires coordinate-back-requires (λ c. search rules) returns)

@@ -7,38 +7,38 @@ use Rattle.findings.specs.EntryCases.{Along, along-goes, along-stops, along-ends
 use Rattle.findings.proofs.line.note_end.Statement.{statement}
 use Rattle.findings.proofs.line.note_end.Tie as tie
 
-abbrev invariant-loop : tie.invariant-loop
-invariant-loop list at i₀ i = Along list at i
+abbrev invariant-loop-i : tie.invariant-loop-i
+invariant-loop-i list at i₀ i = Along list at i
 
-abbrev decreases-loop : tie.decreases-loop
-decreases-loop list at i₀ i = length list - i
+abbrev decreases-loop-i : tie.decreases-loop-i
+decreases-loop-i list at i₀ i = length list - i
 
-returns : tie.Need-returns invariant-loop decreases-loop
+returns : tie.Need-returns-then-c invariant-loop-i decreases-loop-i
 returns c =
     let t = c.before.before in
     let l = t.before in
     let s = l.before in
-    along-stops s.args.list.now s.args.at l.loop.i l.loop.invariant t.loop-test.true c.if1.true
+    along-stops s.args.list.now s.args.at l.loop-i.i l.loop-i.invariant t.loop-i-test.true c.if-c.true
 
-loop-again : tie.Need-loop-preserved invariant-loop decreases-loop
+loop-again : tie.Need-loop-i-preserved invariant-loop-i decreases-loop-i
 loop-again c =
     let t = c.before.before in
     let l = t.before in
     let s = l.before in
-    along-goes s.args.list.now s.args.at l.loop.i l.loop.invariant t.loop-test.true c.if1.false
+    along-goes s.args.list.now s.args.at l.loop-i.i l.loop-i.invariant t.loop-i-test.true c.if-c.false
 
-returns-2 : tie.Need-returns-2 invariant-loop decreases-loop
+returns-2 : tie.Need-returns invariant-loop-i decreases-loop-i
 returns-2 c =
     let l = c.before in
     let s = l.before in
-    along-ends s.args.list.now s.args.at l.loop.i l.loop.invariant c.loop-test.false
+    along-ends s.args.list.now s.args.at l.loop-i.i l.loop-i.invariant c.loop-i-test.false
 
-pub note-end-spec : {M : Type 1} → statement M
-note-end-spec =
+pub note_end_spec : {M : Type 1} → statement M
+note_end_spec =
     tie.close
     (tie.spec
-    invariant-loop
-    decreases-loop
+    invariant-loop-i
+    decreases-loop-i
     (λ c. refl)
     (λ c. search rules)
     returns

@@ -15,11 +15,11 @@ use Rattle.findings.specs.Laying.{Lays}
 use Rattle.findings.proofs.lines.lay_one.Statement.{statement}
 use Rattle.findings.proofs.lines.lay_one.Tie as tie
 
-is-there-requires : tie.Need-is-there-requires
+is-there-requires : tie.Need-is_there-requires
 is-there-requires c κs = let s = c.before.before.before.before in subst (Table s.args.table.now) (sym s.requires.0.1.0) s.requires.0.0.fits
 
 -- whether the finding's point is there
-module _ (i : tie.After-is-there) where
+module _ (i : tie.After-is_there) where
   abbrev s : tie.Start
   s = i.before.before.before.before.before
 
@@ -29,48 +29,48 @@ module _ (i : tie.After-is-there) where
   abbrev l : List ℕ
   l = s.args.list.now
 
-  there : (b : Bool) → i.is-there.result ≡ b → holds t (point_of s.args.f) ≡ b
-  there b e = ap (holds t) (sym i.before.point-of.ensures) ∙ sym i.is-there.ensures ∙ e
+  there : (b : Bool) → i.is_there.result ≡ b → holds t (point_of s.args.f) ≡ b
+  there b e = ap (holds t) (sym i.point_of.ensures) ∙ sym i.is_there.ensures ∙ e
 
-key-of-requires : tie.Need-key-of-requires
+key-of-requires : tie.Need-key_of-v-requires
 key-of-requires c κs =
     let i = c.before in
-    ((s i).requires.0.1.1, plan-close (t i) (s i).requires.0.0 (point_of (s i).args.f) (there i true c.if1.true))
+    ((s i).requires.0.1.1, plan-close (t i) (s i).requires.0.0 (point_of (s i).args.f) (there i true c.if-is_there.true))
 
-put-key-requires : tie.Need-put-key-requires
+put-key-requires : tie.Need-put_key-requires
 put-key-requires c κs =
     let e = c.before.before in
     let i = e.before in
-    (s i).requires.1.0 (there i true e.if1.true)
+    (s i).requires.1.0 (there i true e.if-is_there.true)
 
-add-keys : tie.Need-overflow-add-keys
+add-keys : tie.Need-overflow_add-keys
 add-keys c =
     let w = c.before.before.before in
     let e = w.before.before.before in
     let i = e.before in
-    let room = (s i).requires.1.0 (there i true e.if1.true) in
-    record { fits = omega (arith, (s i).well-formed, room) }
+    let room = (s i).requires.1.0 (there i true e.if-is_there.true) in
+    record { fits = omega (arith, (s i).well_formed, room) }
 
-lost-length-requires : tie.Need-lost-length-requires
+lost-length-requires : tie.Need-lost_length-requires
 lost-length-requires c κs = let i = c.before in (l i, (s i).requires.0.1.1)
 
-add-lost : tie.Need-overflow-add-lost
+add-lost : tie.Need-overflow_add-lost
 add-lost c =
     let w = c.before in
     let e = w.before in
     let i = e.before in
-    let room = (s i).requires.1.1 (there i false e.if1.false) in
-    record { fits = omega (arith, w.lost-length.ensures (l i) (s i).requires.0.1.1, room, (s i).well-formed) }
+    let room = (s i).requires.1.1 (there i false e.if-is_there.false) in
+    record { fits = omega (arith, w.lost_length.ensures (l i) (s i).requires.0.1.1, room, (s i).well_formed) }
 
-write-lost-requires : tie.Need-write-lost-requires
+write-lost-requires : tie.Need-write_lost-requires
 write-lost-requires c κs =
     let w = c.before.before in
     let e = w.before in
     let i = e.before in
-    let long = w.lost-length.ensures (l i) (s i).requires.0.1.1 in
-    ((s i).requires.0.1.1, (omega (arith, long), omega (arith, long, (s i).requires.1.1 (there i false e.if1.false))))
+    let long = w.lost_length.ensures (l i) (s i).requires.0.1.1 in
+    ((s i).requires.0.1.1, (omega (arith, long), omega (arith, long, (s i).requires.1.1 (there i false e.if-is_there.false))))
 
-returns : tie.Need-returns
+returns : tie.Need-returns-then-is_there
 returns c =
     let w = c.before.before.before in
     let k = w.before.before in
@@ -78,11 +78,11 @@ returns c =
     let i = e.before in
     let a = (s i).args in
     let o = a.out.now in
-    let o' = w.put-key.new.0 in
-    subst (λ (b : Bool). Lays b (l i) a.f o a.ends.keys a.ends.lost o' (a.ends.keys + 1) a.ends.lost) (sym (there i true e.if1.true))
-    (subst (λ (v : ℕ). Put o a.ends.keys v o') k.key_of.ensures w.put-key.ensures, (refl, refl))
+    let o' = w.put_key.new.out in
+    subst (λ (b : Bool). Lays b (l i) a.f o a.ends.keys a.ends.lost o' (a.ends.keys + 1) a.ends.lost) (sym (there i true e.if-is_there.true))
+    (subst (λ (v : ℕ). Put o a.ends.keys v o') k.key_of-v.ensures w.put_key.ensures, (refl, refl))
 
-returns-2 : tie.Need-returns-2
+returns-2 : tie.Need-returns-else-is_there
 returns-2 c =
     let x = c.before.before in
     let w = x.before.before.before in
@@ -90,14 +90,14 @@ returns-2 c =
     let i = e.before in
     let a = (s i).args in
     let o = a.out.now in
-    let o' = x.write-lost.new.0 in
-    let end = a.ends.lost + w.lost-length.result in
-    let at : x.write-lost.result ≡ a.ends.lost = omega (arith, x.write-lost.ensures.past, w.lost-length.ensures (l i) (s i).requires.0.1.1) in
-    subst (λ (b : Bool). Lays b (l i) a.f o a.ends.keys a.ends.lost o' a.ends.keys end) (sym (there i false e.if1.false))
-    (subst (λ (p : ℕ). Wrote o p (lost_text (l i) a.f) o' end) at x.write-lost.ensures, refl)
+    let o' = x.write_lost.new.out in
+    let end = a.ends.lost + w.lost_length.result in
+    let at : x.write_lost.result ≡ a.ends.lost = omega (arith, x.write_lost.ensures.past, w.lost_length.ensures (l i) (s i).requires.0.1.1) in
+    subst (λ (b : Bool). Lays b (l i) a.f o a.ends.keys a.ends.lost o' a.ends.keys end) (sym (there i false e.if-is_there.false))
+    (subst (λ (p : ℕ). Wrote o p (lost_text (l i) a.f) o' end) at x.write_lost.ensures, refl)
 
-pub lay-one-spec : {M : Type 1} → statement M
-lay-one-spec =
+pub lay_one_spec : {M : Type 1} → statement M
+lay_one_spec =
     tie.close
     (tie.spec
     (λ c κs. search rules)

@@ -13,40 +13,40 @@ use Rattle.findings.specs.declared.line.Entry.TheVariants.{Good}
 use Rattle.findings.proofs.lists.judge.Statement.{statement}
 use Rattle.findings.proofs.lists.judge.Tie as tie
 
-abbrev invariant-loop : tie.invariant-loop
-invariant-loop table n list at₀ line₀ parts₀ at line parts = Judging table list at line parts
+abbrev invariant-loop-f : tie.invariant-loop-f
+invariant-loop-f table n list at₀ line₀ parts₀ at line parts = Judging table list at line parts
 
-abbrev decreases-loop : tie.decreases-loop
-decreases-loop table n list at₀ line₀ parts₀ at line parts = length list - at
+abbrev decreases-loop-f : tie.decreases-loop-f
+decreases-loop-f table n list at₀ line₀ parts₀ at line parts = length list - at
 
-loop-holds : tie.Need-loop-init invariant-loop decreases-loop
-loop-holds c = let a = c.before.before.args in judging-start a.table.now a.list.now
+loop-holds : tie.Need-loop-f-init invariant-loop-f decreases-loop-f
+loop-holds c = let a = c.args in judging-start a.table.now a.list.now
 
-returns : tie.Need-returns invariant-loop decreases-loop
+returns : tie.Need-returns-in-End invariant-loop-f decreases-loop-f
 returns c =
-    let e = c.before.before in
+    let e = c.before in
     let l = e.before in
-    let a = l.before.before.before.args in
-    judging-end a.table.now a.list.now l.loop.at l.loop.line l.loop.parts l.loop.invariant
-    (sym e.entry_at.ensures ∙ c.enum_told.given.1)
+    let a = l.args in
+    judging-end a.table.now a.list.now l.loop-f.at l.loop-f.line l.loop-f.parts l.loop-f.invariant
+    (sym e.entry_at.ensures ∙ c.in-End.is)
 
-returns-2 : tie.Need-returns-2 invariant-loop decreases-loop
+returns-2 : tie.Need-returns-in-Bad invariant-loop-f decreases-loop-f
 returns-2 c =
-    let e = c.before.before in
+    let e = c.before in
     let l = e.before in
-    let a = l.before.before.before.args in
-    judging-bad a.table.now a.list.now l.loop.at l.loop.line l.loop.parts l.loop.invariant
-    (sym e.entry_at.ensures ∙ c.enum-told2.given.1)
+    let a = l.args in
+    judging-bad a.table.now a.list.now l.loop-f.at l.loop-f.line l.loop-f.parts l.loop-f.invariant
+    (sym e.entry_at.ensures ∙ c.in-Bad.is)
 
 -- a finding stands there
-module _ (h : tie.After-f invariant-loop decreases-loop) where
-  abbrev e : tie.After-entry-at invariant-loop decreases-loop
-  e = h.before.before
+module _ (h : tie.In-Good invariant-loop-f decreases-loop-f) where
+  abbrev e : tie.After-entry_at invariant-loop-f decreases-loop-f
+  e = h.before
 
-  abbrev l : tie.At-loop invariant-loop decreases-loop
+  abbrev l : tie.At-loop-f invariant-loop-f decreases-loop-f
   l = e.before
 
-  abbrev s : tie.Start invariant-loop decreases-loop
+  abbrev s : tie.Start invariant-loop-f decreases-loop-f
   s = l.before.before.before
 
   abbrev t : List ℕ
@@ -56,46 +56,46 @@ module _ (h : tie.After-f invariant-loop decreases-loop) where
   list = s.args.list.now
 
   abbrev f : Finding
-  f = h.f.given.0.0
+  f = h.in-Good.f
 
-  good : entry_at list l.loop.at ≡ Good f
-  good = sym e.entry_at.ensures ∙ h.f.given.1
+  good : entry_at list l.loop-f.at ≡ Good f
+  good = sym e.entry_at.ensures ∙ h.in-Good.is
 
-with-line-requires : tie.Need-with-line-requires invariant-loop decreases-loop
+with-line-requires : tie.Need-with_line-parts-requires invariant-loop-f decreases-loop-f
 with-line-requires c κs =
-    let h = c.before in
-    let g = (l h).loop in
-    let r = judging-room (t h) (list h) g.at g.line g.parts g.inv (f h) (good h) in
+    let h = c in
+    let g = (l h).loop-f in
+    let r = judging-room (t h) (list h) g.at g.line g.parts g.invariant (f h) (good h) in
     let m = entry_next (list h) g.at (f h) (good h) in
-    let k = (l h).before.shared-slice-known2.given in
+    let k = (l h).shared_slice_known-2-1.given in
     ((s h).requires, (list h, entry_in (list h) g.at (f h) (good h), omega (arith, r.0, m.1), omega (arith, r.1, m.1)))
 
-add-line : tie.Need-overflow-add-line invariant-loop decreases-loop
+add-line : tie.Need-overflow_add-line invariant-loop-f decreases-loop-f
 add-line c =
-    let h = c.before.before in
-    let g = (l h).loop in
+    let h = c.before in
+    let g = (l h).loop-f in
     let m = entry_next (list h) g.at (f h) (good h) in
-    record { fits = omega (arith, m.0, m.1, g.inv.few) }
+    record { fits = omega (arith, m.0, m.1, g.invariant.few) }
 
-loop-less : tie.Need-loop-smaller invariant-loop decreases-loop
+loop-less : tie.Need-loop-f-smaller invariant-loop-f decreases-loop-f
 loop-less c =
-    let h = c.before.before in
-    let m = entry_next (list h) (l h).loop.at (f h) (good h) in
+    let h = c.before in
+    let m = entry_next (list h) (l h).loop-f.at (f h) (good h) in
     omega (arith, m.0, m.1)
 
-loop-again : tie.Need-loop-preserved invariant-loop decreases-loop
+loop-again : tie.Need-loop-f-preserved invariant-loop-f decreases-loop-f
 loop-again c =
-    let h = c.before.before in
-    let g = (l h).loop in
-    judging-good (t h) (list h) g.at g.line g.parts g.inv (f h) (good h) c.with-line.result
-    (c.with-line.ensures (list h) (entry_in (list h) g.at (f h) (good h)))
+    let h = c.before in
+    let g = (l h).loop-f in
+    judging-good (t h) (list h) g.at g.line g.parts g.invariant (f h) (good h) c.with_line-parts.result
+    (c.with_line-parts.ensures (list h) (entry_in (list h) g.at (f h) (good h)))
 
-pub judge-spec : {M : Type 1} → statement M
-judge-spec =
+pub judge_spec : {M : Type 1} → statement M
+judge_spec =
     tie.close
     (tie.spec
-    invariant-loop
-    decreases-loop
+    invariant-loop-f
+    decreases-loop-f
     loop-holds
     (λ c κs. search rules)
     (λ c. search rules)

@@ -6,7 +6,7 @@ use Rattle.findings.proofs.texts.lost_length.Statement.{statement}
 use Rattle.findings.proofs.texts.lost_length.Tie as tie
 
 returns : tie.Need-returns
-returns c = λ l h. omega (arith, c.tail-length.ensures.0 l h, lost-long l c.before.args.f)
+returns c = λ l h. omega (arith, c.tail_length.ensures.0 l h, lost-long l c.args.f)
 
-pub lost-length-spec : {M : Type 1} → statement M
-lost-length-spec = tie.close (tie.spec (λ c κs. search rules) (λ c. search rules) returns)
+pub lost_length_spec : {M : Type 1} → statement M
+lost_length_spec = tie.close (tie.spec (λ c κs. search rules) (λ c. search rules) returns)

@@ -12,10 +12,10 @@ use Rattle.findings.proofs.texts.point_of.Tie as tie
 returns : tie.Need-returns
 returns c =
     let t = c.before in
-    let p = t.before.before.before.args.f.at in
-    let fa : SFits w32 p.a = record { sfits = omega (arith, t.before.struct_told.given) } in
-    let fb : SFits w32 p.b = record { sfits = omega (arith, t.before.struct_told.given) } in
+    let p = t.args.f.at in
+    let fa : SFits w32 p.a = record { sfits = omega (arith, t.struct_told-1.given) } in
+    let fb : SFits w32 p.b = record { sfits = omega (arith, t.struct_told-1.given) } in
     c.normalise.ensures ∙ (λ i. normal_of (to_z-of_z fa i) (to_z-of_z fb i) p.m.0)
 
-pub point-of-spec : {M : Type 1} → statement M
-point-of-spec = tie.close (tie.spec (λ c κs. search rules) returns)
+pub point_of_spec : {M : Type 1} → statement M
+point_of_spec = tie.close (tie.spec (λ c κs. search rules) returns)

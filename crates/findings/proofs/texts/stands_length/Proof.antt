@@ -13,9 +13,9 @@ returns : tie.Need-returns
 returns c =
     let w = c.before in
     let p = w.before in
-    let point = ap (λ (q : Point). length (point_text q)) p.point-of.ensures in
-    λ l h. omega (arith, w.point-length.ensures.0, point, c.tail-length.ensures.0 l h, stands-long l p.before.args.f)
+    let point = ap (λ (q : Point). length (point_text q)) p.point_of.ensures in
+    λ l h. omega (arith, w.point_length.ensures.0, point, c.tail_length.ensures.0 l h, stands-long l p.args.f)
 
-pub stands-length-spec : {M : Type 1} → statement M
-stands-length-spec =
+pub stands_length_spec : {M : Type 1} → statement M
+stands_length_spec =
     tie.close (tie.spec (λ c κs. search rules) (λ c κs. search rules) (λ c κs. search rules) (λ c. search rules) returns)

@@ -21,12 +21,12 @@ module _ (s : tie.Start) where
   starts = (note-size s.args.list.now s.args.f s.requires.0).0
 
   ends : s.args.f.next ≤ length s.args.list.now
-  ends = (entry_next s.args.list.now s.args.f.from s.args.f s.pre.0).1
+  ends = (entry_next s.args.list.now s.args.f.from s.args.f s.requires.0).1
 
   room : s.args.f.next - s.args.f.note ≤ s.args.end
-  room = omega (arith, tail-long s.args.list.now s.args.f s.pre.0, s.pre.1.0)
+  room = omega (arith, tail-long s.args.list.now s.args.f s.requires.0, s.requires.1.0)
 
-write-bytes-requires : tie.Need-write-bytes-requires
+write-bytes-requires : tie.Need-write_bytes-requires
 write-bytes-requires c κs =
     let s = c.before.before.before.before in
     omega (
@@ -37,14 +37,14 @@ write-bytes-requires c κs =
       (note-size s.args.list.now s.args.f s.requires.0).1,
     )
 
-number-back-requires : tie.Need-number-back-requires
+number-back-requires : tie.Need-number_back-requires
 number-back-requires c κs =
     let w = c.before.before.before in
     let s = w.before.before.before.before.before in
     let number = s.args.f.number in
     let long : length (ended (digits number) tab) ≤ s.args.end - (s.args.f.next - s.args.f.note) =
     omega (arith, tail-long s.args.list.now s.args.f s.requires.0, s.requires.1.0, length-append (digits number) (tab ∷ [])) in
-    (long, omega (arith, s.requires.1.1, w.write_bytes.auto.0))
+    (long, omega (arith, s.requires.1.1, w.write_bytes.auto.out))
 
 returns : tie.Need-returns
 unfolding tail_text
@@ -54,15 +54,15 @@ returns c =
     let s = w.before.before.before.before.before in
     let o = s.args.out.now in
     let at = s.args.end - (s.args.f.next - s.args.f.note) in
-    let note : Wrote o at (ended (note_at s.args.list.now s.args.f.note) feed) w.write_bytes.new.0 s.args.end =
+    let note : Wrote o at (ended (note_at s.args.list.now s.args.f.note) feed) w.write_bytes.new.out s.args.end =
     record {
       bytes = w.write_bytes.ensures.bytes ∙ ap (sets o at) (note-part s.args.list.now s.args.f s.requires.0);
       past = omega (arith, room s, (note-size s.args.list.now s.args.f s.requires.0).1);
     } in
-    wrote-before note b.number-back.ensures
+    wrote-before note b.number_back.ensures
 
-pub tail-back-spec : {M : Type 1} → statement M
-tail-back-spec =
+pub tail_back_spec : {M : Type 1} → statement M
+tail_back_spec =
     tie.close
     (tie.spec
     (λ c. starts c.before.before)

@@ -9,47 +9,47 @@ use Rattle.numbering.specs.Ranks.{lower, below_of, below_none, below_more}
 use Rattle.numbering.proofs.numbers.count_below.Statement.{statement}
 use Rattle.numbering.proofs.numbers.count_below.Tie as tie
 
-abbrev invariant-loop : tie.invariant-loop
-invariant-loop table n x i₀ count₀ i count = (count ≡ how_many (lower x) (records_below table i)) × (count ≤ i) × (i ≤ n)
+abbrev invariant-loop-i : tie.invariant-loop-i
+invariant-loop-i table n x i₀ count₀ i count = (count ≡ how_many (lower x) (records_below table i)) × (count ≤ i) × (i ≤ n)
 
-abbrev decreases-loop : tie.decreases-loop
-decreases-loop table n x i₀ count₀ i count = n - i
+abbrev decreases-loop-i : tie.decreases-loop-i
+decreases-loop-i table n x i₀ count₀ i count = n - i
 
-loop-holds : tie.Need-loop-init invariant-loop decreases-loop
-loop-holds c = let a = c.before.args in (sym (below_none a.table.now a.x), omega arith, omega arith)
+loop-holds : tie.Need-loop-i-init invariant-loop-i decreases-loop-i
+loop-holds c = let a = c.args in (sym (below_none a.table.now a.x), omega arith, omega arith)
 
-is-below-requires : tie.Need-is-below-requires invariant-loop decreases-loop
+is-below-requires : tie.Need-is_below-count-requires invariant-loop-i decreases-loop-i
 is-below-requires c κs = let s = c.before.before.before in (s.requires.0, omega (arith, s.requires.1))
 
-add-count : tie.Need-overflow-add-count invariant-loop decreases-loop
+add-count : tie.Need-overflow_add-count invariant-loop-i decreases-loop-i
 add-count c =
     let l = c.before.before in
     let s = l.before.before in
-    record { fits = omega (arith, l.loop.invariant.1, l.loop.invariant.2, c.is_below.ensures.1, s.requires.1, s.requires.0.fits.most) }
+    record { fits = omega (arith, l.loop-i.invariant.1, l.loop-i.invariant.2, c.is_below-count.ensures.1, s.requires.1, s.requires.0.fits.most) }
 
-add-i : tie.Need-overflow-add-i invariant-loop decreases-loop
+add-i : tie.Need-overflow_add-i invariant-loop-i decreases-loop-i
 add-i c =
     let l = c.before.before in
     let s = l.before.before in
-    record { fits = omega (arith, l.loop.invariant.2, s.requires.1, s.requires.0.fits.most) }
+    record { fits = omega (arith, l.loop-i.invariant.2, s.requires.1, s.requires.0.fits.most) }
 
-loop-again : tie.Need-loop-preserved invariant-loop decreases-loop
+loop-again : tie.Need-loop-i-preserved invariant-loop-i decreases-loop-i
 loop-again c =
     let l = c.before.before in
     let s = l.before.before in
-    let e = below_more s.args.table.now s.args.x l.loop.i in
-    let a = l.loop.invariant.0 in
-    let b = c.is_below.ensures.0 in
-    (omega arith, omega (arith, c.is_below.ensures.1, l.loop.invariant.1), omega arith)
+    let e = below_more s.args.table.now s.args.x l.loop-i.i in
+    let a = l.loop-i.invariant.0 in
+    let b = c.is_below-count.ensures.0 in
+    (omega arith, omega (arith, c.is_below-count.ensures.1, l.loop-i.invariant.1), omega arith)
 
-returns : tie.Need-returns invariant-loop decreases-loop
+returns : tie.Need-returns invariant-loop-i decreases-loop-i
 unfolding below_of
 returns c =
     let l = c.before in
     let s = l.before.before in
-    let e : l.loop.i ≡ s.args.n = omega (arith, l.loop.invariant.2) in
-    l.loop.invariant.0 ∙ ap (λ (k : ℕ). how_many (lower s.args.x) (records_below s.args.table.now k)) (e ∙ s.requires.1)
+    let e : l.loop-i.i ≡ s.args.n = omega (arith, l.loop-i.invariant.2) in
+    l.loop-i.invariant.0 ∙ ap (λ (k : ℕ). how_many (lower s.args.x) (records_below s.args.table.now k)) (e ∙ s.requires.1)
 
-pub count-below-spec : {M : Type 1} → statement M
-count-below-spec =
-    tie.close (tie.spec invariant-loop decreases-loop loop-holds is-below-requires add-count add-i (λ c. search rules) loop-again returns)
+pub count_below_spec : {M : Type 1} → statement M
+count_below_spec =
+    tie.close (tie.spec invariant-loop-i decreases-loop-i loop-holds is-below-requires add-count add-i (λ c. search rules) loop-again returns)

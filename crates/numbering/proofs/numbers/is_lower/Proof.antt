@@ -18,5 +18,5 @@ at_most : (t : Bool) → bool_byte t ≤ 1
 at_most true = omega arith
 at_most false = omega arith
 
-pub is-lower-spec : {M : Type 1} → statement M
-is-lower-spec = tie.close (tie.spec (λ c. search rules) (λ c. let t = ltb c.args.x c.args.y in (as_number t, at_most t)))
+pub is_lower_spec : {M : Type 1} → statement M
+is_lower_spec = tie.close (tie.spec (λ c. search rules) (λ c. let t = ltb c.args.x c.args.y in (as_number t, at_most t)))

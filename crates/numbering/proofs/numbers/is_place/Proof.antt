@@ -10,7 +10,7 @@ use Rattle.numbering.proofs.numbers.is_place.Statement.{statement}
 use Rattle.numbering.proofs.numbers.is_place.Tie as tie
 
 -- the key is not below x
-module _ (e : tie.Else2) where
+module _ (e : tie.Else-key-x) where
   abbrev k : tie.After-key
   k = e.before
 
@@ -18,31 +18,31 @@ module _ (e : tie.Else2) where
   s = k.before.before.before
 
   inside : s.args.g < s.args.k
-  inside = omega (arith, k.before.if1.left)
+  inside = omega (arith, k.if-k-g.false)
 
-returns-3 : tie.Need-returns-3
+returns-3 : tie.Need-returns-then-g-eq0
 returns-3 c =
     let e = c.before in
     let a = (s e).args in
     λ q. (
       omega (arith, inside e),
       λ t w. searched-at t a.x a.g (omega (arith, inside e, w.count))
-          (omega (arith, sym (w.keys a.g (inside e)) ∙ sym (k e).key.ensures, e.if2.false)) (λ h. absurd (omega (arith, h, c.if3.true))),
+          (omega (arith, sym (w.keys a.g (inside e)) ∙ sym (k e).key.ensures, e.if-key-x.false)) (λ h. absurd (omega (arith, h, c.if-g-eq0.true))),
     )
 
-returns-4 : tie.Need-returns-4
+returns-4 : tie.Need-returns
 returns-4 c =
     let e = c.before.before in
     let a = (s e).args in
     λ q. (
       omega (arith, inside e),
       λ t w. searched-at t a.x a.g (omega (arith, inside e, w.count))
-          (omega (arith, sym (w.keys a.g (inside e)) ∙ sym (k e).key.ensures, e.if2.false))
-          (λ h. omega (arith, sym (w.keys (a.g - 1) (omega (arith, inside e))) ∙ sym c.key2.ensures, ltb-true c.key2.result a.x q)),
+          (omega (arith, sym (w.keys a.g (inside e)) ∙ sym (k e).key.ensures, e.if-key-x.false))
+          (λ h. omega (arith, sym (w.keys (a.g - 1) (omega (arith, inside e))) ∙ sym c.key-2.ensures, ltb-true c.key-2.result a.x q)),
     )
 
-pub is-place-spec : {M : Type 1} → statement M
-is-place-spec =
+pub is_place_spec : {M : Type 1} → statement M
+is_place_spec =
     tie.close
     (tie.spec
     (λ c q. absurd (never q))

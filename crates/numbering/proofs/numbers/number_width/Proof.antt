@@ -18,18 +18,18 @@ returns c =
     let o = r₁.before in
     let s = o.before in
     let w = s.args.w in
-    let at = o.order.ensures.0 in
-    let two = r₁.reaches.ensures.0 ∙ ap (λ (x : ℕ). bit (leb w.two x)) at in
-    let three = r₂.reaches2.ensures.0 ∙ ap (λ (x : ℕ). bit (leb w.three x)) at in
-    let four = r₃.reaches3.ensures.0 ∙ ap (λ (x : ℕ). bit (leb w.four x)) at in
-    let five = c.reaches4.ensures.0 ∙ ap (λ (x : ℕ). bit (leb w.five x)) at in
-    let inside = subst (λ (x : ℕ). x < orders) at o.order.ensures.1 in (
+    let at = o.order-x.ensures.0 in
+    let two = r₁.reaches-two.ensures.0 ∙ ap (λ (x : ℕ). bit (leb w.two x)) at in
+    let three = r₂.reaches-three.ensures.0 ∙ ap (λ (x : ℕ). bit (leb w.three x)) at in
+    let four = r₃.reaches-four.ensures.0 ∙ ap (λ (x : ℕ). bit (leb w.four x)) at in
+    let five = c.reaches-five.ensures.0 ∙ ap (λ (x : ℕ). bit (leb w.five x)) at in
+    let inside = subst (λ (x : ℕ). x < orders) at o.order-x.ensures.1 in (
       λ t d u few. (λ i. 1 + two i + three i + four i + five i) ∙ cuts-width t d s.args.first w u s.requires.1.1 s.args.p s.requires.0 few inside,
-      omega (arith, r₁.reaches.ensures.1, r₂.reaches2.ensures.1, r₃.reaches3.ensures.1, c.reaches4.ensures.1),
+      omega (arith, r₁.reaches-two.ensures.1, r₂.reaches-three.ensures.1, r₃.reaches-four.ensures.1, c.reaches-five.ensures.1),
     )
 
-pub number-width-spec : {M : Type 1} → statement M
-number-width-spec =
+pub number_width_spec : {M : Type 1} → statement M
+number_width_spec =
     tie.close
     (tie.spec
     (λ c κs. search rules)

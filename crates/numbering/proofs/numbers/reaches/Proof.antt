@@ -18,5 +18,5 @@ at_most : (t : Bool) → bool_byte t ≤ 1
 at_most true = omega arith
 at_most false = omega arith
 
-pub reaches-spec : {M : Type 1} → statement M
-reaches-spec = tie.close (tie.spec (λ c. search rules) (λ c. let t = leb c.args.y c.args.x in (as_number t, at_most t)))
+pub reaches_spec : {M : Type 1} → statement M
+reaches_spec = tie.close (tie.spec (λ c. search rules) (λ c. let t = leb c.args.y c.args.x in (as_number t, at_most t)))

@@ -5,36 +5,36 @@ use Rattle.readers.specs.LineSteps.{entered-there, entered-free, entered-full, f
 use Rattle.readers.proofs.lines.enter_line.Statement.{statement}
 use Rattle.readers.proofs.lines.enter_line.Tie as tie
 
-returns : tie.Need-returns
+returns : tie.Need-returns-in-At
 returns c =
-    let f = c.before.before.before.before in
-    let a = f.before.before.before.args in (
-      entered-there a.table.now a.line a.r a.next a.after c.enum_told.given.0.0
-          (sym f.enter.ensures.0 ∙ c.enum_told.given.1),
-      f.enter.ensures.1,
+    let f = c.before.before.before in
+    let a = f.args in (
+      entered-there a.table.now a.line a.r a.next a.after c.in-At.field-0
+          (sym f.enter-f.ensures.0 ∙ c.in-At.is),
+      f.enter-f.ensures.1,
     )
 
-returns-2 : tie.Need-returns-2
+returns-2 : tie.Need-returns-in-Free
 returns-2 c =
-    let f = c.before.before.before.before in
-    let a = f.before.before.before.args in (
-      entered-free a.table.now a.line a.r a.next a.after c.enum-told2.given.0.0
-          (sym f.enter.ensures.0 ∙ c.enum-told2.given.1),
-      f.enter.ensures.1,
+    let f = c.before.before.before in
+    let a = f.args in (
+      entered-free a.table.now a.line a.r a.next a.after c.in-Free.field-0
+          (sym f.enter-f.ensures.0 ∙ c.in-Free.is),
+      f.enter-f.ensures.1,
     )
 
-returns-3 : tie.Need-returns-3
+returns-3 : tie.Need-returns-in-Full
 returns-3 c =
-    let f = c.before.before.before.before in
-    let a = f.before.before.before.args in
-    let e = sym f.enter.ensures.0 ∙ c.enum-told3.given.1 in (
+    let f = c.before.before.before in
+    let a = f.args in
+    let e = sym f.enter-f.ensures.0 ∙ c.in-Full.is in (
       entered-full a.table.now a.line a.r a.next a.after e,
-      f.enter.ensures.1
+      f.enter-f.ensures.1
           ∙ full-stays a.table.now a.line a.r a.next a.after e,
     )
 
-pub enter-line-spec : {M : Type 1} → statement M
-enter-line-spec =
+pub enter_line_spec : {M : Type 1} → statement M
+enter_line_spec =
     tie.close
     (tie.spec
     (λ c κs. search rules)

@@ -18,14 +18,14 @@ returns c =
     let st = c.before.before.before.before.before.before.before.before.before.before.before.before.before.before.before.before in
     let p = st.args.p in
     let q = st.args.q in
-    let pa : mag p.a < 2 ^ 31 = omega (arith, st.well-formed) in
-    let qa : mag q.a < 2 ^ 31 = omega (arith, st.well-formed) in
+    let pa : mag p.a < 2 ^ 31 = omega (arith, st.well_formed) in
+    let qa : mag q.a < 2 ^ 31 = omega (arith, st.well_formed) in
     let fpa : SFits w32 p.a = record { sfits = pa } in
     let fqa : SFits w32 q.a = record { sfits = qa } in
-    let fpb : SFits w32 p.b = record { sfits = omega (arith, st.well-formed) } in
-    let fqb : SFits w32 q.b = record { sfits = omega (arith, st.well-formed) } in
+    let fpb : SFits w32 p.b = record { sfits = omega (arith, st.well_formed) } in
+    let fqb : SFits w32 q.b = record { sfits = omega (arith, st.well_formed) } in
     let same = same_bits p.a q.a pa qa in
     λ i. ltb p.m.0 q.m.0 || (eqb p.m.0 q.m.0 && (lt_z (to_z-of_z fpa i) (to_z-of_z fqa i) || (same i && lt_z (to_z-of_z fpb i) (to_z-of_z fqb i))))
 
-pub is-earlier-spec : {M : Type 1} → statement M
-is-earlier-spec = tie.close (tie.spec returns)
+pub is_earlier_spec : {M : Type 1} → statement M
+is_earlier_spec = tie.close (tie.spec returns)

@@ -11,70 +11,70 @@ use Rattle.readers.specs.RestoreSteps.{restore-invalid, restore-full, restore-ne
 use Rattle.readers.proofs.restore.restore_record.Statement.{statement}
 use Rattle.readers.proofs.restore.restore_record.Tie as tie
 
-abbrev st : tie.After-find → tie.Start
-st c = c.before.before.before.before.before
+abbrev st : tie.After-find-f → tie.Start
+st c = c.before.before.before.before
 
 -- where the search ended
-ends : (c : tie.After-find) (f : Found) → c.find.result ≡ f → find_of (st c).args.table.now (st c).args.r.at ≡ f
-ends c f e = sym c.find.ensures.0 ∙ e
+ends : (c : tie.After-find-f) (f : Found) → c.find-f.result ≡ f → find_of (st c).args.table.now (st c).args.r.at ≡ f
+ends c f e = sym c.find-f.ensures.0 ∙ e
 
-was-three-requires : tie.Need-was-three-requires
+was-three-requires : tie.Need-was_three-kept-requires
 was-three-requires c κs =
-    let k = c.before in
-    let f = k.before.before in
+    let k = c in
+    let f = k.before in
     let s = st f in
-    omega (arith, at_room s.args.table.now s.args.n s.pre s.args.r.at k.f.given.0.0 (ends f _ k.f.given.1))
+    omega (arith, at_room s.args.table.now s.args.n s.requires s.args.r.at k.in-At.i (ends f _ k.in-At.is))
 
-write-slot-requires : tie.Need-write-slot-requires
+write-slot-requires : tie.Need-write_slot-requires
 write-slot-requires c κs =
-    let k = c.before.before.before.before in
-    let f = k.before.before in
-    free-room (st f).args.table.now (st f).args.n (st f).requires (st f).args.r.at k.f2.given.0.0 (ends f _ k.f2.given.1)
+    let k = c.before.before.before in
+    let f = k.before in
+    free-room (st f).args.table.now (st f).args.n (st f).requires (st f).args.r.at k.in-Free.i (ends f _ k.in-Free.is)
 
-returns : tie.Need-returns
+returns : tie.Need-returns-then-not-valid
 returns c =
     let v = c.before in
-    let k = v.before.before in
-    let f = k.before.before in
+    let k = v.before in
+    let f = k.before in
     mends-stopped (λ z. omega arith)
-    (restore-invalid (st f).args.table.now (st f).args.r k.f2.given.0.0 (ends f _ k.f2.given.1)
-    (sym v.valid.ensures ∙ not-true _ c.if1.true))
+    (restore-invalid (st f).args.table.now (st f).args.r k.in-Free.i (ends f _ k.in-Free.is)
+    (sym v.valid.ensures ∙ not-true _ c.if-not-valid.true-raw))
 
-returns-2 : tie.Need-returns-2
+returns-2 : tie.Need-returns-then-not-valid-2
 returns-2 c =
     let v = c.before in
     let k = v.before in
-    let f = k.before.before in
+    let f = k.before in
     mends-stopped (λ z. omega arith)
-    (restore-neither (st f).args.table.now (st f).args.r (ends f _ k.enum_told.given.1) (sym v.valid2.ensures ∙ not-true _ c.if2.true))
+    (restore-neither (st f).args.table.now (st f).args.r (ends f _ k.in-Full.is) (sym v.valid-in-Full.ensures ∙ not-true _ c.if-not-valid-2.true-raw))
 
-returns-3 : tie.Need-returns-3
+returns-3 : tie.Need-returns-in-At
 returns-3 c =
-    let k = c.before.before in
-    let f = k.before.before in
-    mends_there (st f).args.before.now (st f).args.table.now (st f).args.r k.f.given.0.0 (ends f _ k.f.given.1)
-    c.was-three.result c.was-three.ensures
+    let k = c.before in
+    let f = k.before in
+    mends_there (st f).args.before.now (st f).args.table.now (st f).args.r k.in-At.i (ends f _ k.in-At.is)
+    c.was_three-kept.result c.was_three-kept.ensures
 
-returns-4 : tie.Need-returns-4
+returns-4 : tie.Need-returns-else-not-valid
 returns-4 c =
     let w = c.before.before in
     let z = w.before.before in
     let v = z.before in
-    let k = v.before.before in
-    let f = k.before.before in
-    mends-entered (st f).args.before.now (st f).args.table.now (st f).args.r k.f2.given.0.0 (ends f _ k.f2.given.1)
-    (sym v.valid.ensures ∙ not-false _ z.if1.false) w.write-slot.new.0 w.write-slot.ensures
+    let k = v.before in
+    let f = k.before in
+    mends-entered (st f).args.before.now (st f).args.table.now (st f).args.r k.in-Free.i (ends f _ k.in-Free.is)
+    (sym v.valid.ensures ∙ not-false _ z.if-not-valid.false-raw) w.write_slot.new.t w.write_slot.ensures
 
-returns-5 : tie.Need-returns-5
+returns-5 : tie.Need-returns-else-not-valid-2
 returns-5 c =
     let v = c.before in
     let k = v.before in
-    let f = k.before.before in
+    let f = k.before in
     mends-stopped (λ z. omega arith)
-    (restore-full (st f).args.table.now (st f).args.r (ends f _ k.enum_told.given.1) (sym v.valid2.ensures ∙ not-false _ c.if2.false))
+    (restore-full (st f).args.table.now (st f).args.r (ends f _ k.in-Full.is) (sym v.valid-in-Full.ensures ∙ not-false _ c.if-not-valid-2.false-raw))
 
-pub restore-record-spec : {M : Type 1} → statement M
-restore-record-spec =
+pub restore_record_spec : {M : Type 1} → statement M
+restore_record_spec =
     tie.close
     (tie.spec
     (λ c κs. search rules)

@@ -16,38 +16,38 @@ use Rattle.readers.specs.RestoreSteps.{Mends, mends-as, six-inner, Rounding, rou
 use Rattle.readers.proofs.restore.restore_round.Statement.{statement}
 use Rattle.readers.proofs.restore.restore_round.Tie as tie
 
-abbrev invariant-loop : tie.invariant-loop
-invariant-loop table₀ before n v kept₀ j₀ table kept j = Rounding before table₀ v j table kept
+abbrev invariant-loop-j : tie.invariant-loop-j
+invariant-loop-j table₀ before n v kept₀ j₀ table kept j = Rounding before table₀ v j table kept
 
-abbrev decreases-loop : tie.decreases-loop
-decreases-loop table₀ before n v kept₀ j₀ table kept j = 6 - j
+abbrev decreases-loop-j : tie.decreases-loop-j
+decreases-loop-j table₀ before n v kept₀ j₀ table kept j = 6 - j
 
-loop-holds : tie.Need-loop-init invariant-loop decreases-loop
+loop-holds : tie.Need-loop-j-init invariant-loop-j decreases-loop-j
 loop-holds c = let s = c.before.before in rounding-start s.args.before.now s.args.table.now s.args.v
 
-born-requires : tie.Need-born-requires invariant-loop decreases-loop
+born-requires : tie.Need-born-requires invariant-loop-j decreases-loop-j
 born-requires c κs =
     let l = c.before.before in
     let s = l.before.before.before in
     let ok = s.requires.1.0 in
     (six-inner s.args.v ok s.requires.1.1, (omega (arith, s.requires.1.1), valid-turn s.args.v (of-true ok)))
 
-restore-record-requires : tie.Need-restore-record-requires invariant-loop decreases-loop
+restore-record-requires : tie.Need-restore_record-s-requires invariant-loop-j decreases-loop-j
 restore-record-requires c κs =
     let l = c.before.before.before in
     let s = l.before.before.before in
-    table_same s.args.table.now l.loop.table s.args.n l.loop.invariant.long s.requires.0
+    table_same s.args.table.now l.loop-j.table s.args.n l.loop-j.invariant.long s.requires.0
 
 -- past one of them
-module _ (c : tie.After-restore-record invariant-loop decreases-loop) where
-  abbrev l : tie.At-loop invariant-loop decreases-loop
+module _ (c : tie.After-restore_record-s invariant-loop-j decreases-loop-j) where
+  abbrev l : tie.At-loop-j invariant-loop-j decreases-loop-j
   l = c.before.before.before.before
 
-  abbrev s : tie.Start invariant-loop decreases-loop
+  abbrev s : tie.Start invariant-loop-j decreases-loop-j
   s = l.before.before.before
 
   abbrev u : List ℕ
-  u = c.restore-record.new.0
+  u = c.restore_record-s.new.table
 
   abbrev v : Record
   v = s.args.v
@@ -55,44 +55,44 @@ module _ (c : tie.After-restore-record invariant-loop decreases-loop) where
   abbrev t₀ : List ℕ
   t₀ = s.args.before.now
 
-  one : Mends t₀ l.loop.table (restore (With l.loop.table) (born_of v l.loop.j)) (is_three (look_up t₀ (born_of v l.loop.j).at))
-      c.restore-record.result.number c.restore-record.result.kept u
+  one : Mends t₀ l.loop-j.table (restore (With l.loop-j.table) (born_of v l.loop-j.j)) (is_three (look_up t₀ (born_of v l.loop-j.j).at))
+      c.restore_record-s.result.number c.restore_record-s.result.kept u
   one =
-      mends-as (ap (restore (With l.loop.table)) c.before.born.ensures) (ap (λ (r : Record). is_three (look_up t₀ r.at)) c.before.born.ensures)
-      c.restore-record.ensures
+      mends-as (ap (restore (With l.loop-j.table)) c.born.ensures) (ap (λ (r : Record). is_three (look_up t₀ r.at)) c.born.ensures)
+      c.restore_record-s.ensures
 
-  same : length u ≡ length l.loop.table
-  same = omega (arith, c.restore-record.auto)
+  same : length u ≡ length l.loop-j.table
+  same = omega (arith, c.restore_record-s.auto)
 
-returns : tie.Need-returns invariant-loop decreases-loop
+returns : tie.Need-returns-then-s-ne-DONE invariant-loop-j decreases-loop-j
 returns c =
     let r = c.before.before.before.before in
-    rounding-stop (l r).loop.invariant r.before.before.before.loop-test.true (one r) c.if1.true
+    rounding-stop (l r).loop-j.invariant r.loop-j-test.true (one r) c.if-s-ne-DONE.true
 
-loop-again : tie.Need-loop-preserved invariant-loop decreases-loop
+loop-again : tie.Need-loop-j-preserved invariant-loop-j decreases-loop-j
 loop-again c =
     let r = c.before.before.before.before.before in
-    rounding-more (l r).loop.invariant r.before.before.before.loop-test.true (one r) c.before.if1.false (same r)
+    rounding-more (l r).loop-j.invariant r.loop-j-test.true (one r) c.if-s-ne-DONE.false (same r)
 
-returns-2 : tie.Need-returns-2 invariant-loop decreases-loop
+returns-2 : tie.Need-returns invariant-loop-j decreases-loop-j
 returns-2 c =
     let m = c.before in
-    let e : m.loop.j ≡ 6 = omega (arith, m.loop.invariant.within) in
-    rounding-end m.loop.invariant e
+    let e : m.loop-j.j ≡ 6 = omega (arith, m.loop-j.invariant.within) in
+    rounding-end m.loop-j.invariant e
 
-pub restore-round-spec : {M : Type 1} → statement M
-restore-round-spec =
+pub restore_round_spec : {M : Type 1} → statement M
+restore_round_spec =
     tie.close
     (tie.spec
-    invariant-loop
-    decreases-loop
+    invariant-loop-j
+    decreases-loop-j
     loop-holds
     born-requires
     restore-record-requires
-    (λ c. let r = c.before.before.before.before in same r ∙ (l r).loop.invariant.long)
+    (λ c. let r = c.before.before.before.before in same r ∙ (l r).loop-j.invariant.long)
     returns
     (λ c. omega arith)
     (λ c. omega arith)
     loop-again
-    (λ c. c.before.loop.invariant.long)
+    (λ c. c.loop-j.invariant.long)
     returns-2)

@@ -7,7 +7,7 @@ use Rattle.salvage_lines.proofs.line.may_normalise.Statement.{statement}
 use Rattle.salvage_lines.proofs.line.may_normalise.Tie as tie
 
 returns : tie.Need-returns
-returns c = ap (λ (b : Bool). b && leb c.before.before.args.r.k 11) c.before.in-limits.ensures
+returns c = ap (λ (b : Bool). b && leb c.args.r.k 11) c.in_limits.ensures
 
-pub may-normalise-spec : {M : Type 1} → statement M
-may-normalise-spec = tie.close (tie.spec (λ c κs. search rules) returns)
+pub may_normalise_spec : {M : Type 1} → statement M
+may_normalise_spec = tie.close (tie.spec (λ c κs. search rules) returns)

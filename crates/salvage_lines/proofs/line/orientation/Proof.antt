@@ -4,21 +4,21 @@ use Rattle.salvage_lines.specs.OldLines.{orientation_of}
 use Rattle.salvage_lines.proofs.line.orientation.Statement.{statement}
 use Rattle.salvage_lines.proofs.line.orientation.Tie as tie
 
-returns : tie.Need-returns
+returns : tie.Need-returns-then-d-eq3
 unfolding orientation_of
-returns c = simp (eq-eqb c.before.args.d 3 c.if1.true)
+returns c = simp (eq-eqb c.args.d 3 c.if-d-eq3.true)
 
-returns-2 : tie.Need-returns-2
+returns-2 : tie.Need-returns-then-d-eq6
 unfolding orientation_of
 returns-2 c =
-    let d = c.before.before.args.d in
-    simp (ne_eqb d 3 c.before.if1.false, eq-eqb d 6 c.if2.true)
+    let d = c.args.d in
+    simp (ne_eqb d 3 c.if-d-eq3.false, eq-eqb d 6 c.if-d-eq6.true)
 
-returns-3 : tie.Need-returns-3
+returns-3 : tie.Need-returns
 unfolding orientation_of
 returns-3 c =
-    let d = c.before.before.args.d in
-    simp (ne_eqb d 3 c.before.if1.false, ne_eqb d 6 c.if2.false)
+    let d = c.args.d in
+    simp (ne_eqb d 3 c.if-d-eq3.false, ne_eqb d 6 c.if-d-eq6.false)
 
-pub orientation-spec : {M : Type 1} → statement M
-orientation-spec = tie.close (tie.spec returns returns-2 returns-3)
+pub orientation_spec : {M : Type 1} → statement M
+orientation_spec = tie.close (tie.spec returns returns-2 returns-3)

@@ -11,8 +11,8 @@ returns : tie.Need-returns
 unfolding same_record
 returns c =
     let p = c.before.before.before.before.before.before in
-    let a = p.before.args in
+    let a = p.args in
     ap (λ (b : Bool). b && (eqb a.r.d a.q.d && (eqb a.r.k a.q.k && eqb a.r.n.0 a.q.n.0))) p.same_point.ensures
 
-pub same-record-spec : {M : Type 1} → statement M
-same-record-spec = tie.close (tie.spec (λ c κs. search rules) returns)
+pub same_record_spec : {M : Type 1} → statement M
+same_record_spec = tie.close (tie.spec (λ c κs. search rules) returns)

@@ -8,8 +8,8 @@ use Rattle.salvage_lines.proofs.line.tidy.Tie as tie
 returns : tie.Need-returns
 unfolding tidied
 returns c =
-    let r = c.before.before.args.r in
-    λ i. rec (c.before.normal.ensures i) r.d (c.orientation.ensures i) r.n.0
+    let r = c.args.r in
+    λ i. rec (c.normal-at.ensures i) r.d (c.orientation-k.ensures i) r.n.0
 
-pub tidy-spec : {M : Type 1} → statement M
-tidy-spec = tie.close (tie.spec (λ c κs. search rules) (λ c κs. search rules) returns)
+pub tidy_spec : {M : Type 1} → statement M
+tidy_spec = tie.close (tie.spec (λ c κs. search rules) (λ c κs. search rules) returns)

@@ -7,18 +7,18 @@ use Rattle.salvage_lines.specs.ClashLaws.{differs}
 use Rattle.salvage_lines.proofs.rounds.goes_against.Statement.{statement}
 use Rattle.salvage_lines.proofs.rounds.goes_against.Tie as tie
 
-returns : tie.Need-returns
-returns c = sym (ap (λ (l : Looked). differs l c.before.before.before.before.args.r)
-    (sym c.before.before.look_up.ensures ∙ c.enum_told.given.1))
+returns : tie.Need-returns-in-Absent
+returns c = sym (ap (λ (l : Looked). differs l c.args.r)
+    (sym c.look_up.ensures ∙ c.in-Absent.is))
 
-returns-2 : tie.Need-returns-2
+returns-2 : tie.Need-returns-in-Held
 returns-2 c =
-    ap not c.same-record.ensures
-    ∙ sym (ap (λ (l : Looked). differs l c.before.before.before.before.before.before.args.r)
-    (sym c.before.before.before.before.look_up.ensures ∙ c.before.before.q.given.1))
+    ap not c.same_record.ensures
+    ∙ sym (ap (λ (l : Looked). differs l c.args.r)
+    (sym c.look_up.ensures ∙ c.in-Held.is))
 
-pub goes-against-spec : {M : Type 1} → statement M
-goes-against-spec =
+pub goes_against_spec : {M : Type 1} → statement M
+goes_against_spec =
     tie.close
     (tie.spec
     (λ c κs. search rules)

@@ -14,9 +14,9 @@ use Rattle.salvage_lines.proofs.rounds.take_line.Statement.{statement}
 use Rattle.salvage_lines.proofs.rounds.take_line.Tie as tie
 
 -- a record is kept
-module _ (c : tie.After-r) where
+module _ (c : tie.In-Kept) where
   abbrev s : tie.Start
-  s = c.before.before.before.before.before
+  s = c.before.before.before.before
 
   abbrev f : List ℕ
   f = s.args.file.now
@@ -25,60 +25,60 @@ module _ (c : tie.After-r) where
   t = s.args.table.now
 
   abbrev r : Record
-  r = c.r.given.0.0
+  r = c.in-Kept.r
 
   abbrev changed : Bool
-  changed = c.r.given.0.1.0
+  changed = c.in-Kept.field-1
 
   abbrev next : ℕ
-  next = c.r.given.0.1.1.0
+  next = c.in-Kept.next
 
   stands : piece_at f s.args.at ≡ piece.Kept r changed next
-  stands = sym c.before.before.piece-at.ensures ∙ c.r.given.1
+  stands = sym c.piece_at.ensures ∙ c.in-Kept.is
 
 take-requires : tie.Need-take-requires
 take-requires c κs =
-    let h = c.before.before in
+    let h = c.before in
     ((s h).requires.0, ((s h).requires.1, (kept_next (f h) (s h).args.at (r h) (changed h) (next h) (stands h)).1))
 
 -- what became of it
-became : (c : tie.After-take) (x : Taken) → c.take.result ≡ x → Takes (t c.before.before.before) (r c.before.before.before) x c.take.new.0
-became c x e = subst (λ (y : Taken). Takes (t c.before.before.before) (r c.before.before.before) y c.take.new.0) e c.take.ensures
+became : (c : tie.After-take) (x : Taken) → c.take.result ≡ x → Takes (t c.before.before) (r c.before.before) x c.take.new.table
+became c x e = subst (λ (y : Taken). Takes (t c.before.before) (r c.before.before) y c.take.new.table) e c.take.ensures
 
-returns : tie.Need-returns
+returns : tie.Need-returns-in-Over
 returns c =
-    let s = c.before.before.before.before.before in
-    goes_over s.args.file.now s.args.at s.args.table.now (sym c.before.before.piece-at.ensures ∙ c.enum_told.given.1) _ refl
+    let s = c.before.before.before.before in
+    goes_over s.args.file.now s.args.at s.args.table.now (sym c.piece_at.ensures ∙ c.in-Over.is) _ refl
 
-returns-2 : tie.Need-returns-2
+returns-2 : tie.Need-returns-in-Dropped
 returns-2 c =
-    let s = c.before.before.before.before.before.before in
-    let n = c.before in
-    goes_dropped s.args.file.now s.args.at s.args.table.now n.next.given.0.0
-    (sym c.before.before.before.piece-at.ensures ∙ n.next.given.1) _ refl
+    let s = c.before.before.before.before in
+    let n = c in
+    goes_dropped s.args.file.now s.args.at s.args.table.now n.in-Dropped.next
+    (sym c.piece_at.ensures ∙ n.in-Dropped.is) _ refl
 
-returns-3 : tie.Need-returns-3
+returns-3 : tie.Need-returns-in-Against
 returns-3 c =
-    let h = c.before.before.before.before.before.before.before in
-    goes-against (f h) (s h).args.at (t h) (r h) (changed h) (next h) (stands h) _ (became c.before.before.before.before _ c.enum-told2.given.1)
+    let h = c.before.before.before.before.before in
+    goes-against (f h) (s h).args.at (t h) (r h) (changed h) (next h) (stands h) _ (became c.before.before.before _ c.in-Against.is)
 
-returns-4 : tie.Need-returns-4
+returns-4 : tie.Need-returns-in-NoSlot
 returns-4 c =
-    let h = c.before.before.before.before.before.before.before in
-    goes_none (f h) (s h).args.at (t h) (r h) (changed h) (next h) (stands h) _ (became c.before.before.before.before _ c.enum-told3.given.1)
+    let h = c.before.before.before.before.before in
+    goes_none (f h) (s h).args.at (t h) (r h) (changed h) (next h) (stands h) _ (became c.before.before.before _ c.in-NoSlot.is)
 
-returns-5 : tie.Need-returns-5
+returns-5 : tie.Need-returns-in-Again
 returns-5 c =
-    let h = c.before.before.before.before.before.before.before in
-    goes-again (f h) (s h).args.at (t h) (r h) (changed h) (next h) (stands h) _ (became c.before.before.before.before _ c.enum-told4.given.1)
+    let h = c.before.before.before.before.before in
+    goes-again (f h) (s h).args.at (t h) (r h) (changed h) (next h) (stands h) _ (became c.before.before.before _ c.in-Again.is)
 
-returns-6 : tie.Need-returns-6
+returns-6 : tie.Need-returns-in-New
 returns-6 c =
-    let h = c.before.before.before.before.before.before.before in
-    goes-new (f h) (s h).args.at (t h) (r h) (changed h) (next h) (stands h) _ (became c.before.before.before.before _ c.enum-told5.given.1)
+    let h = c.before.before.before.before.before in
+    goes-new (f h) (s h).args.at (t h) (r h) (changed h) (next h) (stands h) _ (became c.before.before.before _ c.in-New.is)
 
-pub take-line-spec : {M : Type 1} → statement M
-take-line-spec =
+pub take_line_spec : {M : Type 1} → statement M
+take_line_spec =
     tie.close
     (tie.spec
     (λ c κs. search rules)

@@ -9,5 +9,5 @@ returns : tie.Need-returns
 unfolding unpacked
 returns c = let f = c.ranges.v in (refl, record { a = omega (arith, f); b = omega arith; c = omega arith; d = omega arith })
 
-pub unpack-spec : {M : Type 1} → statement M
-unpack-spec = tie.close (tie.spec returns)
+pub unpack_spec : {M : Type 1} → statement M
+unpack_spec = tie.close (tie.spec returns)

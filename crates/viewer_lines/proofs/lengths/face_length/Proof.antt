@@ -29,38 +29,38 @@ module _ (s : tie.Start) where
       let there = h w.1.1.1 in
       (held-close t o p there, ((t, (o, (w.1.1.0, held_number t o p there))), s.requires.1))
 
-number-width-requires : tie.Need-number-width-requires
-number-width-requires c κs = vertex c c.args.f.at (λ w. w.at)
+number-width-requires : tie.Need-number_width-a-requires
+number-width-requires c κs = vertex c.before c.args.f.at (λ w. w.at)
 
-number-width-requires-2 : tie.Need-number-width-requires-2
-number-width-requires-2 c κs = let s = c.before in vertex s s.args.f.adjacent (λ w. w.adjacent)
+number-width-requires-2 : tie.Need-number_width-b-requires
+number-width-requires-2 c κs = let s = c.before.before.before in vertex s s.args.f.adjacent (λ w. w.adjacent)
 
-number-width-requires-3 : tie.Need-number-width-requires-3
-number-width-requires-3 c κs = let s = c.before.before in vertex s s.args.f.opposite (λ w. w.opposite)
+number-width-requires-3 : tie.Need-number_width-c-requires
+number-width-requires-3 c κs = let s = c.before.before in vertex s.before.before.before s.args.f.opposite (λ w. w.opposite)
 
-number-width-requires-4 : tie.Need-number-width-requires-4
-number-width-requires-4 c κs = let s = c.before.before.before in vertex s s.args.f.next (λ w. w.next)
+number-width-requires-4 : tie.Need-number_width-d-requires
+number-width-requires-4 c κs = let s = c.before.before.before in vertex s.before.before.before.before s.args.f.next (λ w. w.next)
 
 returns : tie.Need-returns
 returns c =
     let w₃ = c.before in
     let w₂ = w₃.before in
     let w₁ = w₂.before in
-    let a = w₁.before.args in (
-      λ t o u w. four w₁.number-width.result w₂.number-width2.result w₃.number-width3.result c.number-width4.result _ _ _ _
-          (w₁.number-width.ensures.0 t o u (held_number t o a.f.at w.at))
-          (w₂.number-width2.ensures.0 t o u (held_number t o a.f.adjacent w.adjacent))
-          (w₃.number-width3.ensures.0 t o u (held_number t o a.f.opposite w.opposite))
-          (c.number-width4.ensures.0 t o u (held_number t o a.f.next w.next))
+    let a = w₁.args in (
+      λ t o u w. four w₁.number_width-a.result w₂.number_width-b.result w₃.number_width-c.result c.number_width-d.result _ _ _ _
+          (w₁.number_width-a.ensures.0 t o u (held_number t o a.f.at w.at))
+          (w₂.number_width-b.ensures.0 t o u (held_number t o a.f.adjacent w.adjacent))
+          (w₃.number_width-c.ensures.0 t o u (held_number t o a.f.opposite w.opposite))
+          (c.number_width-d.ensures.0 t o u (held_number t o a.f.next w.next))
           ∙ sym (face-long a.s (corners_of t a.f)),
-      omega (arith, w₁.number-width.ensures.1, w₂.number-width2.ensures.1, w₃.number-width3.ensures.1, c.number-width4.ensures.1),
+      omega (arith, w₁.number_width-a.ensures.1, w₂.number_width-b.ensures.1, w₃.number_width-c.ensures.1, c.number_width-d.ensures.1),
     )
   where
     four : (a b c d x y z w : ℕ) → a ≡ x → b ≡ y → c ≡ z → d ≡ w → 6 + a + b + c + d ≡ 6 + (x + (y + (z + w)))
     four a b c d x y z w e f g h = omega arith
 
-pub face-length-spec : {M : Type 1} → statement M
-face-length-spec =
+pub face_length_spec : {M : Type 1} → statement M
+face_length_spec =
     tie.close
     (tie.spec
     number-width-requires

@@ -12,28 +12,28 @@ use Rattle.viewer_lines.proofs.lines.slot_vertex_length.Statement.{statement}
 use Rattle.viewer_lines.proofs.lines.slot_vertex_length.Tie as tie
 
 -- the slot holds a record
-holds : (h : tie.After-r) → let a = h.before.before.before.before.args in slot_at a.t.now a.i ≡ Holds h.r.given.0.0
-holds h = sym h.before.before.read-slot.ensures ∙ h.r.given.1
+holds : (h : tie.In-Holds) → let a = h.args in slot_at a.t.now a.i ≡ Holds h.in-Holds.r
+holds h = sym h.read_slot.ensures ∙ h.in-Holds.is
 
-vertex-length-requires : tie.Need-vertex-length-requires
+vertex-length-requires : tie.Need-vertex_length-requires
 vertex-length-requires c κs =
-    let h = c.before in
-    let s = h.before.before.before.before in
-    close h.r.given.0.0 (s.requires.0.valid s.args.i h.r.given.0.0 s.requires.1 (holds h))
+    let h = c in
+    let s = h.before.before.before in
+    close h.in-Holds.r (s.requires.0.valid s.args.i h.in-Holds.r s.requires.1 (holds h))
 
-returns : tie.Need-returns
+returns : tie.Need-returns-in-Free
 returns c =
-    let f = c.before.before in
-    let a = f.before.before.args in
-    (ap (λ (x : Slot). length (slot_line a.s x)) (sym c.enum_told.given.1 ∙ f.read-slot.ensures), omega arith)
+    let f = c.before in
+    let a = f.args in
+    (ap (λ (x : Slot). length (slot_line a.s x)) (sym c.in-Free.is ∙ f.read_slot.ensures), omega arith)
 
-returns-2 : tie.Need-returns-2
+returns-2 : tie.Need-returns-in-Holds
 returns-2 c =
-    let h = c.before.before in
-    let a = h.before.before.before.before.args in
-    (c.vertex-length.ensures.0 ∙ ap (λ (x : Slot). length (slot_line a.s x)) (sym (holds h)), c.vertex-length.ensures.1)
+    let h = c.before in
+    let a = h.args in
+    (c.vertex_length.ensures.0 ∙ ap (λ (x : Slot). length (slot_line a.s x)) (sym (holds h)), c.vertex_length.ensures.1)
 
-pub slot-vertex-length-spec : {M : Type 1} → statement M
-slot-vertex-length-spec =
+pub slot_vertex_length_spec : {M : Type 1} → statement M
+slot_vertex_length_spec =
     tie.close
     (tie.spec (λ c κs. search rules) (λ c. search rules) (λ c. search rules) vertex-length-requires returns returns-2)

@@ -11,54 +11,54 @@ use Rattle.viewer_lines.specs.Lines.{vertex_most, vertices-start, vertices-more}
 use Rattle.viewer_lines.proofs.lines.vertices_length.Statement.{statement}
 use Rattle.viewer_lines.proofs.lines.vertices_length.Tie as tie
 
-abbrev invariant-loop : tie.invariant-loop
-invariant-loop t n s total₀ i₀ total i = (total ≡ length (texts (vertex_text s) (standing (slot_at t) i))) × (total ≤ vertex_most * i) × (i ≤ n)
+abbrev invariant-loop-i : tie.invariant-loop-i
+invariant-loop-i t n s total₀ i₀ total i = (total ≡ length (texts (vertex_text s) (standing (slot_at t) i))) × (total ≤ vertex_most * i) × (i ≤ n)
 
-abbrev decreases-loop : tie.decreases-loop
-decreases-loop t n s total₀ i₀ total i = n - i
+abbrev decreases-loop-i : tie.decreases-loop-i
+decreases-loop-i t n s total₀ i₀ total i = n - i
 
-loop-holds : tie.Need-loop-init invariant-loop decreases-loop
-loop-holds c = let a = c.before.args in (vertices-start a.s (slot_at a.t.now), omega arith, omega arith)
+loop-holds : tie.Need-loop-i-init invariant-loop-i decreases-loop-i
+loop-holds c = let a = c.args in (vertices-start a.s (slot_at a.t.now), omega arith, omega arith)
 
-slot-vertex-length-requires : tie.Need-slot-vertex-length-requires invariant-loop decreases-loop
+slot-vertex-length-requires : tie.Need-slot_vertex_length-total-requires invariant-loop-i decreases-loop-i
 slot-vertex-length-requires c κs = let s = c.before.before.before in (s.requires.0, omega (arith, s.requires.1))
 
-add_total : tie.Need-overflow-add-total invariant-loop decreases-loop
+add_total : tie.Need-overflow_add-total invariant-loop-i decreases-loop-i
 add_total c =
     let l = c.before.before in
     let s = l.before.before in
-    record { fits = omega (arith, l.loop.invariant.1, l.loop.invariant.2, c.slot-vertex-length.ensures.1, s.requires.1, s.requires.0.fits.most) }
+    record { fits = omega (arith, l.loop-i.invariant.1, l.loop-i.invariant.2, c.slot_vertex_length-total.ensures.1, s.requires.1, s.requires.0.fits.most) }
 
-add-i : tie.Need-overflow-add-i invariant-loop decreases-loop
+add-i : tie.Need-overflow_add-i invariant-loop-i decreases-loop-i
 add-i c =
     let l = c.before.before in
     let s = l.before.before in
-    record { fits = omega (arith, l.loop.invariant.2, s.requires.1, s.requires.0.fits.most) }
+    record { fits = omega (arith, l.loop-i.invariant.2, s.requires.1, s.requires.0.fits.most) }
 
-loop-again : tie.Need-loop-preserved invariant-loop decreases-loop
+loop-again : tie.Need-loop-i-preserved invariant-loop-i decreases-loop-i
 loop-again c =
     let l = c.before.before in
-    let a = l.before.before.args in
-    let x = l.loop.invariant.0 in
-    let y = c.slot-vertex-length.ensures.0 in
-    let z = vertices-more a.s (slot_at a.t.now) l.loop.i in
-    (omega arith, omega (arith, l.loop.invariant.1, c.slot-vertex-length.ensures.1), omega arith)
+    let a = l.args in
+    let x = l.loop-i.invariant.0 in
+    let y = c.slot_vertex_length-total.ensures.0 in
+    let z = vertices-more a.s (slot_at a.t.now) l.loop-i.i in
+    (omega arith, omega (arith, l.loop-i.invariant.1, c.slot_vertex_length-total.ensures.1), omega arith)
 
-returns : tie.Need-returns invariant-loop decreases-loop
+returns : tie.Need-returns invariant-loop-i decreases-loop-i
 returns c =
     let l = c.before in
     let s = l.before.before in
-    let e : l.loop.i ≡ s.args.n = omega (arith, l.loop.invariant.2) in (
-      l.loop.invariant.0 ∙ ap (λ (k : ℕ). length (texts (vertex_text s.args.s) (standing (slot_at s.args.t.now) k))) e,
-      omega (arith, l.loop.invariant.1, s.requires.1, s.requires.0.fits.most),
+    let e : l.loop-i.i ≡ s.args.n = omega (arith, l.loop-i.invariant.2) in (
+      l.loop-i.invariant.0 ∙ ap (λ (k : ℕ). length (texts (vertex_text s.args.s) (standing (slot_at s.args.t.now) k))) e,
+      omega (arith, l.loop-i.invariant.1, s.requires.1, s.requires.0.fits.most),
     )
 
-pub vertices-length-spec : {M : Type 1} → statement M
-vertices-length-spec =
+pub vertices_length_spec : {M : Type 1} → statement M
+vertices_length_spec =
     tie.close
     (tie.spec
-    invariant-loop
-    decreases-loop
+    invariant-loop-i
+    decreases-loop-i
     loop-holds
     slot-vertex-length-requires
     add_total

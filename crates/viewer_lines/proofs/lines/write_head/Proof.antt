@@ -13,15 +13,15 @@ use Rattle.viewer_lines.specs.Lines.{head-is, head-parts, head-none, stored-firs
 use Rattle.viewer_lines.proofs.lines.write_head.Statement.{statement}
 use Rattle.viewer_lines.proofs.lines.write_head.Tie as tie
 
-write-bytes-requires : tie.Need-write-bytes-requires
+write-bytes-requires : tie.Need-write_bytes-past_name-requires
 write-bytes-requires c κs =
     let t = c.before.before in
     let s = t.before.before in
-    omega (arith, head-parts s.args.s s.args.c t.if1.true, s.requires)
+    omega (arith, head-parts s.args.s s.args.c t.if-s.true, s.requires)
 
 -- there is room for the head, once its name is written
-module _ (b : tie.After-write-bytes) where
-  abbrev t : tie.Then1
+module _ (b : tie.After-write_bytes-past_name) where
+  abbrev t : tie.Then-s
   t = b.before.before.before
 
   abbrev s : tie.Start
@@ -31,21 +31,21 @@ module _ (b : tie.After-write-bytes) where
   text n stop = ended (digits n) stop
 
   room : 4 + length (text s.args.c.vertices blank) + length (text s.args.c.faces blank) + length (text s.args.c.edges feed)
-      ≤ length b.write_bytes.last.0
-  room = omega (arith, head-parts s.args.s s.args.c t.if1.taken, s.pre, b.write_bytes.kept.0)
+      ≤ length b.write_bytes-past_name.new.out
+  room = omega (arith, head-parts s.args.s s.args.c t.if-s.true, s.requires, b.write_bytes-past_name.auto.out)
 
-write-number-requires : tie.Need-write-number-requires
+write-number-requires : tie.Need-write_number-past_v-requires
 write-number-requires c κs =
     let b = c.before.before.before in
-    omega (arith, room b, b.write_bytes.ensures.past)
+    omega (arith, room b, b.write_bytes-past_name.ensures.past)
 
-write-number-requires-2 : tie.Need-write-number-requires-2
+write-number-requires-2 : tie.Need-write_number-past_f-requires
 write-number-requires-2 c κs =
     let v = c.before.before.before in
     let b = v.before.before.before.before in
-    omega (arith, room b, b.write_bytes.ensures.past, v.write-number.ensures.past, v.write-number.auto.0)
+    omega (arith, room b, b.write_bytes-past_name.ensures.past, v.write_number-past_v.ensures.past, v.write_number-past_v.auto.out)
 
-write-number-requires-3 : tie.Need-write-number-requires-3
+write-number-requires-3 : tie.Need-write_number-requires
 write-number-requires-3 c κs =
     let f = c.before.before.before in
     let v = f.before.before.before.before in
@@ -53,33 +53,33 @@ write-number-requires-3 c κs =
     omega (
       arith,
       room b,
-      b.write_bytes.ensures.past,
-      v.write-number.ensures.past,
-      v.write-number.auto.0,
-      f.write-number2.ensures.past,
-      f.write-number2.auto.0,
+      b.write_bytes-past_name.ensures.past,
+      v.write_number-past_v.ensures.past,
+      v.write_number-past_v.auto.out,
+      f.write_number-past_f.ensures.past,
+      f.write_number-past_f.auto.out,
     )
 
-returns : tie.Need-returns
+returns : tie.Need-returns-then-s
 returns c =
     let e = c.before.before in
     let f = e.before.before.before.before in
     let v = f.before.before.before.before in
     let b = v.before.before.before.before in
     let a = (s b).args in
-    let o' = e.write-number3.new.0 in
-    let past = e.write-number3.result in
+    let o' = e.write_number.new.out in
+    let past = e.write_number.result in
     stored-first a.out.now (head_text a.s a.c) o' past (s b).requires
-    (subst (λ (l : List ℕ). Wrote a.out.now 0 l o' past) (sym (head-is a.s a.c (t b).if1.true))
-    (wrote_then (wrote_then (wrote_then b.write_bytes.ensures v.write-number.ensures) f.write-number2.ensures) e.write-number3.ensures))
+    (subst (λ (l : List ℕ). Wrote a.out.now 0 l o' past) (sym (head-is a.s a.c (t b).if-s.true))
+    (wrote_then (wrote_then (wrote_then b.write_bytes-past_name.ensures v.write_number-past_v.ensures) f.write_number-past_f.ensures) e.write_number.ensures))
 
-returns-2 : tie.Need-returns-2
+returns-2 : tie.Need-returns-else-s
 returns-2 c =
-    let a = c.before.before.args in
-    ap (λ (l : List ℕ). l ++ drop (length l) a.out.now) (sym (head-none a.s a.c c.if1.false))
+    let a = c.args in
+    ap (λ (l : List ℕ). l ++ drop (length l) a.out.now) (sym (head-none a.s a.c c.if-s.false))
 
-pub write-head-spec : {M : Type 1} → statement M
-write-head-spec =
+pub write_head_spec : {M : Type 1} → statement M
+write_head_spec =
     tie.close
     (tie.spec
     (λ c. search rules)

@@ -6,32 +6,32 @@ use Rattle.writers.specs.KeptLaws.{kept-at, kept-gone, kept-stays}
 use Rattle.writers.proofs.kept.kept.Statement.{statement}
 use Rattle.writers.proofs.kept.kept.Tie as tie
 
-returns : tie.Need-returns
+returns : tie.Need-returns-in-Free
 returns c =
-    let f = c.before.before in
-    let a = f.before.before.args in
-    kept-at a.table.now a.marks.now a.i Free (sym f.read-slot.ensures ∙ c.enum_told.given.1)
+    let f = c.before in
+    let a = f.args in
+    kept-at a.table.now a.marks.now a.i Free (sym f.read_slot-s.ensures ∙ c.in-Free.is)
 
-returns-2 : tie.Need-returns-2
+returns-2 : tie.Need-returns-then-gone
 returns-2 c =
     let m = c.before.before in
-    let h = m.before.before.before in
-    let f = h.before.before in
-    let a = f.before.before.args in
-    kept-gone a.table.now a.marks.now a.i h.s.given.0.0 m.marked.result (sym f.read-slot.ensures ∙ h.s.given.1)
-    m.marked.ensures c.if1.true
+    let h = m.before.before in
+    let f = h.before in
+    let a = f.args in
+    kept-gone a.table.now a.marks.now a.i h.in-Holds.r m.marked.result (sym f.read_slot-s.ensures ∙ h.in-Holds.is)
+    m.marked.ensures c.if-gone.true
 
-returns-3 : tie.Need-returns-3
+returns-3 : tie.Need-returns-else-gone
 returns-3 c =
     let m = c.before.before in
-    let h = m.before.before.before in
-    let f = h.before.before in
-    let a = f.before.before.args in
-    kept-stays a.table.now a.marks.now a.i h.s.given.0.0 m.marked.result (sym f.read-slot.ensures ∙ h.s.given.1)
-    m.marked.ensures c.if1.false
+    let h = m.before.before in
+    let f = h.before in
+    let a = f.args in
+    kept-stays a.table.now a.marks.now a.i h.in-Holds.r m.marked.result (sym f.read_slot-s.ensures ∙ h.in-Holds.is)
+    m.marked.ensures c.if-gone.false
 
-pub kept-spec : {M : Type 1} → statement M
-kept-spec =
+pub kept_spec : {M : Type 1} → statement M
+kept_spec =
     tie.close
     (tie.spec
     (λ c κs. search rules)

@@ -11,46 +11,46 @@ use Rattle.writers.proofs.named.mark_slot.Statement.{statement}
 use Rattle.writers.proofs.named.mark_slot.Tie as tie
 
 -- the slot holds a vertex
-holds : (h : tie.After-v) → let a = h.before.before.before.before.args in slot_at a.table.now a.i ≡ Holds h.v.given.0.0
-holds h = sym h.before.before.read-slot.ensures ∙ h.v.given.1
+holds : (h : tie.In-Holds) → let a = h.args in slot_at a.table.now a.i ≡ Holds h.in-Holds.v
+holds h = sym h.read_slot.ensures ∙ h.in-Holds.is
 
-mark-star-requires : tie.Need-mark-star-requires
+mark-star-requires : tie.Need-mark_star-requires
 mark-star-requires c κs =
     let e = c.before in
-    let h = e.before.before in
-    let s = h.before.before.before.before in
+    let h = e.before in
+    let s = h.before.before.before in
     let t = s.args.table.now in
     let o = s.requires.0 in
     let n = s.requires.1.0 in (
       subst (Table t) (sym n) o.fits,
-      (six-inner t s.args.i h.v.given.0.0 (holds h) o (omega (arith, n, s.requires.1.1)) e.if1.true, e.if1.true),
+      (six-inner t s.args.i h.in-Holds.v (holds h) o (omega (arith, n, s.requires.1.1)) e.if-d-eq6.true, e.if-d-eq6.true),
     )
 
-returns : tie.Need-returns
+returns : tie.Need-returns-then-d-eq6
 returns c =
     let e = c.before.before in
-    let h = e.before.before in
-    let a = h.before.before.before.before.args in
+    let h = e.before in
+    let a = h.args in
     let t = a.table.now in
-    let v = h.v.given.0.0 in
-    marks-same a.marks.now _ (star_finds t v 6) (slot_finds t (slot_at t a.i)) (six-finds t a.i v (holds h) e.if1.true) c.mark-star.ensures
+    let v = h.in-Holds.v in
+    marks-same a.marks.now _ (star_finds t v 6) (slot_finds t (slot_at t a.i)) (six-finds t a.i v (holds h) e.if-d-eq6.true) c.mark_star.ensures
 
-returns-2 : tie.Need-returns-2
+returns-2 : tie.Need-returns-else-d-eq6
 returns-2 c =
-    let h = c.before.before in
-    let a = h.before.before.before.before.args in
+    let h = c.before in
+    let a = h.args in
     let t = a.table.now in
-    marks-false a.marks.now (slot_finds t (slot_at t a.i)) (other-finds t a.i h.v.given.0.0 (holds h) c.if1.false)
+    marks-false a.marks.now (slot_finds t (slot_at t a.i)) (other-finds t a.i h.in-Holds.v (holds h) c.if-d-eq6.false)
 
-returns-3 : tie.Need-returns-3
+returns-3 : tie.Need-returns-in_default
 returns-3 c =
-    let f = c.before.before in
-    let a = f.before.before.args in
+    let f = c.before in
+    let a = f.args in
     let t = a.table.now in
-    marks-false a.marks.now (slot_finds t (slot_at t a.i)) (λ j. ap (λ (x : Slot). slot_finds t x j) (sym f.read-slot.ensures ∙ c.enum_told.given.1))
+    marks-false a.marks.now (slot_finds t (slot_at t a.i)) (λ j. ap (λ (x : Slot). slot_finds t x j) (sym f.read_slot.ensures ∙ c.in_default.is))
 
-pub mark-slot-spec : {M : Type 1} → statement M
-mark-slot-spec =
+pub mark_slot_spec : {M : Type 1} → statement M
+mark_slot_spec =
     tie.close
     (tie.spec
     (λ c κs. search rules)
