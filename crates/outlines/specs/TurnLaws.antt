@@ -238,6 +238,7 @@ each_keeps t i (v ∷ vs) f z r h six off =
 -- each vertex of an accepted list has its next star: it was subdivided, and once
 pub each-once : (t : List ℕ) → InOrder t → (vs : List Record) → Fine t vs → (each_of t vs).number ≡ 0 → (r : Record) → Memᴰ r vs
     → look_up (each_of t vs).bytes r.at ≡ Held (centre_of r)
+each-once t i [] f z r m = elim m [ ]
 each-once t i (v ∷ vs) f z r m =
     let x = first_made t i v vs f z in
     let o = subdivided-order t v x.whole in

@@ -8,5 +8,5 @@ returns : tie.Need-returns
 unfolding thousand
 returns c = fits-words _
 
-pub number-fits-spec : {M : Type 1} → statement M
-number-fits-spec = tie.close (tie.spec returns)
+pub number_fits_spec : {M : Type 1} → statement M
+number_fits_spec = tie.close (tie.spec returns)

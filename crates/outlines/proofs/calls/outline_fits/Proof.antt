@@ -7,25 +7,25 @@ use Rattle.outlines.specs.Outlines.{nought, outline_fits}
 use Rattle.outlines.proofs.calls.outline_fits.Statement.{statement}
 use Rattle.outlines.proofs.calls.outline_fits.Tie as tie
 
-returns : tie.Need-returns
+returns : tie.Need-returns-in-Disc
 unfolding outline_fits nought
 returns c =
-    let k = c.before.before.before.before in
-    let s = k.before.before in
+    let k = c.before.before.before in
+    let s = k.before in
     (λ i.
-    c.before.before.number-fits.ensures i && (c.before.number-fits2.ensures i && (c.number-fits3.ensures i && lt nought k.o.given.0.1.1.0)))
-    ∙ sym (ap outline_fits k.o.given.1)
+    c.number_fits.ensures i && (c.number_fits-in-Disc.ensures i && (c.number_fits-in-Disc-2.ensures i && lt nought k.in-Disc.r)))
+    ∙ sym (ap outline_fits k.in-Disc.is)
 
-returns-2 : tie.Need-returns-2
+returns-2 : tie.Need-returns-in-Line
 unfolding outline_fits
 returns-2 c =
-    let k = c.before.before.before.before in
-    let s = k.before.before in
-    (λ i. c.before.before.number-fits4.ensures i && (c.before.number-fits5.ensures i && c.number-fits6.ensures i))
-    ∙ sym (ap outline_fits k.o2.given.1)
+    let k = c.before.before.before in
+    let s = k.before in
+    (λ i. c.number_fits-in-Line.ensures i && (c.number_fits-in-Line-2.ensures i && c.number_fits-in-Line-3.ensures i))
+    ∙ sym (ap outline_fits k.in-Line.is)
 
-pub outline-fits-spec : {M : Type 1} → statement M
-outline-fits-spec =
+pub outline_fits_spec : {M : Type 1} → statement M
+outline_fits_spec =
     tie.close
     (tie.spec
     (λ c. search rules)

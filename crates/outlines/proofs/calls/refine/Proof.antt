@@ -6,37 +6,37 @@ use Rattle.outlines.specs.CallLaws.{call_none, call-other, call-on}
 use Rattle.outlines.proofs.calls.refine.Statement.{statement}
 use Rattle.outlines.proofs.calls.refine.Tie as tie
 
-returns : tie.Need-returns
+returns : tie.Need-returns-then-n-eq0
 returns c =
-    let a = c.before.before.before.before.before.args in
-    call_none a.table.now a.scratch.now a.o a.passes a.level (sym c.before.slots-of.ensures ∙ c.if1.true)
+    let a = c.args in
+    call_none a.table.now a.scratch.now a.o a.passes a.level (sym c.slots_of-n.ensures ∙ c.if-n-eq0.true)
 
-returns-2 : tie.Need-returns-2
+returns-2 : tie.Need-returns-then-scratch-table
 returns-2 c =
-    let a = c.before.before.before.before.before.before.args in
-    call-other a.table.now a.scratch.now a.o a.passes a.level c.if2.true
+    let a = c.args in
+    call-other a.table.now a.scratch.now a.o a.passes a.level c.if-scratch-table.true
 
-refine-request-requires : tie.Need-refine-request-requires
+refine-request-requires : tie.Need-refine_request-r-requires
 refine-request-requires c κs =
     let n = c.before.before.before.before in
-    let a = c.before.before.before.before.before.before.before.before.args in
-    (slots-table a.table.now n.slots-of.result n.slots-of.ensures c.before.before.before.if1.false, c.before.before.if2.false)
+    let a = c.args in
+    (slots-table a.table.now n.slots_of-n.result n.slots_of-n.ensures c.if-n-eq0.false, c.if-scratch-table.false)
 
-returns-3 : tie.Need-returns-3
+returns-3 : tie.Need-returns
 returns-3 c =
     let w = c.before.before.before.before.before.before.before.before in
     let o = w.before.before.before in
     let f = o.before in
     let n = f.before in
-    let a = n.before.before.before.before.args in
-    let table = slots-table a.table.now n.slots-of.result n.slots-of.ensures f.if1.false in
-    let r = w.refine-request in
-    let k = c.before.before.clear in
-    call-on a.table.now a.scratch.now a.o a.passes a.level n.slots-of.result table o.if2.false r.result.number r.result.done
-    r.new.0 r.new.1.0 k.new.0 r.ensures k.ensures
+    let a = n.args in
+    let table = slots-table a.table.now n.slots_of-n.result n.slots_of-n.ensures f.if-n-eq0.false in
+    let r = w.refine_request-r in
+    let k = c.clear in
+    call-on a.table.now a.scratch.now a.o a.passes a.level n.slots_of-n.result table o.if-scratch-table.false r.result.number r.result.done
+    r.new.table r.new.scratch k.new.t r.ensures k.ensures
 
-pub refine-spec : {M : Type 1} → statement M
-refine-spec =
+pub refine_spec : {M : Type 1} → statement M
+refine_spec =
     tie.close
     (tie.spec
     (λ c κs. search rules)

@@ -9,7 +9,7 @@ use Rattle.outlines.proofs.calls.request_fits.Tie as tie
 
 returns : tie.Need-returns
 unfolding request_fits
-returns c = let a = c.before.args in ap (λ (b : Bool). b && (leb a.passes 12 && leb a.level 12)) c.outline-fits.ensures
+returns c = let a = c.args in ap (λ (b : Bool). b && (leb a.passes 12 && leb a.level 12)) c.outline_fits.ensures
 
-pub request-fits-spec : {M : Type 1} → statement M
-request-fits-spec = tie.close (tie.spec (λ c κs. search rules) returns)
+pub request_fits_spec : {M : Type 1} → statement M
+request_fits_spec = tie.close (tie.spec (λ c κs. search rules) returns)

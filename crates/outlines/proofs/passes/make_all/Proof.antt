@@ -14,120 +14,120 @@ use Rattle.outlines.specs.PassLaws.{point_in, Steps, Making, making-start, makin
 use Rattle.outlines.proofs.passes.make_all.Statement.{statement}
 use Rattle.outlines.proofs.passes.make_all.Tie as tie
 
-abbrev invariant-loop : tie.invariant-loop
-invariant-loop t₀ keys k n free left₀ i₀ t left i = Making keys t₀ n k t left i
+abbrev invariant-loop-i : tie.invariant-loop-i
+invariant-loop-i t₀ keys k n free left₀ i₀ t left i = Making keys t₀ n k t left i
 
-abbrev decreases-loop : tie.decreases-loop
-decreases-loop t₀ keys k n free left₀ i₀ t left i = k - i
+abbrev decreases-loop-i : tie.decreases-loop-i
+decreases-loop-i t₀ keys k n free left₀ i₀ t left i = k - i
 
-loop-holds : tie.Need-loop-init invariant-loop decreases-loop
+loop-holds : tie.Need-loop-i-init invariant-loop-i decreases-loop-i
 loop-holds c =
     let s = c.before.before in
-    making-start s.args.keys.now s.args.t.now s.args.n s.args.k s.args.free s.requires.0 (λ x. (c.before.slice-known.given x).fits)
+    making-start s.args.keys.now s.args.t.now s.args.n s.args.k s.args.free s.requires.0 (λ x. (c.slice_known-1.given x).fits)
 
-key-requires : tie.Need-key-requires invariant-loop decreases-loop
+key-requires : tie.Need-key-requires invariant-loop-i decreases-loop-i
 key-requires c κs =
     let l = c.before.before in
     let s = l.before.before.before in
-    omega (arith, c.before.loop-test.true, s.requires.1)
+    omega (arith, c.loop-i-test.true, s.requires.1)
 
-subdivide-at-requires : tie.Need-subdivide-at-requires invariant-loop decreases-loop
+subdivide-at-requires : tie.Need-subdivide_at-number-requires invariant-loop-i decreases-loop-i
 subdivide-at-requires c κs =
-    let g = c.before.before.before.before.loop.invariant.given in
+    let g = c.loop-i.invariant.given in
     (g.table, (order-test _ g.order, g.free))
 
 -- past the subdivision at the point whose turn it is
-module _ (w : tie.After-subdivide-at invariant-loop decreases-loop) where
-  abbrev q : tie.After-ordered invariant-loop decreases-loop
+module _ (w : tie.After-subdivide_at-number invariant-loop-i decreases-loop-i) where
+  abbrev q : tie.After-ordered invariant-loop-i decreases-loop-i
   q = w.before
 
-  abbrev l : tie.At-loop invariant-loop decreases-loop
+  abbrev l : tie.At-loop-i invariant-loop-i decreases-loop-i
   l = q.before.before.before.before
 
-  abbrev s : tie.Start invariant-loop decreases-loop
+  abbrev s : tie.Start invariant-loop-i decreases-loop-i
   s = l.before.before.before
 
   abbrev keys : List ℕ
   keys = s.args.keys.now
 
   abbrev t : List ℕ
-  t = l.loop.t
+  t = l.loop-i.t
 
-  inside : l.loop.i < s.args.k
-  inside = q.before.before.before.loop-test.taken
+  inside : l.loop-i.i < s.args.k
+  inside = q.loop-i-test.true
 
-  point : q.ordered.result ≡ point_in keys l.loop.i
-  point = q.ordered.ensures ∙ ap point_of q.before.key.ensures
+  point : q.ordered.result ≡ point_in keys l.loop-i.i
+  point = q.ordered.ensures ∙ ap point_of q.key.ensures
 
-  number : w.subdivide-at.result ≡ (step_at t (point_in keys l.loop.i)).number
-  number = w.subdivide-at.ensures.0 ∙ ap (λ (p : Point). (step_at t p).number) point
+  number : w.subdivide_at-number.result ≡ (step_at t (point_in keys l.loop-i.i)).number
+  number = w.subdivide_at-number.ensures.0 ∙ ap (λ (p : Point). (step_at t p).number) point
 
-  bytes : w.subdivide-at.last.0 ≡ (step_at t (point_in keys l.loop.i)).bytes
-  bytes = w.subdivide-at.ensures.1 ∙ ap (λ (p : Point). (step_at t p).bytes) point
+  bytes : w.subdivide_at-number.new.t ≡ (step_at t (point_in keys l.loop-i.i)).bytes
+  bytes = w.subdivide_at-number.ensures.1 ∙ ap (λ (p : Point). (step_at t p).bytes) point
 
   -- refused
-  kept : (w.subdivide-at.result ≡ 0 → ⊥) → w.subdivide-at.last.0 ≡ t
+  kept : (w.subdivide_at-number.result ≡ 0 → ⊥) → w.subdivide_at-number.new.t ≡ t
   kept nz =
       bytes
-      ∙ making-kept keys s.args.t.now s.args.n s.args.k t l.loop.left l.loop.i l.loop.inv inside (λ z. nz (number ∙ z))
+      ∙ making-kept keys s.args.t.now s.args.n s.args.k t l.loop-i.left l.loop-i.i l.loop-i.invariant inside (λ z. nz (number ∙ z))
 
   -- made
-  more : w.subdivide-at.result ≡ 0
-      → (6 ≤ l.loop.left) × Making keys s.args.t.now s.args.n s.args.k w.subdivide-at.last.0 (l.loop.left - 6) (l.loop.i + 1)
+  more : w.subdivide_at-number.result ≡ 0
+      → (6 ≤ l.loop-i.left) × Making keys s.args.t.now s.args.n s.args.k w.subdivide_at-number.new.t (l.loop-i.left - 6) (l.loop-i.i + 1)
   more z =
-      making-more keys s.args.t.now s.args.n s.args.k t l.loop.left l.loop.i l.loop.inv inside (sym number ∙ z)
-      w.subdivide-at.last.0 bytes
+      making-more keys s.args.t.now s.args.n s.args.k t l.loop-i.left l.loop-i.i l.loop-i.invariant inside (sym number ∙ z)
+      w.subdivide_at-number.new.t bytes
 
-undo-all-requires : tie.Need-undo-all-requires invariant-loop decreases-loop
+undo-all-requires : tie.Need-undo_all-requires invariant-loop-i decreases-loop-i
 undo-all-requires c κs =
     let w = c.before.before.before.before in
-    let e = kept w c.before.if1.true in
-    let g = (l w).loop.invariant in (
+    let e = kept w c.if-number-ne-DONE.true in
+    let g = (l w).loop-i.invariant in (
       (subst (λ (x : List ℕ). Table x (s w).args.n) (sym e) g.given.table, omega (arith, inside w, (s w).requires.1)),
-      ((s w).args.t.now, subst (Steps (keys w) (s w).args.t.now (l w).loop.i) (sym e) g.steps),
+      ((s w).args.t.now, subst (Steps (keys w) (s w).args.t.now (l w).loop-i.i) (sym e) g.steps),
     )
 
 -- undone
-module _ (c : tie.After-undo-all invariant-loop decreases-loop) where
-  abbrev made : tie.After-subdivide-at invariant-loop decreases-loop
+module _ (c : tie.After-undo_all invariant-loop-i decreases-loop-i) where
+  abbrev made : tie.After-subdivide_at-number invariant-loop-i decreases-loop-i
   made = c.before.before.before.before.before
 
-  back : c.undo-all.new.0 ≡ (s made).args.t.now
+  back : c.undo_all.new.t ≡ (s made).args.t.now
   back =
-      c.undo-all.ensures (s made).args.t.now
-      (subst (Steps (keys made) (s made).args.t.now (l made).loop.i) (sym (kept made c.before.before.if1.true)) (l made).loop.inv.steps)
+      c.undo_all.ensures (s made).args.t.now
+      (subst (Steps (keys made) (s made).args.t.now (l made).loop-i.i) (sym (kept made c.if-number-ne-DONE.true)) (l made).loop-i.invariant.steps)
 
-same_length : tie.Need-same-length invariant-loop decreases-loop
+same_length : tie.Need-shape_of-t-then-number-ne-DONE invariant-loop-i decreases-loop-i
 same_length c = ap length (back c.before.before)
 
-returns : tie.Need-returns invariant-loop decreases-loop
+returns : tie.Need-returns-then-number-ne-DONE invariant-loop-i decreases-loop-i
 returns c =
     let u = c.before.before in
     let w = made u in
-    making-stop (keys w) (s w).args.t.now (s w).args.n (s w).args.k (t w) (l w).loop.left (l w).loop.i (l w).loop.inv (inside w) (s w).args.free
-    (s w).pre.0 w.subdivide-at.result (number w) u.before.before.if1.true u.undo-all.new.0 (back u)
+    making-stop (keys w) (s w).args.t.now (s w).args.n (s w).args.k (t w) (l w).loop-i.left (l w).loop-i.i (l w).loop-i.invariant (inside w) (s w).args.free
+    (s w).requires.0 w.subdivide_at-number.result (number w) u.if-number-ne-DONE.true u.undo_all.new.t (back u)
 
-sub-left : tie.Need-overflow-sub-left invariant-loop decreases-loop
-sub-left c = (more c.before.before.before c.if1.false).0
+sub-left : tie.Need-overflow_sub-left invariant-loop-i decreases-loop-i
+sub-left c = (more c.before.before.before c.if-number-ne-DONE.false).0
 
-loop-again : tie.Need-loop-preserved invariant-loop decreases-loop
-loop-again c = (more c.before.before.before c.if1.false).1
+loop-again : tie.Need-loop-i-preserved invariant-loop-i decreases-loop-i
+loop-again c = (more c.before.before.before c.if-number-ne-DONE.false).1
 
-same-length-2 : tie.Need-same-length-2 invariant-loop decreases-loop
-same-length-2 c = c.before.loop.invariant.long
+same-length-2 : tie.Need-shape_of-t invariant-loop-i decreases-loop-i
+same-length-2 c = c.loop-i.invariant.long
 
-returns-2 : tie.Need-returns-2 invariant-loop decreases-loop
+returns-2 : tie.Need-returns invariant-loop-i decreases-loop-i
 returns-2 c =
     let l = c.before in
     let s = l.before.before.before in
-    making-end s.args.keys.now s.args.t.now s.args.n s.args.k l.loop.t l.loop.left l.loop.i l.loop.invariant c.loop-test.false
+    making-end s.args.keys.now s.args.t.now s.args.n s.args.k l.loop-i.t l.loop-i.left l.loop-i.i l.loop-i.invariant c.loop-i-test.false
 
-pub make-all-spec : {M : Type 1} → statement M
-make-all-spec =
+pub make_all_spec : {M : Type 1} → statement M
+make_all_spec =
     tie.close
     (tie.spec
-    invariant-loop
-    decreases-loop
+    invariant-loop-i
+    decreases-loop-i
     loop-holds
     key-requires
     (λ c κs. search rules)

@@ -12,7 +12,7 @@ returns c =
     let v = c in
     let q = v.before in
     let s = q.before in
-    ap (λ (x : Float). lt x nought) (v.value.ensures ∙ ap (value_of s.args.o) q.position-of.ensures)
+    ap (λ (x : Float). lt x nought) (v.value.ensures ∙ ap (value_of s.args.o) q.position_of.ensures)
 
-pub is-below-spec : {M : Type 1} → statement M
-is-below-spec = tie.close (tie.spec (λ c κs. search rules) (λ c κs. search rules) returns)
+pub is_below_spec : {M : Type 1} → statement M
+is_below_spec = tie.close (tie.spec (λ c κs. search rules) (λ c κs. search rules) returns)

@@ -26,17 +26,17 @@ returns c =
     let p = s.args.p in
     let fa = small p.a s.requires.wide in
     let fb = small p.b s.requires.high in
-    let ex : to_z w32 (of_z w32 a.across.result) ≡ across_of p.a p.b =
-    to_z-of_z (record { sfits = a.across.type-inv }) ∙ sym (asked₂ across_of fa fb a.across.ensures) in
+    let ex : to_z w32 (of_z w32 a.across-x.result) ≡ across_of p.a p.b =
+    to_z-of_z {w = w32} (record { sfits = a.across-x.type_inv }) ∙ sym (asked₂ across_of fa fb a.across-x.ensures) in
     let eb : to_z w32 (of_z w32 p.b) ≡ p.b = to_z-of_z fb in
-    let eo = t.twice_power.ensures in
+    let eo = t.twice_power-over.ensures in
     λ i. record {
       x = div binary64 (of_int binary64 (ex i)) (of_int binary64 (pos (eo i)));
       y = div binary64 (mul binary64 (of_int binary64 (eb i)) root3) (of_int binary64 (pos (eo i)));
     }
 
-pub position-of-spec : {M : Type 1} → statement M
-position-of-spec =
+pub position_of_spec : {M : Type 1} → statement M
+position_of_spec =
     tie.close
     (tie.spec
     (λ c κs. search rules)

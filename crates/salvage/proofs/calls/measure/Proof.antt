@@ -12,13 +12,13 @@ use Rattle.salvage.proofs.calls.measure.Tie as tie
 
 returns : tie.Need-returns
 returns c =
-    let a = c.before.before.before.before.before.args in
+    let a = c.args in
     let xs = changes (salvaged a.file.now) a.table.now in
     let e : 0 + length xs ≡ length xs = omega arith in
-    subst (λ (n : ℕ). Capped a.room n c.before.put-changes.result) e c.before.put-changes.ensures.past
+    subst (λ (n : ℕ). Capped a.room n c.put_changes.result) e c.put_changes.ensures.past
 
-pub measure-spec : {M : Type 1} → statement M
-measure-spec =
+pub measure_spec : {M : Type 1} → statement M
+measure_spec =
     tie.close
     (tie.spec
     (λ c. search rules)

@@ -19,7 +19,7 @@ use Rattle.salvage.proofs.calls.write_both.Statement.{statement}
 use Rattle.salvage.proofs.calls.write_both.Tie as tie
 
 -- the free slots are counted
-module _ (k : tie.After-check-order) where
+module _ (k : tie.After-check_order-checked) where
   abbrev s : tie.Start
   s = k.before.before.before.before.before
 
@@ -35,68 +35,68 @@ module _ (k : tie.After-check-order) where
   abbrev text : List ℕ
   text = changes (salvaged s.args.file.now) t
 
-  free : k.check-order.result.free ≡ free_slots t
-  free = k.check-order.ensures.1 (k.check-order.ensures.0 ∙ order-test t s.pre.0)
+  free : k.check_order-checked.result.free ≡ free_slots t
+  free = k.check_order-checked.ensures.1 (k.check_order-checked.ensures.0 ∙ order-test t s.requires.0)
 
-is-short-requires : tie.Need-is-short-requires
+is-short-requires : tie.Need-is_short-requires
 is-short-requires c κs = let k = c.before in (((s k).requires.0, (s k).requires.1.0), free k)
 
 -- the full file measured
-module _ (c : tie.After-is-short) where
-  abbrev k₁ : tie.After-check-order
+module _ (c : tie.After-is_short) where
+  abbrev k₁ : tie.After-check_order-checked
   k₁ = c.before.before
 
-  told : (b : Bool) → c.is-short.result ≡ b → ltb (length (o k₁)) (length (full_file (t k₁))) ≡ b
-  told b e = sym (ap (λ (x : List ℕ). ltb (length (o k₁)) (length x)) (unmarked-file (t k₁))) ∙ sym c.is-short.ensures ∙ e
+  told : (b : Bool) → c.is_short.result ≡ b → ltb (length (o k₁)) (length (full_file (t k₁))) ≡ b
+  told b e = sym (ap (λ (x : List ℕ). ltb (length (o k₁)) (length x)) (unmarked-file (t k₁))) ∙ sym c.is_short.ensures ∙ e
 
-returns : tie.Need-returns
+returns : tie.Need-returns-then-is_short
 returns c =
     let i = c.before.before in
     let k = k₁ i in
     let a = c.answer.ensures in
     (λ z. both (a.0 z) (a.1.0 z) (a.1.1 z) (o k) (l k))
-    ∙ both-short (t k) (s k).args.file.now (o k) (l k) (ltb-true (length (o k)) (length (full_file (t k))) (told i true c.before.if1.true))
+    ∙ both-short (t k) (s k).args.file.now (o k) (l k) (ltb-true (length (o k)) (length (full_file (t k))) (told i true c.if-is_short.true))
 
 -- it has room
-module _ (c : tie.Else1) where
-  abbrev k₂ : tie.After-check-order
+module _ (c : tie.Else-is_short) where
+  abbrev k₂ : tie.After-check_order-checked
   k₂ = k₁ c.before
 
   fits : length (full_file (t k₂)) ≤ length (o k₂)
-  fits = ltb-false (length (o k₂)) (length (full_file (t k₂))) (told c.before false c.if1.false)
+  fits = ltb-false (length (o k₂)) (length (full_file (t k₂))) (told c.before false c.if-is_short.false)
 
-returns-2 : tie.Need-returns-2
+returns-2 : tie.Need-returns-then-room-total
 returns-2 c =
     let e = c.before.before.before in
     let k = k₂ e in
-    let a = c.answer2.ensures in
+    let a = c.answer-then-room-total.ensures in
     (λ z. both (a.0 z) (a.1.0 z) (a.1.1 z) (o k) (l k))
     ∙ both-list (t k) (s k).args.file.now (o k) (l k) (fits e)
-    (capped-past (length (l k)) (length (text k)) c.before.before.measure.result c.before.before.measure.ensures c.before.if2.true)
+    (capped-past (length (l k)) (length (text k)) c.measure-total.result c.measure-total.ensures c.if-room-total.true)
 
-write-kept-requires : tie.Need-write-kept-requires
-write-kept-requires c κs = let k = k₂ c.before.before.before.before in (((s k).pre.0, (s k).pre.1.0), free k)
+write-kept-requires : tie.Need-write_kept-full-requires
+write-kept-requires c κs = let k = k₂ c.before.before.before.before in (((s k).requires.0, (s k).requires.1.0), free k)
 
-returns-3 : tie.Need-returns-3
+returns-3 : tie.Need-returns
 returns-3 c =
     let e = c.before.before.before.before.before.before.before.before.before.before.before.before in
     let k = k₂ e in
     let m = c.before.before.before.before.before.before.before.before.before.before.before in
-    let a = c.answer3.ensures in
+    let a = c.answer-2.ensures in
     let w = c.before.before.before.before.before.before.before in
     let p = c.before.before.before in
-    let small : m.measure.result ≤ length (l k) = (let z = c.before.before.before.before.before.before.before.before.before.before.if2.false in
+    let small : m.measure-total.result ≤ length (l k) = (let z = c.if-room-total.false in
     omega arith) in
-    let room = capped-within (length (l k)) (length (text k)) m.measure.result m.measure.ensures small in
-    let total = m.measure.ensures.within room in
-    let put = put-told (full_file (t k)) (o k) (fits e) w.write-Kept.result.number w.write-Kept.result.bytes w.write-Kept.new.1.1.1.1.0
-    (w.write-Kept.ensures ∙ ap (λ (x : List ℕ). put_of x (o k)) (unmarked-file (t k))) in
-    (λ z. both (a.0 z) (a.1.0 z) (a.1.1 z) w.write-Kept.new.1.1.1.1.0 p.put-changes.new.1.1.1.0)
+    let room = capped-within (length (l k)) (length (text k)) m.measure-total.result m.measure-total.ensures small in
+    let total = m.measure-total.ensures.within room in
+    let put = put-told (full_file (t k)) (o k) (fits e) w.write_kept-full.result.number w.write_kept-full.result.bytes w.write_kept-full.new.out
+    (w.write_kept-full.ensures ∙ ap (λ (x : List ℕ). put_of x (o k)) (unmarked-file (t k))) in
+    (λ z. both (a.0 z) (a.1.0 z) (a.1.1 z) w.write_kept-full.new.out p.put_changes.new.out)
     ∙ both-done (t k) (s k).args.file.now (o k) (l k) (fits e) room _ _ _ _ put.0 total put.1
-    (puts-over (l k) (text k) p.put-changes.new.1.1.1.0 p.put-changes.result p.put-changes.ensures room)
+    (puts-over (l k) (text k) p.put_changes.new.out p.put_changes.result p.put_changes.ensures room)
 
-pub write-both-spec : {M : Type 1} → statement M
-write-both-spec =
+pub write_both_spec : {M : Type 1} → statement M
+write_both_spec =
     tie.close
     (tie.spec
     (λ c κs. search rules)

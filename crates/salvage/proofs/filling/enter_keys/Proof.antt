@@ -15,18 +15,18 @@ use Rattle.salvage.specs.FillLaws.{Entering, entering-start, entering-end, enter
 use Rattle.salvage.proofs.filling.enter_keys.Statement.{statement}
 use Rattle.salvage.proofs.filling.enter_keys.Tie as tie
 
-abbrev invariant-loop : tie.invariant-loop
-invariant-loop table₀ n keys k i₀ table i = Entering keys table₀ k i table
+abbrev invariant-loop-i : tie.invariant-loop-i
+invariant-loop-i table₀ n keys k i₀ table i = Entering keys table₀ k i table
 
-abbrev decreases-loop : tie.decreases-loop
-decreases-loop table₀ n keys k i₀ table i = k - i
+abbrev decreases-loop-i : tie.decreases-loop-i
+decreases-loop-i table₀ n keys k i₀ table i = k - i
 
-loop-holds : tie.Need-loop-init invariant-loop decreases-loop
-loop-holds c = let a = c.before.before.args in entering-start a.keys.now a.table.now a.k
+loop-holds : tie.Need-loop-i-init invariant-loop-i decreases-loop-i
+loop-holds c = let a = c.args in entering-start a.keys.now a.table.now a.k
 
 -- in the loop
-module _ (g : tie.At-loop invariant-loop decreases-loop) where
-  abbrev s : tie.Start invariant-loop decreases-loop
+module _ (g : tie.At-loop-i invariant-loop-i decreases-loop-i) where
+  abbrev s : tie.Start invariant-loop-i decreases-loop-i
   s = g.before.before.before
 
   abbrev o : List ℕ
@@ -35,67 +35,67 @@ module _ (g : tie.At-loop invariant-loop decreases-loop) where
   abbrev t₀ : List ℕ
   t₀ = s.args.table.now
 
-key-requires : tie.Need-key-requires invariant-loop decreases-loop
-key-requires c κs = let g = c.before.before in omega (arith, c.before.loop-test.true, (s g).requires.1)
+key-requires : tie.Need-key-requires invariant-loop-i decreases-loop-i
+key-requires c κs = let g = c.before.before in omega (arith, c.loop-i-test.true, (s g).requires.1)
 
 -- the record of the next key
-module _ (c : tie.After-unpack invariant-loop decreases-loop) where
-  abbrev g₁ : tie.At-loop invariant-loop decreases-loop
+module _ (c : tie.After-unpack invariant-loop-i decreases-loop-i) where
+  abbrev g₁ : tie.At-loop-i invariant-loop-i decreases-loop-i
   g₁ = c.before.before.before.before
 
-  told : c.unpack.result ≡ record_for (key_in (o g₁) g₁.loop.i)
-  told = c.unpack.ensures ∙ ap record_for c.before.key.ensures
+  told : c.unpack.result ≡ record_for (key_in (o g₁) g₁.loop-i.i)
+  told = c.unpack.ensures ∙ ap record_for c.key.ensures
 
-enter-record-requires : tie.Need-enter-record-requires invariant-loop decreases-loop
-enter-record-requires c κs = let g = g₁ c in table_same (t₀ g) g.loop.table (s g).args.n g.loop.inv.long (s g).pre.0
+enter-record-requires : tie.Need-enter_record-number-requires invariant-loop-i decreases-loop-i
+enter-record-requires c κs = let g = g₁ c in table_same (t₀ g) g.loop-i.table (s g).args.n g.loop-i.invariant.long (s g).requires.0
 
 -- it has passed
-module _ (c : tie.After-enter-record invariant-loop decreases-loop) where
-  abbrev u₁ : tie.After-unpack invariant-loop decreases-loop
+module _ (c : tie.After-enter_record-number invariant-loop-i decreases-loop-i) where
+  abbrev u₁ : tie.After-unpack invariant-loop-i decreases-loop-i
   u₁ = c.before
 
-  abbrev g₂ : tie.At-loop invariant-loop decreases-loop
+  abbrev g₂ : tie.At-loop-i invariant-loop-i decreases-loop-i
   g₂ = g₁ u₁
 
   abbrev u : List ℕ
-  u = c.enter-record.new.0
+  u = c.enter_record-number.new.table
 
-  passed : restored_by c.enter-record.result u ≡ entering (With g₂.loop.table) (record_for (key_in (o g₂) g₂.loop.i))
-  passed = c.enter-record.ensures ∙ ap (λ (r : Record). entering (With g₂.loop.table) r) (told u₁)
+  passed : restored_by c.enter_record-number.result u ≡ entering (With g₂.loop-i.table) (record_for (key_in (o g₂) g₂.loop-i.i))
+  passed = c.enter_record-number.ensures ∙ ap (λ (r : Record). entering (With g₂.loop-i.table) r) (told u₁)
 
-  below : g₂.loop.i < (s g₂).args.k
-  below = u₁.before.before.before.loop-test.taken
+  below : g₂.loop-i.i < (s g₂).args.k
+  below = u₁.loop-i-test.true
 
-returns : tie.Need-returns invariant-loop decreases-loop
+returns : tie.Need-returns-then-number-ne-DONE invariant-loop-i decreases-loop-i
 returns c =
     let e = c.before.before.before in
     let g = g₂ e in
-    entering-stops (o g) (t₀ g) (s g).args.k g.loop.i g.loop.table g.loop.inv (below e) e.enter-record.result (u e) (passed e) c.if1.true
+    entering-stops (o g) (t₀ g) (s g).args.k g.loop-i.i g.loop-i.table g.loop-i.invariant (below e) e.enter_record-number.result (u e) (passed e) c.if-number-ne-DONE.true
 
-same_length : tie.Need-same-length invariant-loop decreases-loop
-same_length c = let e = c.before.before.before in e.enter-record.auto.0 ∙ (g₂ e).loop.invariant.long
+same_length : tie.Need-shape_of-table-then-number-ne-DONE invariant-loop-i decreases-loop-i
+same_length c = let e = c.before.before.before in e.enter_record-number.auto.table ∙ (g₂ e).loop-i.invariant.long
 
-loop-again : tie.Need-loop-preserved invariant-loop decreases-loop
+loop-again : tie.Need-loop-i-preserved invariant-loop-i decreases-loop-i
 loop-again c =
     let e = c.before.before.before in
     let g = g₂ e in
-    entering-more (o g) (t₀ g) (s g).args.k g.loop.i g.loop.table g.loop.inv (below e) e.enter-record.result (u e) (passed e)
-    (let z = c.if1.false in omega arith) e.enter-record.auto.0
+    entering-more (o g) (t₀ g) (s g).args.k g.loop-i.i g.loop-i.table g.loop-i.invariant (below e) e.enter_record-number.result (u e) (passed e)
+    (let z = c.if-number-ne-DONE.false in omega arith) e.enter_record-number.auto.table
 
-returns-2 : tie.Need-returns-2 invariant-loop decreases-loop
+returns-2 : tie.Need-returns invariant-loop-i decreases-loop-i
 returns-2 c =
     let g = c.before in
-    entering-end (o g) (t₀ g) (s g).args.k g.loop.i g.loop.table g.loop.invariant (λ l. let z = c.loop-test.false in omega arith)
+    entering-end (o g) (t₀ g) (s g).args.k g.loop-i.i g.loop-i.table g.loop-i.invariant (λ l. let z = c.loop-i-test.false in omega arith)
 
-same-length-2 : tie.Need-same-length-2 invariant-loop decreases-loop
-same-length-2 c = c.before.loop.invariant.long
+same-length-2 : tie.Need-shape_of-table invariant-loop-i decreases-loop-i
+same-length-2 c = c.loop-i.invariant.long
 
-pub enter-keys-spec : {M : Type 1} → statement M
-enter-keys-spec =
+pub enter_keys_spec : {M : Type 1} → statement M
+enter_keys_spec =
     tie.close
     (tie.spec
-    invariant-loop
-    decreases-loop
+    invariant-loop-i
+    decreases-loop-i
     loop-holds
     key-requires
     (λ c κs. search rules)

@@ -5,9 +5,9 @@ use Rattle.salvage.specs.ListedLaws.{listed-all}
 use Rattle.salvage.proofs.listing.put_changes.Statement.{statement}
 use Rattle.salvage.proofs.listing.put_changes.Tie as tie
 
-put-slots-requires : tie.Need-put-slots-requires
+put-slots-requires : tie.Need-put_slots-requires
 put-slots-requires c κs = let s = c.before.before.before.before.before.before.before.before.before.before in
-    ((s.requires.0.0, s.requires.0.1.0), (puts-most c.before.before.before.before.put-lines.ensures.puts, s.requires.1))
+    ((s.requires.0.0, s.requires.0.1.0), (puts-most c.put_lines-at.ensures.puts, s.requires.1))
 
 returns : tie.Need-returns
 returns c =
@@ -15,12 +15,12 @@ returns c =
     let a = s.args in
     let l = c.before.before.before.before.before.before.before in
     let p = c.before.before in
-    listed-all a.table.now a.file.now a.out.now s.requires.0.0 s.requires.0.1.1 a.room l.put-lines.new.1.1.1.1.0
-    l.put-lines.new.1.1.1.0
-    p.put-slots.new.1.1.1.0 l.put-lines.result p.put-slots.result a.n s.requires.0.1.0 l.put-lines.ensures p.put-slots.ensures
+    listed-all a.table.now a.file.now a.out.now s.requires.0.0 s.requires.0.1.1 a.room l.put_lines-at.new.out
+    l.put_lines-at.new.marks
+    p.put_slots.new.out l.put_lines-at.result p.put_slots.result a.n s.requires.0.1.0 l.put_lines-at.ensures p.put_slots.ensures
 
-pub put-changes-spec : {M : Type 1} → statement M
-put-changes-spec =
+pub put_changes_spec : {M : Type 1} → statement M
+put_changes_spec =
     tie.close
     (tie.spec
     (λ c κs. search rules)

@@ -14,55 +14,55 @@ use Rattle.salvage.specs.FilledLaws.{Mends, mends-own, mends-order, mends-slots,
 use Rattle.salvage.proofs.mending.mend.Statement.{statement}
 use Rattle.salvage.proofs.mending.mend.Tie as tie
 
-refill-requires : tie.Need-refill-requires
-refill-requires c κs = let s = c.before.before.before.before.before.before.before.before.before in
-    (s.requires.1.0, c.before.before.before.before.lay-keys.ensures)
+refill-requires : tie.Need-refill-number-requires
+refill-requires c κs = let s = c.before.before.before.before.before.before.before in
+    (s.requires.1.0, c.lay_keys-k.ensures)
 
 -- refilled
-module _ (c : tie.After-refill) where
+module _ (c : tie.After-refill-number) where
   abbrev s : tie.Start
-  s = c.before.before.before.before.before.before.before.before.before.before
+  s = c.before.before.before.before.before.before.before.before
 
   abbrev t : List ℕ
   t = s.args.table.now
 
   abbrev u : List ℕ
-  u = c.refill.new.0
+  u = c.refill-number.new.table
 
   abbrev f : Restored
   f = filled (sorted (records_of t)) (cleared_of t)
 
-returns : tie.Need-returns
-returns c = let r = c.before.before.before in judge-stops (f r) r.refill.result (u r) r.refill.ensures c.if1.true
+returns : tie.Need-returns-then-number-ne-DONE
+returns c = let r = c.before.before.before in judge-stops (f r) r.refill-number.result (u r) r.refill-number.ensures c.if-number-ne-DONE.true
 
 -- restored to the end
-module _ (c : tie.Else1) where
-  abbrev r : tie.After-refill
+module _ (c : tie.Else-number-ne-DONE) where
+  abbrev r : tie.After-refill-number
   r = c.before.before.before
 
-  done : r.refill.result ≡ 0
-  done = c.if1.false
+  done : r.refill-number.result ≡ 0
+  done = c.if-number-ne-DONE.false
 
   mended : Mends (sorted (records_of (t r))) (slots_of (t r)) (u r)
-  mended = mends-own (t r) (s r).pre.0 (u r) (judge-with (f r) r.refill.result (u r) r.refill.ensures done)
+  mended = mends-own (t r) (s r).requires.0 (u r) (judge-with (f r) r.refill-number.result (u r) r.refill-number.ensures done)
 
-all-pass-requires : tie.Need-all-pass-requires
-all-pass-requires c κs = let e = c.before in (mends-order (mended e), (s (r e)).pre.1.0 ∙ sym (mends-slots (mended e)))
+all-pass-requires : tie.Need-all_pass-requires
+all-pass-requires c κs = let e = c in (mends-order (mended e), (s (r e)).requires.1.0 ∙ sym (mends-slots (mended e)))
 
-returns-2 : tie.Need-returns-2
+returns-2 : tie.Need-returns-then-not-all_pass
 returns-2 c =
-    let e = c.before.before.before in
-    judge-grown (f (r e)) (r e).refill.result (u (r e)) (r e).refill.ensures (done e) (mends-order (mended e)) false
-    (sym c.before.all_pass.ensures ∙ not-true _ c.if2.true)
+    let e = c.before.before in
+    judge-grown (f (r e)) (r e).refill-number.result (u (r e)) (r e).refill-number.ensures (done e) (mends-order (mended e)) false
+    (sym c.all_pass.ensures ∙ not-true _ c.if-not-all_pass.true-raw)
 
-returns-3 : tie.Need-returns-3
+returns-3 : tie.Need-returns
 returns-3 c =
-    let e = c.before.before.before in
-    judge-grown (f (r e)) (r e).refill.result (u (r e)) (r e).refill.ensures (done e) (mends-order (mended e)) true
-    (sym c.before.all_pass.ensures ∙ not-false _ c.if2.false)
+    let e = c.before.before in
+    judge-grown (f (r e)) (r e).refill-number.result (u (r e)) (r e).refill-number.ensures (done e) (mends-order (mended e)) true
+    (sym c.all_pass.ensures ∙ not-false _ c.if-not-all_pass.false-raw)
 
-pub mend-spec : {M : Type 1} → statement M
-mend-spec =
+pub mend_spec : {M : Type 1} → statement M
+mend_spec =
     tie.close
     (tie.spec
     (λ c κs. search rules)

@@ -28,49 +28,49 @@ module _ (c : tie.After-clear) where
   t = s.args.table.now
 
   abbrev t₁ : List ℕ
-  t₁ = c.clear.new.0
+  t₁ = c.clear.new.t
 
   abbrev rs : List Record
   rs = sorted (records_of t)
 
   fits : Table t₁ s.args.n
-  fits = table_same t t₁ s.args.n (ap length c.clear.ensures ∙ clear-length t) (subst (Table t) (sym s.pre.0) s.pre.1.order.fits)
+  fits = table_same t t₁ s.args.n (ap length c.clear.ensures ∙ clear-length t) (subst (Table t) (sym s.requires.0) s.requires.1.order.fits)
 
-enter-keys-requires : tie.Need-enter-keys-requires
+enter-keys-requires : tie.Need-enter_keys-number-requires
 enter-keys-requires c κs = let e = c.before.before.before in (fits e, (s e).requires.1.room)
 
 -- entered
-module _ (c : tie.After-enter-keys) where
+module _ (c : tie.After-enter_keys-number) where
   abbrev e : tie.After-clear
   e = c.before.before.before.before
 
   abbrev u : List ℕ
-  u = c.enter-keys.new.0
+  u = c.enter_keys-number.new.table
 
-  entered : restored_by c.enter-keys.result u ≡ enter_all (rs e) (With (cleared_of (t e)))
-  entered = c.enter-keys.ensures ∙ (λ i. enter_all ((s e).pre.1.records i) (With (e.clear.ensures i)))
+  entered : restored_by c.enter_keys-number.result u ≡ enter_all (rs e) (With (cleared_of (t e)))
+  entered = c.enter_keys-number.ensures ∙ (λ i. enter_all ((s e).requires.1.records i) (With (e.clear.ensures i)))
 
-returns : tie.Need-returns
-returns c = let w = c.before.before.before in refill-stops (rs (e w)) (cleared_of (t (e w))) w.enter-keys.result (u w) (entered w) c.if1.true
+returns : tie.Need-returns-then-number-ne-DONE
+returns c = let w = c.before.before.before in refill-stops (rs (e w)) (cleared_of (t (e w))) w.enter_keys-number.result (u w) (entered w) c.if-number-ne-DONE.true
 
-restore-keys-requires : tie.Need-restore-keys-requires
+restore-keys-requires : tie.Need-restore_keys-requires
 restore-keys-requires c κs =
     let w = c.before.before.before.before in
     let g = s (e w) in (
-      (table_same (t₁ (e w)) (u w) g.args.n w.enter-keys.auto.0 (fits (e w)), g.pre.1.room),
-      keys-valid g.args.table.now g.args.scratch.now g.args.k g.pre.1,
+      (table_same (t₁ (e w)) (u w) g.args.n w.enter_keys-number.auto.table (fits (e w)), g.requires.1.room),
+      keys-valid g.args.table.now g.args.scratch.now g.args.k g.requires.1,
     )
 
-returns-2 : tie.Need-returns-2
+returns-2 : tie.Need-returns
 returns-2 c =
     let r = c.before.before in
     let w = c.before.before.before.before.before.before.before in
-    refill-goes (rs (e w)) (cleared_of (t (e w))) w.enter-keys.result (u w) (entered w) (let z = c.before.before.before.before.if1.false in omega arith)
-    r.restore-keys.result r.restore-keys.new.0
-    (r.restore-keys.ensures ∙ ap (λ (l : List Record). restore_all l (With (u w))) (s (e w)).pre.1.records)
+    refill-goes (rs (e w)) (cleared_of (t (e w))) w.enter_keys-number.result (u w) (entered w) (let z = c.if-number-ne-DONE.false in omega arith)
+    r.restore_keys.result r.restore_keys.new.table
+    (r.restore_keys.ensures ∙ ap (λ (l : List Record). restore_all l (With (u w))) (s (e w)).requires.1.records)
 
-pub refill-spec : {M : Type 1} → statement M
-refill-spec =
+pub refill_spec : {M : Type 1} → statement M
+refill_spec =
     tie.close
     (tie.spec
     (λ c κs. search rules)

@@ -10,40 +10,40 @@ use Rattle.text.specs.DecimalLaws.{digits-small, more-length, width-below}
 use Rattle.salvage.proofs.notes.digit_count.Statement.{statement}
 use Rattle.salvage.proofs.notes.digit_count.Tie as tie
 
-abbrev invariant-loop : tie.invariant-loop
-invariant-loop n v₀ w₀ v w = w + length (digits v) ≡ length (digits n) + 1
+abbrev invariant-loop-v : tie.invariant-loop-v
+invariant-loop-v n v₀ w₀ v w = w + length (digits v) ≡ length (digits n) + 1
 
-abbrev decreases-loop : tie.decreases-loop
-decreases-loop n v₀ w₀ v w = v
+abbrev decreases-loop-v : tie.decreases-loop-v
+decreases-loop-v n v₀ w₀ v w = v
 
 -- a u64 has twenty digits at most
-twenty : (c : tie.Start invariant-loop decreases-loop) → length (digits c.args.n) ≤ 20
+twenty : (c : tie.Start invariant-loop-v decreases-loop-v) → length (digits c.args.n) ≤ 20
 twenty c = width-below 20 c.args.n (omega arith) (omega arith)
 
-loop-holds : tie.Need-loop-init invariant-loop decreases-loop
+loop-holds : tie.Need-loop-v-init invariant-loop-v decreases-loop-v
 loop-holds c = omega arith
 
-add-w : tie.Need-overflow-add-w invariant-loop decreases-loop
-add-w c = omega (arith, c.before.loop.invariant, twenty c.before.before)
+add-w : tie.Need-overflow_add-w invariant-loop-v decreases-loop-v
+add-w c = omega (arith, c.loop-v.invariant, twenty c.before.before)
 
-loop-again : tie.Need-loop-preserved invariant-loop decreases-loop
+loop-again : tie.Need-loop-v-preserved invariant-loop-v decreases-loop-v
 loop-again c =
     let l = c.before in
-    let big = more-length l.loop.v (omega (arith, c.loop-test.true)) in
-    omega (arith, l.loop.invariant)
+    let big = more-length l.loop-v.v (omega (arith, c.loop-v-test.true)) in
+    omega (arith, l.loop-v.invariant)
 
-returns : tie.Need-returns invariant-loop decreases-loop
+returns : tie.Need-returns invariant-loop-v decreases-loop-v
 returns c =
     let l = c.before in
-    let one = ap length (digits-small l.loop.v (omega (arith, c.loop-test.false))) in
-    (omega (arith, l.loop.invariant), omega (arith, l.loop.invariant, twenty l.before))
+    let one = ap length (digits-small l.loop-v.v (omega (arith, c.loop-v-test.false))) in
+    (omega (arith, l.loop-v.invariant), omega (arith, l.loop-v.invariant, twenty l.before))
 
-pub digit-count-spec : {M : Type 1} → statement M
-digit-count-spec =
+pub digit_count_spec : {M : Type 1} → statement M
+digit_count_spec =
     tie.close
     (tie.spec
-    invariant-loop
-    decreases-loop
+    invariant-loop-v
+    decreases-loop-v
     loop-holds
     add-w
     (λ c. search rules)

@@ -102,7 +102,7 @@ loop-again : tie.Need-loop-left-preserved invariant-loop-left decreases-loop-lef
 loop-again c =
     let h = c in
     let q = g (e₁ h) in
-    gathering-went (f q) (s q).args.at (s q).args.room (s q).args.table.now q.loop-left.p q.loop-left.left (t q) q.loop.invariant (next h) (went h).0
+    gathering-went (f q) (s q).args.at (s q).args.room (s q).args.table.now q.loop-left.p q.loop-left.left (t q) q.loop-left.invariant (next h) (went h).0
     (new h)
     (u (e₁ h)) c.loop-left-test.true (went h).1
 
