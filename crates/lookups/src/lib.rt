@@ -2,6 +2,7 @@
 //
 // One call answers every input: `fb_lookups`. Its promise cites specs/Lookups.
 #![tactic(auto)]
+
 ghost use Rattle.std.specs.Prelude.{◌≡◌, ◌+◌, ◌*◌, ◌<◌, length};
 ghost use Rattle.table.specs.Slots.{Table};
 ghost use Rattle.table.specs.Entries.{holds};
