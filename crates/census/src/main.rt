@@ -2,11 +2,12 @@
 // its input: its promise has the 5,461 slots and every byte of the text. `fill` promises that it stays within its room. What is read and written no
 // promise can say; the program's runs show it (.ci/census-runs). Where a read fails nothing is written.
 #![tactic(auto)]
+
 ghost use Rattle.std.specs.Prelude.{◌≡◌, ◌++◌, ◌≤◌, length, drop};
 ghost use Rattle.census.specs.Input.{Within};
 ghost use Rattle.census_text.specs.Census.{program_text};
 
-use libc::{STDIN_FILENO, STDOUT_FILENO};
+use std::io::{Read, Stdin, Stdout, Write};
 
 const SLOTS: usize = 5461;
 
@@ -29,20 +30,16 @@ enum Filled {
 }
 
 // Fills the space from standard input.
-fn fill(space: &mut [u8]) -> Filled
+fn fill(input: &mut Stdin, space: &mut [u8]) -> Filled
     ensures { Within (length space.new) result }
 {
     let mut done = 0;
     while done < space.len() {
-        let got = libc::read(STDIN_FILENO, &mut space[done..]);
-        if got < 0 {
-            return Filled::Failed;
+        match input.read(&mut space[done..]) {
+            Err(_) => return Filled::Failed,
+            Ok(0) => return Filled::To(done),
+            Ok(more) => done += more,
         }
-        let more = io::count(got, &space[done..]);
-        if more == 0 {
-            return Filled::To(done);
-        }
-        done += more;
     }
     Filled::To(done)
 }
@@ -58,27 +55,27 @@ fn answer(input: &[u8], text: &mut [u8; TEXT_ROOM]) -> usize
     census.written as usize
 }
 
-// Writes the first n bytes of a text.
-fn print(text: &[u8], n: usize) {
+// Writes the first n bytes of a text. Whether they arrive no one asks: the status is 0 in every case.
+fn print(output: &mut Stdout, text: &[u8], n: usize) {
     if n <= text.len() {
-        io::write_all(STDOUT_FILENO, &text[..n]);
+        let _ = output.write_all(&text[..n]);
     }
 }
 
 // Writes the text for the first n bytes of the space.
-fn report(space: &[u8], n: usize) {
+fn report(output: &mut Stdout, space: &[u8], n: usize) {
     if n <= space.len() {
         let mut text = [0u8; TEXT_ROOM];
         let written = answer(&space[..n], &mut text);
-        print(&text, written);
+        print(output, &text, written);
     }
 }
 
-fn main() {
+fn main(rt: HostRuntime) {
     let mut room = [0u8; INPUT_ROOM];
     let space: &mut [u8] = &mut room;
-    match fill(space) {
+    match fill(&mut rt.stdin(), space) {
         Filled::Failed => {}
-        Filled::To(n) => report(space, n),
+        Filled::To(n) => report(&mut rt.stdout(), space, n),
     }
 }

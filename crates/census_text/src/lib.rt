@@ -4,9 +4,11 @@
 // written by texts.rt.
 // The promise cites specs/Census.
 #![tactic(auto)]
+
 ghost use Rattle.std.specs.Prelude.{◌≡◌, ◌≤◌, length};
 ghost use Rattle.readers.specs.Readers.{tables_after};
-ghost use Rattle.census_text.specs.Census.{text_of, read_input_of, put, result, census_of};
+ghost use Rattle.census_text.specs.Census as spec;
+ghost use Rattle.census_text.specs.Census.{text_of, read_input_of, put, census_of};
 ghost use Rattle.census_text.specs.InputLaws.{long_of};
 
 mod texts;
@@ -23,7 +25,7 @@ const MOST_INPUT: usize = 65536;
 
 // Refuses an input that is too long.
 fn refuse_long(table: &mut [u8], scratch: &mut [u8]) -> ReadBack
-    ensures* { λ r. ⌜ tables_after r.number r.line table.new scratch.new ≡ long_of table.old scratch.old ⌝ }
+    ensures { tables_after result.number result.line table.new scratch.new ≡ long_of table.old scratch.old }
 {
     let n = prepare(table, scratch);
     let number = if n == 0 { NOT_IN_ORDER } else { NO_ROOM };
@@ -32,8 +34,8 @@ fn refuse_long(table: &mut [u8], scratch: &mut [u8]) -> ReadBack
 
 // Reads the input into the table.
 fn read_input(input: &[u8], table: &mut [u8], scratch: &mut [u8]) -> ReadBack
-    ensures* { λ r. ⌜ tables_after r.number r.line table.new scratch.new
-        ≡ read_input_of table.old scratch.old input.now ⌝ }
+    ensures { tables_after result.number result.line table.new scratch.new
+        ≡ read_input_of table.old scratch.old input.now }
 {
     if MOST_INPUT < input.len() {
         return refuse_long(table, scratch);
@@ -46,9 +48,9 @@ fn read_input(input: &[u8], table: &mut [u8], scratch: &mut [u8]) -> ReadBack
 // Gives back the number in the text, 0 where it counts, and the bytes written. 13 where `out` is shorter than the text, with nothing written; 128 bytes
 // always suffice.
 pub fn census(input: &[u8], table: &mut [u8], scratch: &mut [u8], out: &mut [u8]) -> Census
-    ensures* scratch_after { λ r. ⌜ result (put r.number r.written out.new) table.new scratch.new
-        ≡ census_of input.now table.old scratch.old out.old ⌝ }
-    ensures* input_bound { λ _. ⌜ length (text_of (read_input_of table.old scratch.old input.now)) ≤ 128 ⌝ }
+    ensures answer { spec.result (put result.number result.written out.new) table.new scratch.new
+        ≡ census_of input.now table.old scratch.old out.old }
+    ensures text_bound { length (text_of (read_input_of table.old scratch.old input.now)) ≤ 128 }
 {
     let read = read_input(input, table, scratch);
     let number = read.number;

@@ -6,14 +6,15 @@ ghost use Rattle.salvage.specs.Salvage.{salvage_after, salvage_of};
 ghost use Rattle.tally.specs.Count.{count_of};
 ghost use Rattle.findings.specs.Findings.{join_after, join_of};
 ghost use Rattle.viewer.specs.Viewer.{write_off_of, write_obj_of};
-ghost use Rattle.census_text.specs.Census.{put, result, census_of, text_of, read_input_of};
+ghost use Rattle.census_text.specs.Census as spec;
+ghost use Rattle.census_text.specs.Census.{put, census_of, text_of, read_input_of};
 
 use tally::COUNTS;
 
 // Writes the full file, or 1, 13; written: its bytes, 0 if refused.
 #[unsafe(no_mangle)]
 pub extern "C" fn fb_write_full(table: &[u8], out: &mut [u8], written: &mut u64) -> u8
-    ensures* { λ r. ⌜ output_after r written.new out.new ≡ write_full_of table.now out.old ⌝ }
+    ensures { output_after result written.new out.new ≡ write_full_of table.now out.old }
 {
     let file = writers::write_full(table, out);
     *written = file.bytes;
@@ -23,7 +24,7 @@ pub extern "C" fn fb_write_full(table: &[u8], out: &mut [u8], written: &mut u64)
 // Writes the reduced file, or 1, 13; written: its bytes, 0 if refused.
 #[unsafe(no_mangle)]
 pub extern "C" fn fb_write_reduced(table: &[u8], out: &mut [u8], written: &mut u64) -> u8
-    ensures* { λ r. ⌜ output_after r written.new out.new ≡ write_reduced_of table.now out.old ⌝ }
+    ensures { output_after result written.new out.new ≡ write_reduced_of table.now out.old }
 {
     let file = writers::write_reduced(table, out);
     *written = file.bytes;
@@ -38,10 +39,8 @@ pub extern "C" fn fb_read_full(
     file: &[u8],
     line: &mut u64,
 ) -> u8
-    ensures* { λ r. ⌜
-        reader.tables_after r line.new table.new scratch.new
-        ≡ reader.read_full_of table.old scratch.old file.now
-        ⌝ }
+    ensures { reader.tables_after result line.new table.new scratch.new
+        ≡ reader.read_full_of table.old scratch.old file.now }
 {
     let read = readers::read_full(table, scratch, file);
     *line = read.line;
@@ -56,10 +55,8 @@ pub extern "C" fn fb_read_reduced(
     file: &[u8],
     line: &mut u64,
 ) -> u8
-    ensures* { λ r. ⌜
-        reader.tables_after r line.new table.new scratch.new
-        ≡ reader.read_reduced_of table.old scratch.old file.now
-        ⌝ }
+    ensures { reader.tables_after result line.new table.new scratch.new
+        ≡ reader.read_reduced_of table.old scratch.old file.now }
 {
     let read = readers::read_reduced(table, scratch, file);
     *line = read.line;
@@ -75,11 +72,9 @@ pub extern "C" fn fb_census(
     out: &mut [u8],
     written: &mut u64,
 ) -> u8
-    ensures* scratch_after { λ r. ⌜
-        result (put r written.new out.new) table.new scratch.new
-        ≡ census_of input.now table.old scratch.old out.old
-        ⌝ }
-    ensures* input_bound { λ _. ⌜ length (text_of (read_input_of table.old scratch.old input.now)) ≤ 128 ⌝ }
+    ensures answer { spec.result (put result written.new out.new) table.new scratch.new
+        ≡ census_of input.now table.old scratch.old out.old }
+    ensures text_bound { length (text_of (read_input_of table.old scratch.old input.now)) ≤ 128 }
 {
     let census = census_text::census(input, table, scratch, out);
     *written = census.written;
@@ -89,8 +84,8 @@ pub extern "C" fn fb_census(
 // The census's numbers of a table, V E F d0 d3 d4 d5 d6; or 1, and all zeros.
 #[unsafe(no_mangle)]
 pub extern "C" fn fb_counts(table: &[u8], numbers: &mut [u32; COUNTS]) -> u8
-    ensures* r_value { λ r. ⌜ r ≡ (count_of table.now).number ⌝ }
-    ensures* numbers_after { λ _. ⌜ numbers.new ≡ (count_of table.now).counted ⌝ }
+    ensures value { result ≡ (count_of table.now).number }
+    ensures numbers_after { numbers.new ≡ (count_of table.now).counted }
 {
     tally::count(table, numbers)
 }
@@ -104,9 +99,7 @@ pub extern "C" fn fb_findings(
     line: &mut u64,
     written: &mut u64,
 ) -> u8
-    ensures* { λ r. ⌜
-        join_after r line.new written.new out.new ≡ join_of table.now list.now out.old
-        ⌝ }
+    ensures { join_after result line.new written.new out.new ≡ join_of table.now list.now out.old }
 {
     let joined = findings::join(table, list, out);
     *line = joined.line;
@@ -117,7 +110,7 @@ pub extern "C" fn fb_findings(
 // Writes the OFF file, or 1, 7, 13; written: its bytes, 0 if refused.
 #[unsafe(no_mangle)]
 pub extern "C" fn fb_write_off(table: &[u8], out: &mut [u8], written: &mut u64) -> u8
-    ensures* { λ r. ⌜ output_after r written.new out.new ≡ write_off_of table.now out.old ⌝ }
+    ensures { output_after result written.new out.new ≡ write_off_of table.now out.old }
 {
     let file = viewer::write_off(table, out);
     *written = file.bytes;
@@ -127,7 +120,7 @@ pub extern "C" fn fb_write_off(table: &[u8], out: &mut [u8], written: &mut u64) 
 // Writes the OBJ file, or 1, 7, 13; written: its bytes, 0 if refused.
 #[unsafe(no_mangle)]
 pub extern "C" fn fb_write_obj(table: &[u8], out: &mut [u8], written: &mut u64) -> u8
-    ensures* { λ r. ⌜ output_after r written.new out.new ≡ write_obj_of table.now out.old ⌝ }
+    ensures { output_after result written.new out.new ≡ write_obj_of table.now out.old }
 {
     let file = viewer::write_obj(table, out);
     *written = file.bytes;
@@ -145,10 +138,8 @@ pub extern "C" fn fb_salvage(
     written: &mut u64,
     changed: &mut u64,
 ) -> u8
-    ensures* { λ r. ⌜
-        salvage_after r written.new changed.new table.new scratch.new out.new changes.new
-        ≡ salvage_of table.old scratch.old file.now out.old changes.old
-        ⌝ }
+    ensures { salvage_after result written.new changed.new table.new scratch.new out.new changes.new
+        ≡ salvage_of table.old scratch.old file.now out.old changes.old }
 {
     let salvaged = salvage::salvage(table, scratch, file, out, changes);
     *written = salvaged.written;

@@ -6,6 +6,7 @@
 // change a table, files.rt those that write one, read one, count one or salvage one, vertices.rt those without any table; numbers.rt puts points and
 // records in a row.
 #![tactic(auto)]
+
 mod files;
 mod meshes;
 mod numbers;
