@@ -1,9 +1,15 @@
-//! Links liblookups.a, which stands beside the library's archive.
+//! Links crates/lookups/out/liblookups.a of the repository (or that of FLASKBLOOM_ARCHIVE_DIR), made by `rt lib` there.
+
+use std::path::PathBuf;
 
 fn main() {
     println!("cargo:rerun-if-env-changed=FLASKBLOOM_ARCHIVE_DIR");
-    let dir = std::env::var("FLASKBLOOM_ARCHIVE_DIR").expect("run-bench sets it");
-    println!("cargo:rerun-if-changed={dir}/liblookups.a");
-    println!("cargo:rustc-link-search=native={dir}");
+    let here = PathBuf::from(std::env::var_os("CARGO_MANIFEST_DIR").expect("cargo sets it"));
+    let dir = match std::env::var_os("FLASKBLOOM_ARCHIVE_DIR") {
+        Some(dir) => PathBuf::from(dir),
+        None => here.join("../../crates/lookups/out"),
+    };
+    println!("cargo:rerun-if-changed={}", dir.join("liblookups.a").display());
+    println!("cargo:rustc-link-search=native={}", dir.display());
     println!("cargo:rustc-link-lib=static=lookups");
 }

@@ -1,8 +1,8 @@
 /* The library behind a pipe: an x86-64 program that reads calls from standard input, makes them, and writes what came of each.
  *
- * Where the tests' own processor is another, it runs under the kit's emulator. Every call is made on a stack of 128 KiB between a
- * forbidden page and the end; how much of it was ever used can be asked. Lent bytes stand between guards. Out-parameters hold
- * garbage before the call. A request and an answer are the structs below, each followed by the bytes of up to five buffers. */
+ * Every call is made on a stack of 128 KiB between a forbidden page and the end; how much of it was ever used can be asked. Lent bytes
+ * stand between guards. Out-parameters hold garbage before the call. A request and an answer are the structs below, each followed by the
+ * bytes of up to five buffers. */
 #include "flaskbloom.h"
 
 /* Of the C library, what is used here. */

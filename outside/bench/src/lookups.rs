@@ -1,4 +1,4 @@
-//! The library's search: `fb_lookups` of the crate `lookups`, made by `rt staticlib lookups`.
+//! The library's search: `fb_lookups` of the crate `lookups`, made by `rt lib` there.
 
 extern "C" {
     fn fb_lookups(table: *const u8, table_len: usize, points: *const i32, count: usize, m: u8) -> u64;

@@ -1,5 +1,6 @@
 //! The launcher at the project's root, in a small tree of its own with an `rt`, a `cargo` and a make-archive that only leave files: what it
-//! proves and builds and when, what it says, that it goes on where it was stopped, and that it says what is missing.
+//! proves and builds and when, what it says, that it waits for no crate that the library does not need, that it goes on where it was stopped, and that it
+//! says what is missing.
 
 mod common;
 
@@ -11,18 +12,21 @@ const LAUNCHER: &str = include_str!("../../../bladeplan");
 const PROVE: &str = include_str!("../../prove");
 const BUILDING: &str = "bladeplan: building the command: about half a minute\n";
 /// A library on four crates, of which `left` and `right` need nothing of each other.
-const CRATES: &str = "# the floors\nlow:\nleft: low\nright: low\nhigh: left right io\nflaskbloom: high\nother: low\n";
-/// Proves a crate by leaving its stamp, and many words. One that is named in `refused` is not proved; `left` and `right` wait for each other where
-/// `together` is there; one that is named in `slow` is never done.
-const RT: &str = "#!/bin/sh\necho \"$2\" >>\"$R/asked\"\necho 'a thousand lines of the prover'\n\
-    if grep -qx \"$2\" \"$R/refused\"; then echo \"rt: $2 NOT PROVED\"; exit 1; fi\n\
-    if grep -qx \"$2\" \"$R/slow\"; then touch \"$R/waits\"; sleep 1000; fi\n\
-    case $2 in left | right) touch \"$R/at-$2\"; if [ -e \"$R/together\" ]; then\n\
-    until [ -e \"$R/at-left\" ] && [ -e \"$R/at-right\" ]; do sleep 0.1; done; fi;; esac\n\
-    echo proved >\"target/stamp/$2\"\n";
-/// Where the archive goes on either machine.
-const MAKE: &str = "#!/bin/sh\necho 'words of the compiler'\nmkdir -p \"$R/target/staticlib\" \"$R/outside/target/native\"\n\
-    touch \"$R/target/staticlib/libflaskbloom.a\" \"$R/outside/target/native/libflaskbloom.a\"\n";
+const CRATES: &str = "# the floors\nlow:\nleft: low\nright: low\nhigh: left right io\nflaskbloom staticlib: high\nother: low\n";
+/// `rt all check`: of the crates, lowest first, it proves those that are older than their source or than one below, by leaving the stamp, and many words.
+/// One that is named in `refused` is not proved; one that is named in `slow` is never done, nor is the one that the library does not need.
+const RT: &str = "#!/bin/sh\n[ \"$*\" = 'all check --jobs 2' ] || exit 2\n\
+    while IFS=': ' read -r crate below; do\nstamp=crates/$crate/out/rlib/stamp old=\n\
+    case $crate in '#') continue;; other) sleep 1000;; flaskbloom) continue;; esac\n\
+    if [ ! -e \"$stamp\" ] || [ \"crates/$crate/src/lib.rt\" -nt \"$stamp\" ]; then old=1; fi\n\
+    for low in $below; do if [ \"crates/$low/out/rlib/stamp\" -nt \"$stamp\" ]; then old=1; fi; done\n\
+    if [ -n \"$old\" ]; then rm -f \"$stamp\"; echo \"$crate\" >>\"$R/asked\"\n\
+    if grep -qx \"$crate\" \"$R/slow\"; then touch \"$R/waits\"; sleep 1000; fi\n\
+    if ! grep -qx \"$crate\" \"$R/refused\"; then mkdir -p \"crates/$crate/out/rlib\"; echo proved >\"$stamp\"; fi; fi\n\
+    echo \"== $crate\"; [ -z \"$old\" ] || echo 'a thousand lines of the prover'\n\
+    done <crates.txt\n";
+const MAKE: &str = "#!/bin/sh\necho 'words of the compiler'\nmkdir -p \"$R/crates/flaskbloom/out\"\n\
+    touch \"$R/crates/flaskbloom/out/libflaskbloom.a\"\n";
 const CARGO: &str = "#!/bin/sh\nmkdir -p \"$R/outside/target/release\"\necho cargo\n\
     printf '#!/bin/sh\\necho ran \"$@\"\\n' >\"$R/outside/target/release/bladeplan\"\nchmod +x \"$R/outside/target/release/bladeplan\"\n";
 
@@ -45,7 +49,7 @@ fn tree(name: &str) -> Desk {
         desk.put(file, text);
         fs::set_permissions(desk.place.join(file), fs::Permissions::from_mode(0o755)).expect("rights");
     }
-    let tools = "bash sh env dirname readlink uname find touch mkdir chmod awk sort grep wc cat ln rm sleep nproc flock";
+    let tools = "bash sh env dirname readlink find touch mkdir chmod awk sort grep tail wc cat rm sleep nproc flock";
     for tool in tools.split(' ') {
         let found = ["/usr/bin", "/bin"].map(|place| format!("{place}/{tool}")).into_iter().find(|path| fs::metadata(path).is_ok());
         symlink(found.expect("a tool"), desk.place.join("bin").join(tool)).expect("a link");
@@ -53,7 +57,7 @@ fn tree(name: &str) -> Desk {
     desk
 }
 
-/// What is typed, with two provers at a time.
+/// What is typed, with two crates proved at a time.
 const TYPED: &str = "export RT_JOBS=2 R=\"$PWD\" PATH=\"$PWD/bin\"; ./bladeplan a 'b c'";
 
 fn launched(desk: &Desk) -> Ran {
@@ -85,7 +89,6 @@ fn newer(desk: &Desk, file: &str) {
 #[test]
 fn it_builds_what_is_missing_or_old() {
     let desk = tree("launcher");
-    desk.put("together", "");
     let first = launched(&desk);
     assert_eq!((first.status, first.out.as_str()), (0, "ran a b c\n"));
     assert_eq!(first.err, format!("{}{BUILDING}cargo\n", progress(0)));

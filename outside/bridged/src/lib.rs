@@ -1,7 +1,6 @@
 //! The library as a caller of the differential tests, behind a pipe: `bridge/bridge.c`, built by `bridge/build`, linked with the archive.
 //!
-//! It runs on any machine that the kit runs on, under the kit's emulator where that is no x86-64. The bridge lends the bytes between
-//! guards, on a stack of 128 KiB; it says how much of that was used.
+//! The bridge lends the bytes between guards, on a stack of 128 KiB; it says how much of that was used.
 
 use differential::caller::{Caller, Numbers, Points, Row};
 use std::io::{Read, Write};
@@ -64,7 +63,7 @@ struct Answer {
 impl Library {
     /// Starts the bridge that `bridge/build` made.
     pub fn start() -> Library {
-        let start = concat!(env!("CARGO_MANIFEST_DIR"), "/../target/bridge/start");
+        let start = concat!(env!("CARGO_MANIFEST_DIR"), "/../target/bridge/bridge");
         let mut child = Command::new(start)
             .stdin(Stdio::piped())
             .stdout(Stdio::piped())

@@ -88,7 +88,7 @@ fn the_library_is_the_header() {
         include_str!("../../../crates/flaskbloom/src/vertices.rt"),
     ]
     .concat();
-    let exported = source.split("#[no_mangle]").skip(1).map(|text| text.split_once("ensures").expect("a promise").0);
+    let exported = source.split("#[unsafe(no_mangle)]").skip(1).map(|text| text.split_once("ensures").expect("a promise").0);
     let mut found: Vec<(String, Vec<String>)> = Vec::new();
     for text in exported {
         assert!(text.contains("pub extern \"C\" fn") && text.trim_end().ends_with("-> u8"), "{text}");
