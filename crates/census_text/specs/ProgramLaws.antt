@@ -7,7 +7,7 @@ use Rattle.std.proofs.Math.Path.{ap}
 use native.Mathlib.Omega.{arith}
 use Rattle.std.proofs.Math.ListN.{length, drop}
 use Rattle.readers.specs.Readers.{TablesAfter}
-use Rattle.census_text.specs.Census.{Put, put, put_text, Result, result, result_from, read_input_of, text_of, census_of, free_table, program_text}
+use Rattle.census_text.specs.Census.{Put, put, put_text, Result, result, read_input_of, text_of, census_of, free_table, program_text}
 
 -- a text written where there is room for it
 pub text-put : (number : ℕ) (text out : List ℕ) → length text ≤ length out → put_text number text out ≡ put number (length text) (text ++ drop (length text) out)
