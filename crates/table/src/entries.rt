@@ -1,5 +1,6 @@
 // The table as a map from points to records: looked up, entered.
 ghost use Rattle.std.specs.Prelude.{◌≡◌, ◌+◌, ◌*◌, ◌≤◌, length};
+ghost use Rattle.lattice.specs.Points.{normal_of};
 ghost use Rattle.table.specs.Slots.{slot_width, Table, slot_at};
 ghost use Rattle.table.specs.Search.{find_of};
 ghost use Rattle.table.specs.Told.{Reaches};
@@ -8,7 +9,7 @@ ghost use Rattle.table.specs.Entries.{held_in, look_up, holds, enter_of};
 use crate::home::home;
 use crate::probe::{Found, find, find_from};
 use crate::slots::{Slot, read_slot, write_slot};
-use lattice::{Point, Record};
+use lattice::{Point, Record, normalise};
 
 // What a table holds at a point.
 #[derive(Clone, Copy)]
@@ -53,6 +54,15 @@ pub fn is_there(t: &[u8], p: Point, n: usize) -> bool
         Found::Free(_) => false,
         Found::Full => false,
     }
+}
+
+// The record at a point as a request gives it: any numbers, normalised before they are looked up. A point outside a record's ranges is not found.
+pub fn look_up_request(t: &[u8], a: i32, b: i32, m: u8, n: usize) -> Looked
+    requires { Table t.now n }
+    ensures { result ≡ look_up t.now (normal_of a b m) }
+{
+    let p = normalise(a, b, m);
+    look_up(t, p, n)
 }
 
 // Enters a record where the search for its point, which comes as far as slot i, ends. Where the point is there already, or no slot is free, nothing

@@ -7,6 +7,7 @@
 // Whoever knows that a table is in order asks `stands` and `slot_by_guess`, which need not search.
 // The promises cite specs/: Slots, Search, Told, Order, Entries. What follows from them, for whoever stands above, is specs/MapLaws.
 #![tactic(auto)]
+
 mod bytes;
 mod entries;
 mod groups;
@@ -17,7 +18,7 @@ mod probe;
 mod slots;
 
 pub use bytes::{put_word, word};
-pub use entries::{Looked, enter, enter_from, held_in, is_there, look_up};
+pub use entries::{Looked, enter, enter_from, held_in, is_there, look_up, look_up_request};
 pub use order::{Ordered, check_order, in_order};
 pub use ordered::{slot_by_guess, stands};
 pub use probe::{Found, find};
