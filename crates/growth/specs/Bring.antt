@@ -1,5 +1,6 @@
 -- For the request that brings a vertex to degree 6 (the crate `bring`): what the parents of a point are as long as they have not been subdivided at its
--- birth level. `Six` of degree 6 · `creator-split`, `six-level` of a parent.
+-- birth level, and what stays as more is subdivided.
+-- `Le` more was subdivided, `Six` of degree 6 · `T-le`, `pres-le` what stays · `on-six`, `creator-split`, `six-level` of a parent.
 -- Assumes nothing.
 use Rattle.std.specs.Prelude.{◌≡◌, ◌≢◌, Bool, true, false}
 use Rattle.std.proofs.Math.Path.{refl, ap}
@@ -7,15 +8,34 @@ use Rattle.std.proofs.Common.{sym, ◌∙◌}
 use Prim.Native.Nat.{ℕ, zero, suc, ◌+◌, ◌≤◌, ◌<◌}
 use native.Mathlib.Omega.{arith}
 use Rattle.std.proofs.Math.Decide.{ℕ_discrete}
+use borrow.Author.Tests.{ltb-true, lt-ltb}
 use Rattle.lattice.specs.declared.points.Point.{Point}
 use Rattle.growth.specs.Normal.{Pt, rank}
 use Rattle.growth.specs.Parents.{par, creator_of, par-rank, creator-is}
 use Rattle.growth.specs.Closed.{T, T-lo, T-hi, pres_at, full_at, Good}
 
 module _ (H : Point → Bool) where
+  -- c has nothing that d has not
+  abbrev pub Le : (Pt → ℕ) → (Pt → ℕ) → Type 0
+  Le c d = (p : Pt) → c p ≤ d p
+
   -- p has degree 6
   abbrev pub Six : (Pt → ℕ) → Pt → Type 0
   Six c p = full_at H c p (rank p) ≡ true
+
+  pub T-le : (c d : Pt → ℕ) (x : Pt) (i : ℕ) → Le c d → T c x i ≡ true → T d x i ≡ true
+  unfolding T
+  T-le c d x i l h = let m = ltb-true i (rank x + c x) h in let k = l x in lt-ltb i (rank x + d x) (omega arith)
+
+  pub pres-le : (c d : Pt → ℕ) (p : Pt) (f : ℕ) → Le c d → pres_at H c p f ≡ true → pres_at H d p f ≡ true
+  unfolding pres_at
+  pres-le c d p zero l h = h
+  pres-le c d p (suc zero) l h = h
+  pres-le c d p (suc (suc i)) l h = T-le c d (creator_of p i) i l h
+
+  -- a parent that is subdivided at p's birth level has degree 6
+  pub on-six : (e : Pt → ℕ) (q : Pt) (b : ℕ) → Good H e → rank q ≤ b → T e q b ≡ true → Six e q
+  on-six e q b good l h = let m = T-lo e q b h in good q (omega arith)
 
   -- a parent of p that could be subdivided a level earlier is its creator, and was
   pub creator-split : (c : Pt → ℕ) (p : Pt) (b t : ℕ) → rank p ≡ suc b → t < 3 → pres_at H c p (suc b) ≡ true → b ≢ rank (par p t b)

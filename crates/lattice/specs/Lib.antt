@@ -16,6 +16,7 @@ pub mod Bounds
 pub mod RecordLaws
 pub mod PatternLaws
 pub mod RowLaws
+pub mod NumberedRows
 pub mod StarLaws
 pub mod AnswerRowLaws
 pub mod ArmLaws

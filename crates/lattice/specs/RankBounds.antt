@@ -1,15 +1,17 @@
 -- Bounds and parities of ranks, what the code of ranks needs.
--- `rank-top`, `birth-below`, `birth-parity` · `move-first` a direction is that of a first adjacent point · `move-near` a step can be taken ·
--- `move-depth` how deep it ends.
+-- `rank-top`, `birth-below`, `birth-parity` · `move-first` a direction is that of a first adjacent point, `move-place` a place of the degree 6 pattern ·
+-- `move-near` a step can be taken · `move-depth` how deep it ends.
 -- Assumes nothing.
 use Rattle.std.specs.Prelude.{◌≡◌, refl, Bool, true, false, cond, ℕ, ◌+◌, ◌*◌, ◌%◌, ◌/◌, ◌≤◌, ◌<◌, ◌-◌, max, eqb, pos}
 use Rattle.std.proofs.Common.{arith, lit≤, lit<, eq-eqb, ne_eqb}
 use Rattle.std.proofs.Math.Decide.{ℕ_discrete}
+use Rattle.laws.specs.Rules.{rule}
 use Rattle.laws.specs.Residue.{mod_z}
 use Rattle.lattice.specs.Stars.{scale_of}
 use Rattle.lattice.specs.Points.{class_of}
 use Rattle.lattice.specs.Ranks.{rank_of, birth_of, level, move_of, parent_of}
-use Rattle.lattice.specs.Patterns.{six, rows_of, pattern_of, orient, adjacent_of}
+use Rattle.lattice.specs.PointLaws.{alike, alike-eq}
+use Rattle.lattice.specs.Patterns.{three, four, five, six, rows_of, pattern_of, orient, adjacent_of}
 use Rattle.lattice.specs.Places.{sum-depth}
 use Rattle.lattice.specs.Bounds.{Near}
 use Rattle.lattice.specs.Points.{pt}
@@ -75,6 +77,11 @@ birth-parity p = go (kind p)
 -- ---- directions
 abbrev unit : Point
 unit = pt (pos 1) (pos 0) 0
+
+-- direction e is place e / 2 of the degree 6 pattern at orientation e mod 2
+pub move-place : (e : ℕ) → e < 12 → adjacent_of 6 (e % 2) (e / 2) ≡ orient e unit
+unfolding orient pattern_of rows_of three four five six
+move-place e h = alike-eq _ _ (rule 12 (λ e. alike (adjacent_of 6 (e % 2) (e / 2)) (orient e unit)) tt e h)
 
 -- direction e is that of the first adjacent point at orientation e
 pub move-first : (e : ℕ) → adjacent_of 6 e 0 ≡ orient e unit
