@@ -1,6 +1,6 @@
 -- Steps at a point's own depth: those from a point of depth above 0 to its parents are such.
--- `way_of` the step in a direction, `way-turned` two directions on, `way-near` it is short · `step_end` where a step ends · `parent-step` a
--- parent is the end of one · `lowest-terms` normalising, by whether a first third comes out.
+-- `way_of` the step in a direction, `way-turned` two directions on, `way-near` it is short · `step_end` where it ends, `step_by` by its numerators ·
+-- `parent-step`, `parent-by` a parent is the end of one · `lowest-terms` normalising, by whether a first third comes out.
 -- Assumes nothing.
 use Rattle.std.specs.Prelude.{◌≡◌, Bool, true, false, cond, ◌&&◌, ℕ, suc, ◌+◌, ◌*◌, ◌-◌, ◌/◌, ◌≤◌, ◌<◌, max, ℤ, pos, nat_abs, ◌+ℤ◌}
 use Rattle.std.proofs.Common.{sym, ◌∙◌, ap, subst, arith, lit≤}
@@ -30,9 +30,13 @@ way-near e h =
     let x = hex-orient e {p = pt (pos 1) (pos 0) 0} (record { a = lit≤ tt; b = lit≤ tt; c = lit≤ tt }) in
     subst (λ (q : Point). (nat_abs q.a ≤ 10) × (nat_abs q.b ≤ 10)) (sym h) (x.a, x.b)
 
+-- from [a, b, m] in direction e, both numerators over 3^m
+abbrev pub step_end : ℤ → ℤ → ℕ → ℕ → Point
+step_end a b m e = normal_of (a +ℤ (way_of e).a) (b +ℤ (way_of e).b) m
+
 -- from [a, b, m] by x and y, both numerators over 3^m
-abbrev pub step_end : ℤ → ℤ → ℕ → ℤ → ℤ → Point
-step_end a b m x y = normal_of (a +ℤ x) (b +ℤ y) m
+abbrev pub step_by : ℤ → ℤ → ℕ → ℤ → ℤ → Point
+step_by a b m x y = normal_of (a +ℤ x) (b +ℤ y) m
 
 -- two numerators of one depth, added over it
 abbrev added : ℤ → ℤ → ℕ → ℕ → ℕ → ℤ
@@ -42,10 +46,7 @@ flat : (x y : ℤ) (m k : ℕ) → k ≡ m → added x y m k (max m k) ≡ x +�
 flat x y m k e = λ i. times-one x (max m k - m) (omega arith) i +ℤ times-one y (max m k - k) (omega arith) i
 
 -- a parent lies one step away, over the point's own denominator
-abbrev way : Point → ℕ → Point
-way p j = way_of (birth_of p + 4 * j)
-
-pub parent-step : (p : Point) (j : ℕ) → 0 < p.m.0 → step_end p.a p.b p.m.0 (way p j).a (way p j).b ≡ parent_of p j
+pub parent-step : (p : Point) (j : ℕ) → 0 < p.m.0 → step_end p.a p.b p.m.0 (birth_of p + 4 * j) ≡ parent_of p j
 unfolding parent_of
 parent-step p j h =
     let m = p.m.0 in
@@ -54,6 +55,13 @@ parent-step p j h =
     let same : k ≡ m = omega (arith, orient-depth e (pt (pos 1) (pos 0) 0), birth-parity p, rank-top p, rank-least p h) in
     let deep : m ≡ max m k = omega arith in
     λ i. normal_of (sym (flat p.a (way_of e).a m k same) i) (sym (flat p.b (way_of e).b m k same) i) (deep i)
+
+-- the same by the two numerators of the step
+abbrev way : Point → ℕ → Point
+way p j = way_of (birth_of p + 4 * j)
+
+pub parent-by : (p : Point) (j : ℕ) → 0 < p.m.0 → step_by p.a p.b p.m.0 (way p j).a (way p j).b ≡ parent_of p j
+parent-by p j h = parent-step p j h
 
 -- lowest terms, by whether a first third comes out
 pub lowest-terms : (x y : ℤ) (m : ℕ) (w : Bool) → by3 x && by3 y ≡ w → 0 < m

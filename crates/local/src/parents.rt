@@ -3,7 +3,7 @@ ghost use Rattle.std.specs.Prelude.{◌≡◌, ◌≤◌, ◌<◌, nat_abs};
 ghost use Rattle.lattice.specs.Bounds.{summable};
 ghost use Rattle.lattice.specs.Ranks.{rank_of};
 ghost use Rattle.table.specs.Slots.{Table};
-ghost use Rattle.local.specs.Steps.{step_end};
+ghost use Rattle.local.specs.Steps.{step_by};
 ghost use Rattle.local.specs.Parents.{Born, stand_of, stand_at, parent_at, parents_of, seen, split, all_there, all_split, creator_in, creator_over, splits_in};
 
 use crate::lookups::bit;
@@ -60,7 +60,7 @@ fn deep_parent(t: &[u8], a: i32, b: i32, m: Depth, x: i32, y: i32, n: usize) -> 
     requires a_bound { (nat_abs a ≤ summable) × (nat_abs b ≤ summable) }
     requires x_bound { (nat_abs x ≤ 10) × (nat_abs y ≤ 10) }
     requires m_nonzero { 0 < m.0 }
-    ensures { result ≡ stand_at t.now (step_end a b m.0 x y) }
+    ensures { result ≡ stand_at t.now (step_by a b m.0 x y) }
 {
     stand(look_up(t, stepped(a, b, m, x, y), n))
 }

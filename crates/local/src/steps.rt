@@ -3,7 +3,7 @@ ghost use Rattle.std.specs.Prelude.{◌≡◌, cond, ◌≤◌, ◌<◌, pos, na
 ghost use Rattle.std.specs.Int.Signed.{quot_z};
 ghost use Rattle.lattice.specs.Bounds.{summable};
 ghost use Rattle.lattice.specs.Points.{normal_of};
-ghost use Rattle.local.specs.Steps.{step_end};
+ghost use Rattle.local.specs.Steps.{step_by};
 
 use crate::lookups::bit;
 use lattice::{Depth, Point, both3, normalise};
@@ -30,7 +30,7 @@ pub fn stepped(a: i32, b: i32, m: Depth, x: i32, y: i32) -> Point
     requires a_bound { (nat_abs a ≤ summable) × (nat_abs b ≤ summable) }
     requires x_bound { (nat_abs x ≤ 10) × (nat_abs y ≤ 10) }
     requires m_nonzero { 0 < m.0 }
-    ensures { result ≡ step_end a b m.0 x y }
+    ensures { result ≡ step_by a b m.0 x y }
 {
     lowest(a + x, b + y, m)
 }

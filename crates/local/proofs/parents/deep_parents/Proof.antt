@@ -14,7 +14,7 @@ use Rattle.lattice.specs.Ranks.{birth_of}
 use Rattle.lattice.specs.RankBounds.{move-first}
 use Rattle.lattice.specs.declared.points.Point.{Point}
 use Rattle.local.specs.BornLaws.{small_size}
-use Rattle.local.specs.Steps.{way_of, way-turned, way-near, step_end, parent-step}
+use Rattle.local.specs.Steps.{way_of, way-turned, way-near, step_by, parent-by}
 use Rattle.local.specs.Parents.{stand_at, parent_at}
 use Rattle.local.proofs.parents.deep_parents.Statement.{statement}
 use Rattle.local.proofs.parents.deep_parents.Tie as tie
@@ -53,11 +53,11 @@ module _ {w : Point} (e : ℕ) (h : w ≡ way_of e) where
   short = (subst (λ (z : ℤ). nat_abs z ≤ 10) (sym x-is) (way-near e h).0, subst (λ (z : ℤ). nat_abs z ≤ 10) (sym y-is) (way-near e h).1)
 
   end : (s : tie.Start) (j : ℕ) → e ≡ birth_of (p s) + 4 * j
-      → stand_at (t s) (step_end (read (p s).a) (read (p s).b) (p s).m.0 (read w.a) (read w.b)) ≡ parent_at (t s) (p s) j
+      → stand_at (t s) (step_by (read (p s).a) (read (p s).b) (p s).m.0 (read w.a) (read w.b)) ≡ parent_at (t s) (p s) j
   end s j g =
-      (λ i. stand_at (t s) (step_end (a-is s i) (b-is s i) (p s).m.0 (x-is i) (y-is i)))
-      ∙ (λ i. stand_at (t s) (step_end (p s).a (p s).b (p s).m.0 ((h ∙ ap way_of g) i).a ((h ∙ ap way_of g) i).b))
-      ∙ ap (stand_at (t s)) (parent-step (p s) j s.requires.1.1)
+      (λ i. stand_at (t s) (step_by (a-is s i) (b-is s i) (p s).m.0 (x-is i) (y-is i)))
+      ∙ (λ i. stand_at (t s) (step_by (p s).a (p s).b (p s).m.0 ((h ∙ ap way_of g) i).a ((h ∙ ap way_of g) i).b))
+      ∙ ap (stand_at (t s)) (parent-by (p s) j s.requires.1.1)
 
 -- each step, by the lattice's rule
 module _ (c : tie.After-foremost-x) where
