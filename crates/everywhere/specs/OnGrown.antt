@@ -30,7 +30,6 @@ use Rattle.mesh.specs.StepLaws.{own-looked, held_same}
 use Rattle.grown.specs.Untorn.{never-torn, divided-grown}
 use Rattle.bring.specs.Bring.{places_of, is_six}
 use Rattle.bring.specs.ChainLaws.{run, places-first}
-pub use Rattle.bring.specs.Costs.{near_most}
 use Rattle.everywhere.specs.Runs.{Division, Run, here, next, run-free}
 use Rattle.everywhere.specs.Missing.{place-missing}
 use Rattle.everywhere.specs.Histories.{absent-held, six-run}
@@ -40,6 +39,11 @@ use Rattle.everywhere.specs.Made.{level_of, denies-x, divide-run, Made, Within, 
 use Rattle.everywhere.specs.Beside.{Beside, creator-six}
 use Rattle.everywhere.specs.Beside as side
 use Rattle.everywhere.specs.Coming.{sound, own, Left, none, some, Coming, coming-beside, coming-start, coming-on}
+
+-- one neighbour subdivided at level n: itself, and where it has to be brought first, two of its own a level lower
+unfoldable pub near_most : ℕ → ℕ
+near_most zero = 1
+near_most (suc i) = 2 * near_most i + 1
 
 near-one : (n : ℕ) → 1 ≤ near_most n
 unfolding near_most

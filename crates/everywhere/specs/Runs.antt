@@ -4,4 +4,12 @@
 -- the vertex brought.
 -- Assumes nothing.
 pub use Rattle.bring.specs.Runs.{Division, divide_at, Run, here, next, run_on, run-free}
-pub use Rattle.bring.specs.BringLaws.{Alike, Six, Reaching, risen}
+pub use Rattle.bring.specs.BringLaws.{Alike, Six, Reaching}
+use Rattle.std.specs.Prelude.{ℕ, suc, ◌%◌}
+use Rattle.lattice.specs.declared.points.Point.{Point}
+use Rattle.lattice.specs.declared.records.Record.{Record}
+use Rattle.growth.specs.Sheets.{vertex}
+
+-- a vertex of level n, brought: degree 6 at its own level and one more, its orientation the level's parity
+abbrev pub risen : Point → ℕ → Record
+risen p n = vertex p 6 (suc n % 2) (suc n)

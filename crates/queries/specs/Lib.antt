@@ -10,3 +10,5 @@ pub mod OppositeLaws
 pub mod ManyLaws
 -- examples that compute
 pub mod Examples
+-- the same in the rows that are lent, and many at once
+pub mod RowExamples
