@@ -28,6 +28,7 @@ pub mod Findings
 pub mod Search
 -- document 02's ticket 4: a vertex brought to degree 6
 pub mod Bring
+pub mod BringEnds
 -- document 02's ticket 5: OFF and OBJ files, whose faces turn left
 pub mod Turning
 pub mod Viewer
