@@ -9,5 +9,7 @@ pub mod Outcomes
 pub mod LineSteps
 pub mod BeginLaws
 pub mod RestoreSteps
+pub mod RestoreLines
 pub mod Keeps
+pub mod TableKeeps
 pub mod CallLaws

@@ -1,5 +1,6 @@
 -- How a reader comes to 0, and to 12: what was read, restored and judged on the way. Each way there and back.
--- `full-ends`, `full-zero`, `full-grown` what is accepted is grown · `reduced-ends`, `reduced-zero`, `reduced-twelve`.
+-- `full-ends`, `full-zero`, `full-grown` what is accepted is grown · `reduced-ends`, `reduced-zero`, `reduced-twelve` · `restored-completed` it ends by the
+-- judgement that salvage has too.
 -- Assumes nothing.
 use Rattle.std.specs.Prelude.{◌≡◌, Bool, ℕ, ◌≤◌, length}
 use Rattle.std.proofs.Math.Path.{refl, ap}
@@ -14,6 +15,7 @@ use Rattle.table.specs.Slots.{lengths_fit, cleared_of}
 use Rattle.writers.specs.Files.{redundant}
 use Rattle.grown.specs.Grown.{is_grown}
 use Rattle.readers.specs.Readers.{Lines, Read, Fault, read_lines, Restored, With, Stopped, restore_all, TablesAfter, tables_after, refused, accepted}
+use Rattle.readers.specs.Readers.{completed}
 use Rattle.readers.specs.Readers.{end_full, end_restored, end_reduced, read_full_of, read_reduced_of}
 use Rattle.readers.specs.FaultLaws.{fault-number, stop-number}
 
@@ -131,3 +133,8 @@ module _ (t s f : List ℕ) where
 
   pub reduced-twelve : (read_reduced_of t s f).number ≡ 12 → ReducedRead true
   reduced-twelve z = reduced-way true z
+
+pub restored-completed : (t s : List ℕ) (rs : List Record) (x : Restored)
+    → end_restored t s rs x ≡ completed (λ number. refused number 0 t s) (λ u. cond (some_of (redundant u) rs) (refused 12 0 t s) (accepted u s)) x
+restored-completed t s rs (Stopped number) = refl
+restored-completed t s rs (With u) = refl

@@ -89,8 +89,9 @@ unfoldable pub restore_all : List Record → Restored → Restored
 restore_all [] x = x
 restore_all (v ∷ vs) x = restore_all vs (restore_star v x)
 
--- "then 11": where restoring stopped, or the table is no grown mesh, a number is refused; else what follows. So the reduced reader ends, and so does the
--- salvage of an old file (document 02, ticket 12: "restores absent neighbours of degree 6 vertices", "then 8 and 11 as that reader has them")
+-- "then 11": where restoring stopped, or the table is no grown mesh, a number is refused; else what follows. So the salvage of an old file ends (document
+-- 02, ticket 12: "restores absent neighbours of degree 6 vertices", "then 8 and 11 as that reader has them"), and so does the reduced reader
+-- (`restored-completed` in Outcomes)
 abbrev pub completed : {A : Type 0} → (ℕ → A) → (List ℕ → A) → Restored → A
 completed refuse follows (Stopped number) = refuse number
 completed refuse follows (With u) = unless (is_grown u) (refuse 11) (follows u)
@@ -124,7 +125,8 @@ read_full_of t s f = unless (lengths_fit t s) (tables_after 1 0 t s) (end_full t
 
 -- "12: grown, but a redundant record was kept in a reduced file": one of the file's records rs is redundant in the table with all of them
 abbrev pub end_restored : List ℕ → List ℕ → List Record → Restored → TablesAfter
-end_restored t s rs x = completed (λ number. refused number 0 t s) (λ u. cond (some_of (redundant u) rs) (refused 12 0 t s) (accepted u s)) x
+end_restored t s rs (Stopped number) = refused number 0 t s
+end_restored t s rs (With u) = unless (is_grown u) (refused 11 0 t s) (cond (some_of (redundant u) rs) (refused 12 0 t s) (accepted u s))
 
 -- "then restoring ..; then 11, 12"
 abbrev pub end_reduced : List ℕ → List ℕ → Lines → TablesAfter

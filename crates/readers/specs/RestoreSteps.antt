@@ -169,7 +169,7 @@ module _ {t₀ t : List ℕ} {v : Record} {j : ℕ} {u : List ℕ} {kept : Bool}
 -- ---- the records of a file, read again
 
 -- the record of a line, before those that follow
-abbrev line_record : (Record → ℕ → List Record) → Line → List Record
+abbrev pub line_record : (Record → ℕ → List Record) → Line → List Record
 line_record rest End = []
 line_record rest Bad = []
 line_record rest (Good r next) = r ∷ rest r next
@@ -212,7 +212,7 @@ pub read-records : (f t : List ℕ) (rs : List Record) (u : List ℕ) → read_l
 read-records f t rs u e = subst (Same (file_records f)) e (same_lines f (length f) 0 1 none t)
 
 -- one line, where enough are left
-records-step : (f : List ℕ) (left p : ℕ) → length f ≤ p + left → (l : Line) → line_at f p ≡ l
+pub records-step : (f : List ℕ) (left p : ℕ) → length f ≤ p + left → (l : Line) → line_at f p ≡ l
     → records_at f left p ≡ line_record (λ r next. records_at f (left - 1) next) l
 unfolding records_at
 records-step f zero p h l e = ap (line_record (λ r next. [])) (sym (line-end f p (omega arith)) ∙ e)
