@@ -3,6 +3,7 @@ pub mod Bring
 pub mod Examples
 -- what it obeys, as the code goes; what it does, turn by turn and on tables of any kind: the crate `everywhere`
 pub mod ChainLaws
+pub mod BareSteps
 pub mod CallLaws
 pub mod Numbers
 pub mod Boundary
