@@ -17,7 +17,7 @@ use Rattle.table.specs.Order.{InOrder}
 use Rattle.table.specs.Slots.{free_slots}
 use Rattle.table.specs.MapLaws.{table_same}
 use Rattle.table.specs.declared.entries.Looked.TheVariants.{Held}
-use Rattle.mesh.specs.Subdivide.{MeshAfter, mesh_after, subdivided, subdivide_vertex, and_then}
+use Rattle.mesh.specs.Subdivide.{MeshAfter, mesh_after, subdivided, subdivide_vertex}
 use Rattle.mesh.specs.SubdivideLaws.{subdivided-order, subdivided-free}
 use Rattle.mesh.specs.WriteLaws.{Standing, subdivided-length}
 use Rattle.mesh.specs.StepLaws.{Given, Divided, denied, done, divided, then-on, then-stop}
