@@ -19,6 +19,7 @@ mod slots;
 
 pub use bytes::{put_word, word};
 pub use entries::{Looked, enter, enter_from, held_in, is_there, look_up, look_up_request};
+pub use lattice::same_point;
 pub use order::{Ordered, check_order, in_order};
 pub use ordered::{slot_by_guess, stands};
 pub use probe::{Found, find};
