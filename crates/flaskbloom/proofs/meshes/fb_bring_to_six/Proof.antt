@@ -13,5 +13,5 @@ returns c =
     let a = s.args in
     sym (asked₂ (λ x y. bring_to_six a.table.now a.scratch.now x y a.m) s.ranges.a s.ranges.b w.bring.ensures)
 
-pub fb-bring-to-six-spec : {M : Type 1} → statement M
-fb-bring-to-six-spec = tie.close (tie.spec (λ c κs. search rules) (λ c. search rules) (λ c. search rules) returns)
+pub fb_bring_to_six_spec : {M : Type 1} → statement M
+fb_bring_to_six_spec = tie.close (tie.spec (λ c κs. search rules) (λ c. search rules) (λ c. search rules) returns)

@@ -15,5 +15,5 @@ returns c =
       sym (asked₂ (λ x y. (subdivide_of t x y a.args.m).bytes) a.ranges.a a.ranges.b s.subdivide.ensures.1),
     )
 
-pub fb-subdivide-spec : {M : Type 1} → statement M
-fb-subdivide-spec = tie.close (tie.spec (λ c κs. search rules) (λ c. search rules) returns)
+pub fb_subdivide_spec : {M : Type 1} → statement M
+fb_subdivide_spec = tie.close (tie.spec (λ c κs. search rules) (λ c. search rules) returns)

@@ -7,8 +7,8 @@ use Rattle.flaskbloom.proofs.numbers.point_numbers.Tie as tie
 
 returns : tie.Need-returns
 returns c =
-    row_back c.before.args.p (record { sfits = omega (arith, c.struct_told.given) }) (record { sfits = omega (arith, c.struct_told.given) })
-    (omega (arith, c.struct_told.given))
+    row_back c.args.p (record { sfits = omega (arith, c.struct_told-1.given) }) (record { sfits = omega (arith, c.struct_told-1.given) })
+    (omega (arith, c.struct_told-1.given))
 
-pub point-numbers-spec : {M : Type 1} → statement M
-point-numbers-spec = tie.close (tie.spec (λ c. search rules) returns)
+pub point_numbers_spec : {M : Type 1} → statement M
+point_numbers_spec = tie.close (tie.spec (λ c. search rules) returns)

@@ -8,9 +8,9 @@ use Rattle.flaskbloom.proofs.numbers.record_numbers.Tie as tie
 returns : tie.Need-returns
 returns c =
     let s = c.before in
-    let g = s.well-formed in
-    record-back s.args.r (record { sfits = omega (arith, c.struct_told.given) }) (record { sfits = omega (arith, c.struct_told.given) })
+    let g = s.well_formed in
+    record-back s.args.r (record { sfits = omega (arith, c.struct_told-1.given) }) (record { sfits = omega (arith, c.struct_told-1.given) })
     (omega (arith, g)) (omega (arith, g)) (omega (arith, g)) (omega (arith, g))
 
-pub record-numbers-spec : {M : Type 1} → statement M
-record-numbers-spec = tie.close (tie.spec (λ c. search rules) (λ c. search rules) (λ c. search rules) (λ c. search rules) returns)
+pub record_numbers_spec : {M : Type 1} → statement M
+record_numbers_spec = tie.close (tie.spec (λ c. search rules) (λ c. search rules) (λ c. search rules) (λ c. search rules) returns)

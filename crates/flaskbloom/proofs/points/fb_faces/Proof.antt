@@ -16,5 +16,5 @@ returns c =
       sym (asked₂ (λ x y. answer_numbers (faces_of t x y a.m)) s.ranges.a s.ranges.b c.faces.ensures.1),
     )
 
-pub fb-faces-spec : {M : Type 1} → statement M
-fb-faces-spec = tie.close (tie.spec (λ c κs. search rules) returns)
+pub fb_faces_spec : {M : Type 1} → statement M
+fb_faces_spec = tie.close (tie.spec (λ c κs. search rules) returns)

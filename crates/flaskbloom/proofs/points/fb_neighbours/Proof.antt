@@ -16,5 +16,5 @@ returns c =
       sym (asked₂ (λ x y. answer_numbers (neighbours_of t x y a.m)) s.ranges.a s.ranges.b c.neighbours.ensures.1),
     )
 
-pub fb-neighbours-spec : {M : Type 1} → statement M
-fb-neighbours-spec = tie.close (tie.spec (λ c κs. search rules) returns)
+pub fb_neighbours_spec : {M : Type 1} → statement M
+fb_neighbours_spec = tie.close (tie.spec (λ c κs. search rules) returns)

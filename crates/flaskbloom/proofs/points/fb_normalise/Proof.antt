@@ -10,8 +10,8 @@ use Rattle.flaskbloom.proofs.points.fb_normalise.Tie as tie
 returns : tie.Need-returns
 returns c =
     let s = c.before.before in
-    let e = asked₂ (λ x y. normal_of x y s.args.m) s.ranges.a s.ranges.b c.before.normalise.ensures in
-    (refl, c.point-numbers.ensures ∙ ap point_numbers (sym e))
+    let e = asked₂ (λ x y. normal_of x y s.args.m) s.ranges.a s.ranges.b c.normalise.ensures in
+    (refl, c.point_numbers.ensures ∙ ap point_numbers (sym e))
 
-pub fb-normalise-spec : {M : Type 1} → statement M
-fb-normalise-spec = tie.close (tie.spec (λ c κs. search rules) (λ c κs. search rules) returns)
+pub fb_normalise_spec : {M : Type 1} → statement M
+fb_normalise_spec = tie.close (tie.spec (λ c κs. search rules) (λ c κs. search rules) returns)

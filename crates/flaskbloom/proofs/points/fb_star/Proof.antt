@@ -15,5 +15,5 @@ returns c =
     let e = sym (asked₂ (λ x y. record_of x y s.args.m s.args.d s.args.k s.args.n) s.ranges.a s.ranges.b k.record_of.ensures) in
     (c.star.ensures.0 ∙ ap (λ (r : Record). (star_of r).number) e, c.star.ensures.1 ∙ ap (λ (r : Record). answer_numbers (star_of r)) e)
 
-pub fb-star-spec : {M : Type 1} → statement M
-fb-star-spec = tie.close (tie.spec (λ c κs. search rules) (λ c κs. search rules) returns)
+pub fb_star_spec : {M : Type 1} → statement M
+fb_star_spec = tie.close (tie.spec (λ c κs. search rules) (λ c κs. search rules) returns)

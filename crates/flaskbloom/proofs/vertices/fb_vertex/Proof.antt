@@ -12,8 +12,8 @@ returns c =
     let k = c.before in
     let s = k.before in
     let a = s.args in
-    let e = sym (asked₂ (λ x y. vertex_of a.centres.now a.pairs.now x y a.m) s.ranges.a s.ranges.b k.vertex.ensures) in
-    (ap (λ (t : VertexAfter). t.number) e, c.record-numbers.ensures ∙ ap (λ (t : VertexAfter). record_row t.vertex) e)
+    let e = sym (asked₂ (λ x y. vertex_of a.centres.now a.pairs.now x y a.m) s.ranges.a s.ranges.b k.vertex-v.ensures) in
+    (ap (λ (t : VertexAfter). t.number) e, c.record_numbers.ensures ∙ ap (λ (t : VertexAfter). record_row t.vertex) e)
 
-pub fb-vertex-spec : {M : Type 1} → statement M
-fb-vertex-spec = tie.close (tie.spec (λ c κs. search rules) (λ c κs. search rules) returns)
+pub fb_vertex_spec : {M : Type 1} → statement M
+fb_vertex_spec = tie.close (tie.spec (λ c κs. search rules) (λ c κs. search rules) returns)
