@@ -1,5 +1,6 @@
 // Where a vertex across from a side can stand: eight places seen from either end, each by a turn and a length from the side itself.
 #![tactic(auto)]
+
 ghost use Rattle.std.specs.Prelude.{◌≡◌, ◌*◌, ◌-◌, ◌^◌, ◌≤◌, ◌<◌, max, nat_abs, pos};
 ghost use Rattle.lattice.specs.Points.{lift};
 ghost use Rattle.across.specs.Across.{StarPoint, factor, factor_of, along_of, across_of, apex_of};

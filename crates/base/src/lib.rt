@@ -3,6 +3,7 @@
 // One public call answers every input: `base`. Its promise cites `base_of` of specs/Base; what follows from it, for whoever stands above, is specs/BaseLaws.
 // The list is judged first, by crate centres, which leaves a mark for each hexagon that is listed.
 #![tactic(auto)]
+
 mod hexagons;
 
 ghost use Rattle.std.specs.Prelude.{◌≡◌};

@@ -3,6 +3,7 @@
 // One public call answers every table and request: `bring`. locate.rt has the search; chain.rt the two functions that call each other, `bring_to_six`
 // and `subdivide_neighbour`; calls.rt the request, all or nothing. The promise cites `bring_to_six` of specs/Bring.
 #![tactic(auto)]
+
 mod calls;
 mod chain;
 mod locate;

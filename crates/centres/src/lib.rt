@@ -3,6 +3,7 @@
 // Each centre is looked at once: a bit for each centre that there can be says which came before, and then which hexagons are listed. `first_bad` judges
 // the list, `is_marked` asks for a hexagon. The promises cite specs/Centres; what the marks stand for is specs/Marks.
 #![tactic(auto)]
+
 ghost use Rattle.std.specs.Prelude.{◌≡◌, true, not, ◌+◌, ◌*◌, ◌≤◌, ◌<◌, leb, nat_abs, length};
 ghost use Rattle.centres.specs.Centres.{centre_at, good_centre, bad_at, first_bad};
 ghost use Rattle.centres.specs.Marks.{places, number_of, in_marks, Marked};

@@ -2,6 +2,7 @@
 //
 // near.rt has the whole numbers of ten-thousandths, texts.rt their text, written from its end back. The promises cite specs/Coordinates.
 #![tactic(auto)]
+
 mod near;
 mod texts;
 

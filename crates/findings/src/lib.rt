@@ -3,6 +3,7 @@
 // One public call answers every table, list and output: `join`. line.rt parses a line of the list, lists.rt judges them all, texts.rt has the two kinds of
 // lines of the joined list, keys.rt sorts, lines.rt lays and writes. The promises cite specs/Findings.
 #![tactic(auto)]
+
 ghost use Rattle.std.specs.Prelude.{◌≡◌};
 ghost use Rattle.table.specs.Slots.{slots_of};
 ghost use Rattle.table.specs.Order.{InOrder};

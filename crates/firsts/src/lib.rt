@@ -6,6 +6,7 @@
 // first (fits.rt, strides.rt).
 // The promises cite specs/: Faces, Earlier, Strides, Choices.
 #![tactic(auto)]
+
 mod choices;
 pub mod earlier;
 mod faces;

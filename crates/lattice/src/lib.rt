@@ -5,6 +5,7 @@
 // The promises cite specs/: Points, Records, Patterns, Stars, Subdivision, and Ranks for the model of grown meshes; what is asked of bounds is in Bounds
 // and RecordLaws.
 #![tactic(auto)]
+
 mod arms;
 mod numbers;
 mod patterns;

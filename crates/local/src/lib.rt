@@ -3,6 +3,7 @@
 // `all_pass` tests a table, record by record, each by those it hangs on. It is for the proved floors above and asks for what it stands on.
 // The promises cite growth's specs/Local at `sheet_of` (specs/Sheet); what is looked up once for two of its tests is in specs/Parents.
 #![tactic(auto)]
+
 mod checks;
 mod lookups;
 mod parents;

@@ -6,6 +6,7 @@
 // checks.rt decides 7 and keeps the slots that its searches met; writes.rt makes the table after: the centre and the old vertices at those
 // slots, the new ones by searches that go on from them. The promises cite specs/Subdivide.
 #![tactic(auto)]
+
 mod calls;
 mod checks;
 mod writes;

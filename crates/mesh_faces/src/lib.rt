@@ -3,6 +3,7 @@
 // For the viewer's files: fresh.rt takes the face of a corner where no earlier vertex has it, torn.rt tells where 7 comes from.
 // The promises cite specs/: MeshFaces, Once.
 #![tactic(auto)]
+
 mod fresh;
 mod torn;
 

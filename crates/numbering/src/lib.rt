@@ -4,6 +4,7 @@
 // slot, where `base_of` finds room, and `guess` reads one. Before any byte is written `widths_of` and `number_width` tell how many digits a number has.
 // The promises cite specs/: Numbering, Ranks, Guesses.
 #![tactic(auto)]
+
 mod guesses;
 mod numbers;
 

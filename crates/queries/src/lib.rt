@@ -5,6 +5,7 @@
 // two opposites at each of six corners. `chosen`, the opposite of one corner in a table in order, is for the floors above.
 // The promises of the three cite specs/: Queries.
 #![tactic(auto)]
+
 mod answers;
 mod many;
 mod opposites;

@@ -4,6 +4,7 @@
 // reader apart, and the work is `text::parse_line`'s, on the slice and a number. Who has to know the line that he is on calls `line_at`, whose
 // parameters are plain; who reads a file again that was read before, as restoring does, calls `parse_line`.
 #![tactic(auto)]
+
 ghost use Rattle.std.specs.Prelude.{◌≡◌, ◌+◌, ◌<◌, ◌^◌};
 ghost use Rattle.text.specs.Line.{line_at};
 ghost use Rattle.reader.specs.Met.{numbered, met_at};

@@ -4,6 +4,7 @@
 // from them, for whoever stands above, is in specs/ReadLaws, RestoreLaws and Outcomes. `prepare` is how both begin, for a call that refuses more than they do
 // (the census): the length test, and both tables cleared.
 #![tactic(auto)]
+
 mod begin;
 mod complete;
 mod lines;

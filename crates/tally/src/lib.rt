@@ -5,6 +5,7 @@
 // table in order: it tallies where the local check passes, and surveys elsewhere. `count`, in rows.rt, is for any bytes.
 // The promises cite specs/Count and together's specs/Tally.
 #![tactic(auto)]
+
 ghost use Rattle.std.specs.Prelude.{◌≡◌, cond, ◌≤◌, ◌<◌, nat_abs, ◌+ℤ◌};
 ghost use Rattle.lattice.specs.Bounds.{Small};
 ghost use Rattle.lattice.specs.Points.{pt};

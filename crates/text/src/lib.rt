@@ -6,6 +6,7 @@
 // `order` and `ordered` to sort; for lines of another form what a line is made of: `read_number`, `read_point`, `point_length`, `number_back`, `point_back`,
 // `digits_back`, `write_bytes`; for lines that others wrote `spelled`, a line of any numbers, and `in_limits`.
 #![tactic(auto)]
+
 mod bytes;
 mod decimal;
 mod limits;

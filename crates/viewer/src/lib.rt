@@ -4,6 +4,7 @@
 // the vertices' numbers `numbering`'s, the lines `viewer_lines`'; keys.rt has the faces' keys.
 // The promises cite specs/Viewer.
 #![tactic(auto)]
+
 ghost use Rattle.std.specs.Prelude.{◌≡◌, true, false, List, ◌++◌, ℕ, ◌+◌, ◌≤◌, ltb, length, drop};
 ghost use Rattle.table.specs.Slots.{slots_of};
 ghost use Rattle.table.specs.Order.{InOrder};

@@ -5,6 +5,7 @@
 // `write_faces` write the lines of sorted keys from the last back, `keys_length` tells how long those of faces are (lines.rt).
 // The promises cite specs/: ViewerLines, Packed, Lines.
 #![tactic(auto)]
+
 mod corners;
 mod lengths;
 mod lines;

@@ -3,6 +3,7 @@
 // Two public calls answer every table and output: `write_full` and `write_reduced`. kept.rt goes through the slots, named.rt says which records
 // are left out, keys.rt has what they are sorted by, lines.rt writes. The promises cite specs/Files.
 #![tactic(auto)]
+
 ghost use Rattle.std.specs.Prelude.{◌≡◌, ltb, length};
 ghost use Rattle.table.specs.Order.{InOrder};
 ghost use Rattle.table.specs.Slots.{slots_of, free_slots};
