@@ -1,8 +1,7 @@
 // A reader on a line of a lent file. Document 01, "Files": "The reader reads the lent file line by line and knows the line it is on, first line 1."
 //
-// The reader holds the file, so the prover does not walk the functions over it by itself, and each is proved by hand. They are thin: each takes the
-// reader apart, and the work is `text::parse_line`'s, on the slice and a number. Who has to know the line that he is on calls `line_at`, whose
-// parameters are plain; who reads a file again that was read before, as restoring does, calls `parse_line`.
+// The functions over the reader are thin: each takes it apart, and the work is `text::parse_line`'s, on the slice and a number. Who has to know the line
+// that he is on calls `line_at`, whose parameters are plain; who reads a file again that was read before, as restoring does, calls `parse_line`.
 #![tactic(auto)]
 
 ghost use Rattle.std.specs.Prelude.{◌≡◌, ◌+◌, ◌<◌, ◌^◌};
