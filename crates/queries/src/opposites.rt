@@ -48,6 +48,7 @@ fn kept(t: &[u8], s: Spot, n: usize) -> Spot
 }
 
 // The opposite of corner j: the first one if that is in the table, else the second if that is; a corner may have none.
+#[tactic(auto, unfolding(crate::specs::Queries::chosen_at))]
 pub fn chosen(t: &[u8], v: Record, j: u8, n: usize) -> Spot
     requires table { Table t.now n }
     requires inner { Inner v × (j < v.d) }
