@@ -2,25 +2,18 @@
 
 use crate::lists::List;
 use crate::place::Place;
-use crate::plan::{Changed, Plan};
-use crate::points;
-use crate::skips;
-use crate::trouble::{Outcome, Refused, Trouble};
+use crate::plan::Plan;
+use crate::points::{point, point_word};
+use crate::trouble::{Outcome, Trouble};
 use crate::words::{Command, Words};
-use flaskbloom::{Point, Refusal};
-use std::ffi::OsStr;
-
-/// A point from the command line.
-pub fn point_word(command: &Command, word: &OsStr) -> Outcome<Point> {
-    let wrong = |fault| command.wrong(&format!("{} is no point a,b,m: {fault}", word.to_string_lossy()));
-    points::point(word.as_encoded_bytes()).map_err(wrong)
-}
+use flaskbloom::{Point, RefusedAt};
 
 pub struct Asked {
     pub plan: Plan,
     pub points: Vec<Point>,
-    /// The lines of the points that were listed; those that were typed have none.
-    lines: Vec<Option<Place>>,
+    /// How many of them were typed.
+    typed: usize,
+    list: Option<List>,
 }
 
 impl Asked {
@@ -28,34 +21,28 @@ impl Asked {
     pub fn load(command: &Command, words: &Words) -> Outcome<Asked> {
         let (plan_word, point_words) = words.plain.split_first().ok_or_else(|| command.wrong("no plan is given"))?;
         let mut points = point_words.iter().map(|word| point_word(command, word)).collect::<Outcome<Vec<Point>>>()?;
-        let mut lines = vec![None; points.len()];
-        if points.is_empty() && !words.has("--list") {
+        let typed = points.len();
+        if typed == 0 && !words.has("--list") {
             return Err(command.wrong("no point is given"));
         }
         let plan = Plan::load(plan_word)?;
-        if let Some(path) = words.value("--list") {
-            for (place, p) in List::load(words, path)?.parsed(words, Refusal::BadLine, points::point)? {
-                points.push(p);
-                lines.push(Some(place));
-            }
+        let list = words.value("--list").map(List::load).transpose()?;
+        if let Some(list) = &list {
+            points.extend(list.parsed(point)?);
         }
-        Ok(Asked { plan, points, lines })
+        Ok(Asked { plan, points, typed, list })
     }
 
-    /// What was refused ends the command, or with --skip is told; a point is told as it was spelled, with the list's line where it has one.
-    pub fn judged(&self, words: &Words, changed: &Changed) -> Outcome<()> {
-        let refused = |(at, refusal, what): &(usize, Refusal, String)| {
-            let (name, p) = (self.plan.name.clone(), self.points[*at]);
-            let place = match self.lines[*at].clone() {
-                None => Place::Point(name, p),
-                Some(line) => Place::Listed(name, p, Box::new(line)),
-            };
-            Refused::saying(place, *refusal, what)
+    /// The point at fault, as it was spelled, and the list's line where it has one; `at` counts the points before it.
+    pub fn refused(&self, refused: RefusedAt) -> Trouble {
+        let at = usize::try_from(refused.at).unwrap_or(usize::MAX);
+        let line = self.list.as_ref().zip(at.checked_sub(self.typed)).map(|(list, item)| list.place(item));
+        let name = self.plan.name.clone();
+        let place = match (self.points.get(at), line) {
+            (Some(p), None) => Place::Point(name, *p),
+            (Some(p), Some(line)) => Place::Listed(name, *p, Box::new(line)),
+            (None, _) => Place::File(name),
         };
-        let refused: Vec<Refused> = changed.refused.iter().map(refused).collect();
-        match refused.last() {
-            Some(last) if last.refusal == Refusal::TooFewSlots => Err(Trouble::Refused(refused)), // no other will fit either
-            _ => skips::judged(words, refused),
-        }
+        Trouble::refused(place, refused.refusal)
     }
 }

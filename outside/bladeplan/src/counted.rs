@@ -1,9 +1,8 @@
 //! Count the vertices in, count the vertices out: a plan's file that goes out is first read back and counted.
 
 use crate::files;
-use crate::log;
-use crate::outputs::{self, Answer, Over};
-use crate::plan::{self, Plan};
+use crate::log::Kept;
+use crate::plan::Plan;
 use crate::trouble::Outcome;
 use crate::words::{Command, Words};
 
@@ -12,26 +11,20 @@ pub fn write(command: &Command, words: &Words, came_in: &str, file: &[u8]) -> Ou
     write_logged(command, words, came_in, file, None)
 }
 
-/// The same, with the text of the plan's log where one is kept.
-pub fn write_logged(command: &Command, words: &Words, came_in: &str, file: &[u8], log: Option<Vec<u8>>) -> Outcome<()> {
+/// The same, with the plan's log where one is kept.
+pub fn write_logged(command: &Command, words: &Words, came_in: &str, file: &[u8], log: Option<Kept>) -> Outcome<()> {
     let out = Plan::read("the output", file)?;
-    let mut answers = vec![Answer { option: "--output", kind: &plan::OUTPUT, bytes: file, over: Over::Like }];
-    answers.extend(log.iter().map(|log| Answer { option: "--log", kind: &log::OUTPUT, bytes: log, over: Over::Grown }));
-    outputs::write_all(words, &answers)?;
+    files::write_with(words.output(), file, log)?;
     if !words.quiet() {
         files::say(&format!("{}: {came_in}, {}", command.name, vertices(&out, "out")));
     }
     Ok(())
 }
 
-/// How many there are of a thing.
-pub fn many(count: usize, what: &str) -> String {
-    format!("{count} {what}{}", if count == 1 { "" } else { "s" })
-}
-
-/// How many hexagons and subdivisions there are.
+/// How many hexagons and subdivisions came in.
 pub fn making(hexagons: usize, subdivisions: usize) -> String {
-    format!("{} and {}", many(hexagons, "hexagon"), many(subdivisions, "subdivision"))
+    let many = |count: usize, what: &str| format!("{count} {what}{}", if count == 1 { "" } else { "s" });
+    format!("{} and {} in", many(hexagons, "hexagon"), many(subdivisions, "subdivision"))
 }
 
 /// How many vertices of a plan came in or went out, and on how many lines where these are fewer.

@@ -21,18 +21,6 @@ pub fn shown(path: &OsStr) -> String {
     }
 }
 
-/// Where a path leads, however it is written; also where nothing is yet.
-pub fn led_to(path: &OsStr) -> PathBuf {
-    let path = Path::new(path);
-    let by_directory = || Some(fs::canonicalize(directory(path)).ok()?.join(path.file_name()?));
-    fs::canonicalize(path).ok().or_else(by_directory).unwrap_or_else(|| path.to_path_buf())
-}
-
-/// The directory that a file is in.
-fn directory(path: &Path) -> &Path {
-    path.parent().filter(|directory| *directory != Path::new("")).unwrap_or(Path::new("."))
-}
-
 /// The first `limit` bytes of a file, or of standard input for `-`.
 pub fn read(path: &OsStr, limit: u64) -> Outcome<Vec<u8>> {
     let mut bytes = Vec::new();
@@ -43,25 +31,21 @@ pub fn read(path: &OsStr, limit: u64) -> Outcome<Vec<u8>> {
     done.map(|_| bytes).map_err(|error| Trouble::file(&shown(path), error))
 }
 
-/// Writes to standard output.
-pub fn print(bytes: &[u8]) -> Outcome<()> {
-    standard_output(bytes).map_err(|error| Trouble::file("standard output", error))
+/// Writes to standard output, or to the file named: whole, or not at all.
+pub fn write(to: Option<&OsStr>, bytes: &[u8]) -> Outcome<()> {
+    match to {
+        Some(path) if path != "-" => replace(Path::new(path), bytes).map_err(|error| Trouble::file(&shown(path), error)),
+        _ => standard_output(bytes).map_err(|error| Trouble::file("standard output", error)),
+    }
 }
 
-/// Bytes that are to take a file's place: where they stand, and where they go; nothing where they went already. Left alone they are removed.
-pub struct Ready {
-    name: String,
-    way: Option<(PathBuf, PathBuf)>,
-    /// Locked until they are there.
-    _file: Option<File>,
-}
-
-/// The bytes for the file at a path, written beside it. Whether it may be replaced is for `outputs` to say.
-pub fn ready(path: &OsStr, bytes: &[u8]) -> Outcome<Ready> {
-    let mut ready = Ready { name: shown(path), way: None, _file: None };
-    let made = ready.make(Path::new(path), bytes);
-    made.map_err(|error| Trouble::file(&ready.name, error))?;
-    Ok(ready)
+/// The same, and a second file with it: its bytes are ready before the first is written, and take their place right after.
+pub fn write_with(to: Option<&OsStr>, bytes: &[u8], second: Option<(&OsStr, Vec<u8>)>) -> Outcome<()> {
+    let Some((path, also)) = second else { return write(to, bytes) };
+    let named = |error| Trouble::file(&shown(path), error);
+    let also = ready(Path::new(path), &also).map_err(named)?;
+    write(to, bytes)?;
+    also.put().map_err(named)
 }
 
 fn standard_output(bytes: &[u8]) -> io::Result<()> {
@@ -76,41 +60,56 @@ pub fn say(line: &str) {
     let _ = io::stderr().write_all(format!("bladeplan: {plain}\n").as_bytes());
 }
 
+/// A file takes these bytes by a rename, so that it is the old one or the new one at any moment. A link stays, its target changes; what
+/// is no plain file (a device, a pipe) is written as it is.
+fn replace(path: &Path, bytes: &[u8]) -> io::Result<()> {
+    ready(path, bytes)?.put()
+}
+
+/// Bytes that are to take a file's place: where they stand, and where they go. Nothing where they went already.
+struct Ready {
+    way: Option<(PathBuf, PathBuf)>,
+    /// Locked until they are there.
+    _file: Option<File>,
+}
+
 impl Ready {
-    /// The file takes the bytes by a rename, so that it is the old one or the new one at any moment.
-    pub fn put(mut self) -> Outcome<()> {
-        let Some((beside, target)) = &self.way else { return Ok(()) };
-        fs::rename(beside, target).map_err(|error| Trouble::file(&self.name, error))?;
+    fn put(mut self) -> io::Result<()> {
+        let Some((from, to)) = &self.way else { return Ok(()) };
+        fs::rename(from, to)?;
         self.way = None;
         Ok(())
-    }
-
-    /// A link stays, its target changes; what is no plain file (a device, a pipe) is written as it is.
-    fn make(&mut self, path: &Path, bytes: &[u8]) -> io::Result<()> {
-        let target = fs::canonicalize(path).unwrap_or_else(|_| path.to_path_buf());
-        let old = fs::metadata(&target).ok();
-        if old.as_ref().is_some_and(|old| !old.is_file()) {
-            return OpenOptions::new().write(true).open(&target)?.write_all(bytes);
-        }
-        clear_away(&target);
-        let (beside, file) = beside(&target)?;
-        self.way = Some((beside, target));
-        fill(self._file.insert(file), bytes, old)
     }
 }
 
 impl Drop for Ready {
     fn drop(&mut self) {
-        if let Some((beside, _)) = &self.way {
-            let _ = fs::remove_file(beside);
+        if let Some((from, _)) = &self.way {
+            let _ = fs::remove_file(from);
         }
     }
+}
+
+fn ready(path: &Path, bytes: &[u8]) -> io::Result<Ready> {
+    let target = fs::canonicalize(path).unwrap_or_else(|_| path.to_path_buf());
+    let old = fs::metadata(&target).ok();
+    if old.as_ref().is_some_and(|old| !old.is_file()) {
+        OpenOptions::new().write(true).open(&target)?.write_all(bytes)?;
+        return Ok(Ready { way: None, _file: None });
+    }
+    clear_away(&target);
+    let (beside, file) = beside(&target)?;
+    let mut ready = Ready { way: Some((beside, target)), _file: None };
+    fill(&file, bytes, old)?;
+    ready._file = Some(file);
+    Ok(ready)
 }
 
 /// Removes what runs that were killed left in the target's directory. A run keeps its file locked until it has renamed it, so a file that
 /// can be locked is nobody's.
 fn clear_away(target: &Path) {
-    for entry in fs::read_dir(directory(target)).into_iter().flatten().flatten() {
+    let place = target.parent().filter(|place| *place != Path::new("")).unwrap_or(Path::new("."));
+    for entry in fs::read_dir(place).into_iter().flatten().flatten() {
         if is_beside(&entry.file_name()) && entry.file_type().is_ok_and(|kind| kind.is_file()) {
             let left = File::open(entry.path());
             if left.as_ref().is_ok_and(|left| left.try_lock().is_ok()) {

@@ -1,42 +1,28 @@
 //! A log: the hexagons that a plan was laid of and the subdivisions made of it since, in an order in which they can be made. Text, one line each, tabs
-//! between: a, b for a hexagon; after the last of those a, b, m and the level that the vertex had for a subdivision. It is read as the lists that people
-//! write are, and what they wrote into it stays.
+//! between: a, b for a hexagon; after the last of those a, b, m and the level that the vertex had for a subdivision. What a list that people write
+//! may have besides, this may too.
 
-use crate::advice;
-use crate::centres;
-use crate::fields::{found, Column, Fault};
-use crate::lists::{self, List};
-use crate::outputs::{self, Output};
-use crate::patience;
+use crate::lists::List;
 use crate::place::Place;
-use crate::plan::{Plan, NEW_VERTICES};
-use crate::points::{self, spelled};
+use crate::plan::{order, Plan, NEW_VERTICES};
+use crate::points::{strict, Numbers};
 use crate::sizes;
-use crate::trouble::{words as told, Outcome, Refused, Trouble};
+use crate::trouble::{Outcome, Trouble};
 use crate::words::{Command, Words};
 use flaskbloom::{normalise, Division, Point, Record, Refusal, RefusedAt, Table};
+use std::collections::HashMap;
 use std::ffi::OsStr;
 
-/// A log without a word of a person's in it, which is no list of centres either.
-pub const OUTPUT: Output = Output { name: "a log", is_one: is_log };
+/// Where a log goes, and its text.
+pub type Kept<'a> = (&'a OsStr, Vec<u8>);
 
 /// No vertex is subdivided at this level.
-pub const LAST_LEVEL: u8 = 12;
-
-/// The numbers of a subdivision.
-const COLUMNS: [Column; 4] = [
-    Column { name: "a", least: i32::MIN as i64, most: i32::MAX as i64 },
-    Column { name: "b", least: i32::MIN as i64, most: i32::MAX as i64 },
-    Column { name: "m", least: 0, most: u8::MAX as i64 },
-    Column { name: "level", least: 0, most: u8::MAX as i64 },
-];
+const LAST_LEVEL: u8 = 12;
 
 pub struct Log {
     pub list: List,
     pub hexagons: Vec<[i32; 2]>,
     pub made: Vec<Division>,
-    /// As it was read.
-    text: Vec<u8>,
 }
 
 enum Line {
@@ -45,33 +31,21 @@ enum Line {
 }
 
 /// A line of a log, its numbers as in a plan's file.
-fn line(text: &[u8]) -> Result<Line, Fault> {
-    let fields: Vec<&[u8]> = text.split(|byte| *byte == b'\t').collect();
-    let number = |at: usize| COLUMNS[at].number(at + 1, fields[at]);
-    let was = match fields.len() {
-        2 => return points::centre(text).map(Line::Hexagon),
-        4 => {
-            let point = Point::new(number(0)? as i32, number(1)? as i32, number(2)? as u8);
-            return Ok(Line::Made(Division { point, level: number(3)? as u8 }));
-        }
-        1 => found(text),
-        many => format!("{many} fields"),
-    };
-    Err(Fault::line(format!("{was} where a hexagon (a and b) or a subdivision (a, b, m and level) belongs, tabs between")))
-}
-
-/// Every line is one of a log, hexagons first, and the last is a subdivision.
-fn is_log(text: &[u8]) -> bool {
-    let lines = text.strip_suffix(b"\n").unwrap_or(b"?").split(|byte| *byte == b'\n');
-    let made: Result<Vec<bool>, Fault> = lines.map(|text| Ok(matches!(line(text)?, Line::Made(_)))).collect();
-    made.is_ok_and(|made| made.is_sorted() && made.ends_with(&[true]))
+fn line(text: &str) -> Option<Line> {
+    let numbers: Numbers = text.split('\t').map(strict).collect::<Option<_>>()?;
+    let small = |x: i32| u8::try_from(x).ok();
+    match numbers[..] {
+        [a, b] => Some(Line::Hexagon([a, b])),
+        [a, b, m, level] => Some(Line::Made(Division { point: Point::new(a, b, small(m)?), level: small(level)? })),
+        _ => None,
+    }
 }
 
 /// The file that the words name for a log that is kept; standard input can keep none, nor can the plan's own file.
 pub fn kept_in<'a>(command: &Command, words: &'a Words) -> Outcome<Option<&'a OsStr>> {
     match words.value("--log") {
         Some(path) if path == "-" => Err(command.wrong("--log needs a file")),
-        Some(_) if outputs::are_one_place(words, "--log") => Err(command.wrong("--log and -o name one file")),
+        Some(path) if words.output() == Some(path) => Err(command.wrong("--log and -o name one file")),
         path => Ok(path),
     }
 }
@@ -81,36 +55,29 @@ pub fn hexagon_lines(hexagons: &[[i32; 2]]) -> String {
     hexagons.iter().map(|[a, b]| format!("{a}\t{b}\n")).collect()
 }
 
+fn made_lines(made: &[Division]) -> String {
+    made.iter().map(|x| format!("{}\t{}\t{}\t{}\n", x.point.a, x.point.b, x.point.m, x.level)).collect()
+}
+
 impl Log {
-    /// The log in a file; 9 at the lines that are none of a log, and at hexagons past the first subdivision. None is ever left out.
-    pub fn load(words: &Words, path: &OsStr) -> Outcome<Log> {
-        let (name, text) = lists::read(path)?;
-        let list = List::of(words, name, &text);
-        let (mut hexagons, mut made, mut refused) = (Vec::new(), Vec::new(), Vec::new());
-        for (place, text) in list.items() {
-            match line(text) {
-                Ok(Line::Hexagon(_)) if !made.is_empty() => {
-                    refused.push(Refused::saying(
-                        place,
-                        Refusal::BadLine,
-                        "a hexagon below a subdivision, where it belongs above all of these",
-                    ));
-                }
-                Ok(Line::Hexagon(centre)) => hexagons.push(centre),
-                Ok(Line::Made(x)) => made.push(x),
-                Err(fault) => refused.push(Refused::saying(place, Refusal::BadLine, fault)),
+    /// The log in a file; 9 at the first line that is none of a log, or at a hexagon past the first subdivision.
+    pub fn load(path: &OsStr) -> Outcome<Log> {
+        let list = List::load(path)?;
+        let (mut hexagons, mut made) = (Vec::new(), Vec::new());
+        for (item, line) in list.parsed(line)?.into_iter().enumerate() {
+            match line {
+                Line::Hexagon(centre) if made.is_empty() => hexagons.push(centre),
+                Line::Hexagon(_) => return Err(Trouble::refused(list.place(item), Refusal::BadLine)),
+                Line::Made(x) => made.push(x),
             }
         }
-        match refused.is_empty() {
-            true => Ok(Log { list, hexagons, made, text }),
-            false => Err(list.refused(refused)),
-        }
+        Ok(Log { list, hexagons, made })
     }
 
     /// The log that the words name, if they name one, where it is this plan's: every vertex as the second engine has it by the log, and as many.
     pub fn of_plan(command: &Command, words: &Words, plan: &Plan) -> Outcome<Option<Log>> {
         let Some(path) = kept_in(command, words)? else { return Ok(None) };
-        let log = Log::load(words, path)?;
+        let log = Log::load(path)?;
         match log.agreeing(plan)? == plan.records().len() && log.vertices()? == plan.records().len() {
             true => Ok(Some(log)),
             false => Err(log.not_of(plan)),
@@ -122,30 +89,23 @@ impl Log {
         let laid = self.hexagons.iter().map(|[a, b]| plan.vertex(Point::new(*a, *b, 0)).is_some());
         let risen = |x: &Division| plan.vertex(normalise(x.point)).is_some_and(|r| r.degree == 6 && r.level > x.level);
         let item = laid.chain(self.made.iter().map(risen)).position(|has| !has);
-        let (name, whose) = (&plan.name, "it is another plan's log, or one of them was changed without the other");
-        let (place, what) = match item {
-            Some(item) if item < self.hexagons.len() => (self.list.place(item), format!("{name} has not got this hexagon")),
-            Some(item) => (self.list.place(item), format!("{name} has not got this subdivision")),
-            None => (Place::File(self.list.name.clone()), format!("{name} has more than it tells of")),
-        };
-        Trouble::Refused(vec![Refused::saying(place, Refusal::NotLeft, format!("{what}: {whose}"))])
+        let place = item.map_or(Place::File(self.list.name.clone()), |item| self.list.place(item));
+        Trouble::refused(place, Refusal::NotLeft)
     }
 
-    /// This log's text with some subdivisions more.
-    pub fn with(self, more: &[Division]) -> Vec<u8> {
-        let mut text = self.text;
+    /// This log's file with some subdivisions more.
+    pub fn with<'a>(self, words: &'a Words, more: &[Division]) -> Option<Kept<'a>> {
+        let mut text = self.list.bytes;
         if !text.ends_with(b"\n") {
             text.push(b'\n');
         }
-        let lines = more.iter().map(|x| format!("{}\t{}\t{}\t{}\n", x.point.a, x.point.b, x.point.m, x.level));
-        text.extend(lines.collect::<String>().into_bytes());
-        text
+        text.extend(made_lines(more).into_bytes());
+        words.value("--log").map(|path| (path, text))
     }
 
     /// What the second engine has at these points.
-    fn records(&self, points: &[Point]) -> Outcome<Vec<Option<Record>>> {
-        let what = format!("{}: {} subdivisions", self.list.name, self.made.len());
-        patience::shown(&what, || flaskbloom::vertices(&self.hexagons, &self.made, points)).map_err(|refusal| self.refused(refusal))
+    pub fn records(&self, points: &[Point]) -> Outcome<Vec<Option<Record>>> {
+        flaskbloom::vertices(&self.hexagons, &self.made, points).map_err(|refusal| self.refused(refusal))
     }
 
     /// How many vertices of a plan are as the second engine has them.
@@ -174,13 +134,13 @@ impl Log {
             let mut table = Table::base(slots, &self.hexagons)?;
             table.subdivide_all(&points).map(|()| table)
         });
-        grown.map_err(|refused| self.whole_refused(refused.refusal))
+        grown.map_err(|refused| Trouble::refused(Place::File(self.list.name.clone()), refused.refusal))
     }
 
-    /// A refusal of the lists, at its line: the bad hexagons, or the first subdivision that cannot be.
+    /// A refusal of the lists, at its line: the bad hexagon, or the first subdivision that cannot be.
     fn refused(&self, refusal: Refusal) -> Trouble {
         if refusal == Refusal::BadCentre {
-            return self.base().err().unwrap_or_else(|| self.whole_refused(refusal));
+            return self.base().err().unwrap_or_else(|| Trouble::refused(Place::File(self.list.name.clone()), refusal));
         }
         let good = |made: usize| flaskbloom::vertices(&self.hexagons, &self.made[..made], &[]).is_ok();
         let (mut most, mut few) = (0, self.made.len());
@@ -188,56 +148,56 @@ impl Log {
             let half = (most + few) / 2;
             (most, few) = if good(half) { (half, few) } else { (most, half) };
         }
-        Trouble::Refused(vec![Refused::saying(self.list.place(self.hexagons.len() + most), refusal, self.cannot_be(most))])
-    }
-
-    /// Why a subdivision cannot be after those above it, which can.
-    fn cannot_be(&self, at: usize) -> String {
-        let (x, above) = (self.made[at], "by the lines above");
-        let p = spelled(normalise(x.point));
-        let answer = flaskbloom::vertices(&self.hexagons, &self.made[..at], &[x.point]).ok().and_then(|answers| answers[0]);
-        match answer {
-            None => format!("no vertex stands at {p} {above}"),
-            Some(r) if r.degree == 0 => format!("{p} stands on the rim {above}, and six neighbours are asked for"),
-            Some(r) if r.degree != 6 => format!("{p} has {} neighbours {above}, and six are asked for", r.degree),
-            Some(r) if r.level == LAST_LEVEL => format!("{p} is subdivided twelve times {above}, which is as deep as it goes"),
-            Some(r) => {
-                Fault::field(4, COLUMNS[3].name, format!("{} where {} belongs: so deep is {p} {above}", x.level, r.level)).to_string()
-            }
-        }
+        Trouble::refused(self.list.place(self.hexagons.len() + most), refusal)
     }
 
     fn base_refused(&self, refused: RefusedAt) -> Trouble {
-        match refused.refusal {
-            Refusal::BadCentre if !self.hexagons.is_empty() => {
-                let listed: Vec<centres::Listed> =
-                    self.hexagons.iter().enumerate().map(|(item, one)| (self.list.place(item), *one)).collect();
-                Trouble::Refused(centres::bad(&listed, refused.at as usize).into_values().collect())
-            }
-            other => self.whole_refused(other),
+        match (refused.refusal, usize::try_from(refused.at)) {
+            (Refusal::BadCentre, Ok(item)) => Trouble::refused(self.list.place(item), refused.refusal),
+            _ => Trouble::refused(Place::File(self.list.name.clone()), refused.refusal),
         }
-    }
-
-    /// A refusal that no line is to blame for.
-    fn whole_refused(&self, refusal: Refusal) -> Trouble {
-        let what = match refusal {
-            Refusal::BadCentre => centres::NONE.to_string(),
-            Refusal::TooFewSlots => advice::too_large(),
-            other => told(other).to_string(),
-        };
-        Trouble::Refused(vec![Refused::saying(Place::File(self.list.name.clone()), refusal, what)])
     }
 }
 
-#[cfg(test)]
-mod tests {
-    use super::*;
+/// The log, where one is kept, with the subdivisions of these points in turn, which led to the plan in this file.
+pub fn in_turn<'a>(log: Option<Log>, words: &'a Words, points: &[Point], file: &[u8]) -> Outcome<Option<Kept<'a>>> {
+    let Some(log) = log else { return Ok(None) };
+    Ok(log.with(words, &of_turns(points, &Plan::read("the output", file)?)))
+}
 
-    #[test]
-    fn a_list_of_centres_is_no_log() {
-        assert!(is_log(b"0\t0\n1\t1\n1\t0\t0\t0\n") && is_log(b"1\t0\t0\t0\n"));
-        for none in ["", "0\t0\n1\t1\n", "# mine\n0\t0\n1\t0\t0\t0\n", "0\t0\n1\t0\t0\t0", "1\t0\t0\t0\n0\t0\n", "0\t0\n1\t0\t0\n"] {
-            assert!(!is_log(none.as_bytes()), "{none}");
-        }
+/// The subdivisions of these points in turn, which led to this plan: the level of each is that of the end, less one for each time from then on.
+fn of_turns(points: &[Point], after: &Plan) -> Vec<Division> {
+    let mut levels: HashMap<(u8, i32, i32), u8> = HashMap::new();
+    let mut made: Vec<Division> = Vec::new();
+    for p in points.iter().rev() {
+        let point = normalise(*p);
+        let level = levels.entry(order(point)).or_insert_with(|| after.vertex(point).map_or(0, |r| r.level));
+        *level = level.saturating_sub(1);
+        made.push(Division { point, level: *level });
     }
+    made.reverse();
+    made
+}
+
+/// The log, where one is kept, with what leads from a plan to the finer one in this file.
+pub fn finer<'a>(log: Option<Log>, words: &'a Words, before: &Plan, file: &[u8]) -> Outcome<Option<Kept<'a>>> {
+    let Some(log) = log else { return Ok(None) };
+    Ok(log.with(words, &between(before, &Plan::read("the output", file)?)?))
+}
+
+/// The subdivisions that lead from one plan to a finer one, level by level: what one needs is made at a lower level.
+fn between(before: &Plan, after: &Plan) -> Outcome<Vec<Division>> {
+    let wide = Table::read_full(sizes::LARGEST, &before.full()?);
+    let mut table = wide.map_err(|refused| Trouble::refused(Place::File(before.name.clone()), refused.refusal))?;
+    let mut made = Vec::new();
+    for level in 0..LAST_LEVEL {
+        let rises =
+            |r: &Record| r.degree == 6 && r.level == level && after.vertex(r.point).is_some_and(|end| end.degree == 6 && end.level > level);
+        let mut due: Vec<Point> = table.records().filter(rises).map(|r| r.point).collect();
+        due.sort_unstable_by_key(|p| order(*p));
+        let all = table.subdivide_all(&due);
+        all.map_err(|refused| Trouble::refused(Place::File(after.name.clone()), refused.refusal))?;
+        made.extend(due.into_iter().map(|point| Division { point, level }));
+    }
+    Ok(made)
 }

@@ -1,29 +1,19 @@
 //! bladeplan: blade plans at the command line. Thin over the proved library, whose calls answer what is asked of a plan; what little is worked
 //! out here instead is listed in docs/DECISIONS.md.
 
-mod added;
-mod advice;
 mod asked;
-mod centres;
 mod commands;
 mod counted;
 mod draw;
-mod fields;
 mod files;
 mod findings;
 mod lists;
 mod log;
-mod looks;
-mod mending;
 mod outlines;
-mod outputs;
-mod patience;
 mod place;
 mod plan;
 mod points;
-mod records;
 mod sizes;
-mod skips;
 mod trouble;
 mod words;
 
@@ -36,28 +26,28 @@ fn main() -> ExitCode {
     match run(std::env::args_os().skip(1)) {
         Ok(()) => ExitCode::SUCCESS,
         Err(trouble) => {
-            trouble.lines().iter().for_each(|line| files::say(line));
+            if !matches!(trouble, Trouble::ClosedPipe) {
+                files::say(&trouble.to_string());
+            }
             ExitCode::from(trouble.status())
         }
     }
 }
 
 /// Runs one command line: the command's name, and its words.
-fn run(words: impl Iterator<Item = OsString>) -> Outcome<()> {
-    let mut words = words.skip_while(|word| word == "--");
+fn run(mut words: impl Iterator<Item = OsString>) -> Outcome<()> {
     let name = words.next().ok_or_else(|| Trouble::Usage("no command is given; 'bladeplan --help' lists them".to_string()))?;
     match name.to_str() {
-        Some("--help" | "-h" | "help") => return files::print(help(words.next())?.as_bytes()),
-        Some("--version") => return files::print(concat!("bladeplan ", env!("CARGO_PKG_VERSION"), "\n").as_bytes()),
+        Some("--help" | "-h" | "help") => return files::write(None, help(words.next())?.as_bytes()),
+        Some("--version") => return files::write(None, concat!("bladeplan ", env!("CARGO_PKG_VERSION"), "\n").as_bytes()),
         _ => {}
     }
     let command = named(&name)?;
     let words = Words::parse(command, words)?;
-    if words.has("--help") {
-        return files::print(command.help_text().as_bytes());
+    match words.has("--help") {
+        true => files::write(None, command.help_text().as_bytes()),
+        false => (command.run)(&words),
     }
-    words.notes.iter().for_each(|note| files::say(&format!("{}: {note}", command.name)));
-    (command.run)(&words)
 }
 
 fn named(name: &OsStr) -> Outcome<&'static Command> {

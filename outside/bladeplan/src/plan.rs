@@ -1,14 +1,9 @@
 //! A plan loaded: the table that a reader or a base gave, and its records in file order; all faces, the counts.
 
-use crate::advice;
 use crate::files;
-use crate::mending;
-use crate::outputs::Output;
-use crate::patience;
 use crate::place::Place;
-use crate::points::order;
 use crate::sizes;
-use crate::trouble::{Outcome, Trouble, TOLD};
+use crate::trouble::{Outcome, Trouble};
 use flaskbloom::{normalise, Counts, Point, Record, Refusal, RefusedAt, Table};
 use std::ffi::OsStr;
 
@@ -16,10 +11,7 @@ use std::ffi::OsStr;
 const LONGEST_LINE: u64 = 26;
 /// The bytes that settle what a reader says of a file: line 65,537 finds no slot, whatever follows. So a reader given these first bytes of
 /// a longer file answers as for the whole.
-pub const LIMIT: u64 = (sizes::LARGEST as u64 + 1) * LONGEST_LINE;
-
-/// The lines of an OFF file before its vertices.
-const HEAD: usize = 2;
+const LIMIT: u64 = (sizes::LARGEST as u64 + 1) * LONGEST_LINE;
 
 /// What a subdivision adds, and the faces of a hexagon before any.
 pub const NEW_VERTICES: usize = 6;
@@ -38,9 +30,6 @@ pub enum Kind {
     Both,
 }
 
-/// A plan's file, full or reduced: either may take the other's place.
-pub const OUTPUT: Output = Output { name: "a plan", is_one: |file| Plan::read("", file).is_ok() };
-
 /// A face: its four corners, counter-clockwise.
 pub type Face = [Point; 4];
 
@@ -50,13 +39,6 @@ pub struct Making {
     pub subdivisions: usize,
     /// The census's numbers of the base, laid anew.
     pub base: Counts,
-}
-
-/// A plan's file after points were put to it, the subdivisions that each took, and what was refused: the point's place among them, and the words.
-pub struct Changed {
-    pub file: Vec<u8>,
-    pub taken: Vec<Option<usize>>,
-    pub refused: Vec<(usize, Refusal, String)>,
 }
 
 pub struct Plan {
@@ -84,9 +66,7 @@ impl Plan {
             (Ok(table), Ok(_)) => (table, Kind::Both),
             (Ok(table), Err(refused)) => (table, Kind::Full(refused.refusal)),
             (Err(refused), Ok(table)) => (table, Kind::Reduced(refused.refusal)),
-            (Err(full), Err(reduced)) => {
-                return Err(Trouble::NoPlan { name: name.to_string(), full, reduced, what: mending::why(file, reduced) })
-            }
+            (Err(full), Err(reduced)) => return Err(Trouble::NoPlan { name: name.to_string(), full, reduced }),
         };
         let mut records: Vec<Record> = table.records().collect();
         records.sort_unstable_by_key(|r| order(r.point));
@@ -108,70 +88,56 @@ impl Plan {
         self.place(p).map(|at| self.records[at])
     }
 
-    /// Every face once, from the first vertex in file order that has it: those of the OFF file, whose vertices are numbered in that order.
+    /// The faces round every vertex, in file order, each counter-clockwise from it; none at the rim. A face stands at each of its inner
+    /// corners: `faces` has it once.
+    pub fn faces_all(&self) -> Outcome<Vec<Vec<Face>>> {
+        let answers = self.table.faces_all(&self.points()).map_err(|refusal| self.refused(refusal))?;
+        self.answered(answers.into_iter())
+    }
+
+    /// Every face once, from the first vertex in file order that has it.
     pub fn faces(&self) -> Outcome<Vec<Face>> {
-        let file = self.off()?;
-        let text = String::from_utf8_lossy(&file);
-        Ok(text.lines().skip(HEAD + self.records.len()).filter_map(|line| self.face(line)).collect())
+        let mut named: Vec<([(u8, i32, i32); 4], Face)> = Vec::new();
+        for face in self.faces_all()?.into_iter().flatten() {
+            named.push((from_least(face), face));
+        }
+        named.sort_by_key(|(name, _)| *name); // stable: of equal names the first stays
+        named.dedup_by_key(|(name, _)| *name);
+        Ok(named.into_iter().map(|(_, face)| face).collect())
     }
 
-    /// The face of a line of the OFF file: 4, and its corners' numbers; from the first of them that has a star.
-    fn face(&self, line: &str) -> Option<Face> {
-        let numbers = line.split(' ').skip(1).map(|word| word.parse().ok()).collect::<Option<Vec<usize>>>()?;
-        let mut corners: [usize; 4] = numbers.try_into().ok()?;
-        let first = (0..4).filter(|at| self.records[corners[*at]].degree != 0).min_by_key(|at| corners[*at])?;
-        corners.rotate_left(first);
-        Some(corners.map(|at| self.records[at].point))
-    }
-
-    /// The full file of this plan subdivided at these points in turn, in a table with room for it. What is refused is passed over.
-    pub fn subdivided(&self, points: &[Point]) -> Outcome<Changed> {
-        self.changed(points, |table, points| match table.subdivide_all(points) {
-            Ok(()) => (vec![1; points.len()], Ok(())),
-            Err(RefusedAt { refusal, at }) => (vec![1; at as usize], Err(refusal)),
-        })
-    }
-
-    /// The same with the vertices at these points brought to six neighbours in turn, and subdivided where that is asked.
-    pub fn refined(&self, points: &[Point], subdivide: bool) -> Outcome<Changed> {
-        self.changed(points, |table, points| match refine(table, points[0], subdivide) {
-            Ok(taken) => (vec![taken], Ok(())),
-            Err(refusal) => (Vec::new(), Err(refusal)),
-        })
-    }
-
-    /// Points put in turn to a job, which does some of them and says how many subdivisions each took, and what it was refused at the next. It goes on
-    /// after that; but 8 is tried again in a larger table, and in the largest ends it.
-    fn changed(&self, points: &[Point], job: impl Fn(&mut Table, &[Point]) -> (Vec<usize>, Result<(), Refusal>)) -> Outcome<Changed> {
+    /// The full file of this plan subdivided at these points in turn, in a table with room for it; refused, how many were made.
+    pub fn subdivided(&self, points: &[Point]) -> Outcome<Result<Vec<u8>, RefusedAt>> {
         let file = self.full()?;
         let most = self.records.len().saturating_add(points.len().saturating_mul(NEW_VERTICES));
-        let work = |slots| {
+        let table = sizes::growing(most, |slots| {
             let mut table = Table::read_full(slots, &file)?;
-            let (mut taken, mut refused) = (Vec::new(), Vec::new());
-            while taken.len() < points.len() {
-                let (each, ended) = job(&mut table, &points[taken.len()..]);
-                taken.extend(each.into_iter().map(Some));
-                let Err(refusal) = ended else { continue };
-                let is_full = refusal == Refusal::TooFewSlots;
-                if is_full && slots < sizes::LARGEST {
-                    return Err(RefusedAt { refusal, at: 0 });
-                }
-                let what = match refused.len() < TOLD {
-                    true => advice::at_point(&table, points[taken.len()], refusal),
-                    false => String::new(), // only counted
-                };
-                refused.push((taken.len(), refusal, what));
-                taken.push(None);
-                if is_full {
-                    break;
-                }
+            table.subdivide_all(points).map(|()| table)
+        });
+        Ok(match table {
+            Ok(table) => Ok(table.write_full().map_err(|refusal| self.refused(refusal))?),
+            Err(refused) => Err(refused),
+        })
+    }
+
+    /// The full file of this plan with the vertices at these points brought to six neighbours in turn, and subdivided where that is asked; and how
+    /// many subdivisions each took. Refused, how many were done.
+    pub fn refined(&self, points: &[Point], subdivide: bool) -> Outcome<Result<(Vec<u8>, Vec<usize>), RefusedAt>> {
+        let file = self.full()?;
+        let most = self.records.len().saturating_add(points.len().saturating_mul(NEW_VERTICES));
+        let refined = sizes::growing(most, |slots| {
+            let mut table = Table::read_full(slots, &file)?;
+            let mut taken = Vec::new();
+            for (at, p) in points.iter().enumerate() {
+                let one = refine(&mut table, *p, subdivide);
+                taken.push(one.map_err(|refusal| RefusedAt { refusal, at: at as u64 })?);
             }
-            Ok((table, taken, refused))
-        };
-        let what = format!("{}: {} points", self.name, points.len());
-        let done = patience::shown(&what, || sizes::growing(most, work));
-        let (table, taken, refused) = done.map_err(|refused| self.refused(refused.refusal))?;
-        Ok(Changed { file: table.write_full().map_err(|refusal| self.refused(refusal))?, taken, refused })
+            Ok((table, taken))
+        });
+        Ok(match refined {
+            Ok((table, taken)) => Ok((table.write_full().map_err(|refusal| self.refused(refusal))?, taken)),
+            Err(refused) => Err(refused),
+        })
     }
 
     /// V, E, F and the vertices by degree.
@@ -202,18 +168,12 @@ impl Plan {
 
     /// The OFF file.
     pub fn off(&self) -> Outcome<Vec<u8>> {
-        self.patiently(|| self.table.write_off())
+        self.table.write_off().map_err(|refusal| self.refused(refusal))
     }
 
     /// The OBJ file.
     pub fn obj(&self) -> Outcome<Vec<u8>> {
-        self.patiently(|| self.table.write_obj())
-    }
-
-    /// Where nothing is free in the table a point that is not there is looked for in every slot: a viewer's file takes seconds then.
-    fn patiently(&self, job: impl FnOnce() -> Result<Vec<u8>, Refusal>) -> Outcome<Vec<u8>> {
-        let what = format!("{}: the faces of {} vertices", self.name, self.records.len());
-        patience::shown(&what, job).map_err(|refusal| self.refused(refusal))
+        self.table.write_obj().map_err(|refusal| self.refused(refusal))
     }
 
     fn refused(&self, refusal: Refusal) -> Trouble {
@@ -223,16 +183,35 @@ impl Plan {
     fn points(&self) -> Vec<Point> {
         self.records.iter().map(|r| r.point).collect()
     }
+
+    /// The answers for all vertices; one at the rim, which has no star, has nothing round it.
+    fn answered<T>(&self, answers: impl Iterator<Item = Result<Vec<T>, Refusal>>) -> Outcome<Vec<Vec<T>>> {
+        let one = |(r, answer): (&Record, Result<Vec<T>, Refusal>)| match answer {
+            Err(Refusal::DegreeZero) => Ok(Vec::new()),
+            answer => answer.map_err(|refusal| Trouble::refused(Place::Point(self.name.clone(), r.point), refusal)),
+        };
+        self.records.iter().zip(answers).map(one).collect()
+    }
 }
 
-/// One vertex brought to six neighbours, and subdivided where that is asked, or nothing done: how many subdivisions it took.
+/// One vertex brought to six neighbours, and subdivided where that is asked: how many subdivisions it took.
 fn refine(table: &mut Table, p: Point, subdivide: bool) -> Result<usize, Refusal> {
-    if !subdivide {
-        return table.bring_to_six(p);
+    let taken = table.bring_to_six(p)?;
+    if subdivide {
+        table.subdivide(p)?;
     }
-    let mut finer = table.clone();
-    let taken = finer.bring_to_six(p)?;
-    finer.subdivide(p)?;
-    *table = finer;
-    Ok(taken + 1)
+    Ok(taken + usize::from(subdivide))
+}
+
+/// Where a point stands in a file.
+pub fn order(p: Point) -> (u8, i32, i32) {
+    (p.m, p.a, p.b)
+}
+
+/// A face's name: its corners in file order's terms, from the least one round.
+fn from_least(face: Face) -> [(u8, i32, i32); 4] {
+    let mut name = face.map(order);
+    let least = (0..4).min_by_key(|at| name[*at]).unwrap_or(0);
+    name.rotate_left(least);
+    name
 }

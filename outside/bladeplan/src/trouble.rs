@@ -1,5 +1,5 @@
 //! What can go wrong, each as one line on standard error and an exit status: a wrong command line 64, a file 74, a refusal of the
-//! library its own number. Of a list all lines that were refused are told, up to ten.
+//! library its own number.
 
 use crate::place::Place;
 use flaskbloom::{Refusal, RefusedAt};
@@ -8,36 +8,8 @@ use std::io;
 
 pub const USAGE: u8 = 64;
 pub const FILES: u8 = 74;
-/// How many refusals are told one by one.
-pub const TOLD: usize = 10;
 
 pub type Outcome<T> = Result<T, Trouble>;
-
-/// What was refused: where, with which number, and what is wrong there or can be done instead.
-#[derive(Clone, Debug)]
-pub struct Refused {
-    pub place: Place,
-    pub refusal: Refusal,
-    what: String,
-}
-
-impl Refused {
-    /// In the words of the README's table.
-    pub fn new(place: Place, refusal: Refusal) -> Refused {
-        Refused { place, refusal, what: words(refusal).to_string() }
-    }
-
-    /// In words of its own, which say what is to be done.
-    pub fn saying(place: Place, refusal: Refusal, what: impl fmt::Display) -> Refused {
-        Refused { place, refusal, what: what.to_string() }
-    }
-}
-
-impl fmt::Display for Refused {
-    fn fmt(&self, f: &mut fmt::Formatter) -> fmt::Result {
-        write!(f, "{}: refused with {}: {}", self.place, self.refusal.number(), self.what)
-    }
-}
 
 #[derive(Debug)]
 pub enum Trouble {
@@ -45,12 +17,10 @@ pub enum Trouble {
     Usage(String),
     /// A file could not be read or written.
     File { name: String, error: io::Error },
-    /// A file that is there stays as it is; the text says which and why.
-    Kept(String),
-    /// The library refused: once, or several lines of a list.
-    Refused(Vec<Refused>),
-    /// No plan: what each of the two readers says of the file, and what is wrong with it or what it looks like.
-    NoPlan { name: String, full: RefusedAt, reduced: RefusedAt, what: String },
+    /// The library refused.
+    Refused { place: Place, refusal: Refusal },
+    /// No plan: what each of the two readers says of the file.
+    NoPlan { name: String, full: RefusedAt, reduced: RefusedAt },
     /// Whoever read our standard output has gone: nothing is left to say.
     ClosedPipe,
 }
@@ -60,8 +30,8 @@ impl Trouble {
     pub fn status(&self) -> u8 {
         match self {
             Trouble::Usage(_) => USAGE,
-            Trouble::File { .. } | Trouble::Kept(_) | Trouble::ClosedPipe => FILES,
-            Trouble::Refused(refused) => refused.first().map_or(USAGE, |first| first.refusal.number()),
+            Trouble::File { .. } | Trouble::ClosedPipe => FILES,
+            Trouble::Refused { refusal, .. } => refusal.number(),
             Trouble::NoPlan { reduced, .. } => reduced.refusal.number(),
         }
     }
@@ -74,38 +44,26 @@ impl Trouble {
     }
 
     pub fn refused(place: Place, refusal: Refusal) -> Trouble {
-        Trouble::Refused(vec![Refused::new(place, refusal)])
-    }
-
-    /// What is told of it, a line each.
-    pub fn lines(&self) -> Vec<String> {
-        match self {
-            Trouble::Usage(text) | Trouble::Kept(text) => vec![text.clone()],
-            Trouble::File { name, error } => vec![format!("{name}: {}", reason(error))],
-            Trouble::Refused(refused) => several(refused),
-            Trouble::NoPlan { name, full, reduced, what } if full == reduced => {
-                let place = Place::in_file(name, full.at);
-                vec![format!("{place}: neither a full file nor a reduced one, refused with {}: {what}", full.refusal.number())]
-            }
-            Trouble::NoPlan { name, full, reduced, what } => {
-                vec![format!(
-                    "{name}: not a full file, {}; not a reduced file, refused with {}: {what}",
-                    told(full.refusal),
-                    reduced.refusal.number()
-                )]
-            }
-            Trouble::ClosedPipe => Vec::new(),
-        }
+        Trouble::Refused { place, refusal }
     }
 }
 
-/// Each refusal a line, up to ten; then how many more there are.
-pub fn several(refused: &[Refused]) -> Vec<String> {
-    let mut lines: Vec<String> = refused.iter().take(TOLD).map(Refused::to_string).collect();
-    if refused.len() > TOLD {
-        lines.push(format!("and {} more are refused", refused.len() - TOLD));
+impl fmt::Display for Trouble {
+    fn fmt(&self, f: &mut fmt::Formatter) -> fmt::Result {
+        match self {
+            Trouble::Usage(text) => f.write_str(text),
+            Trouble::File { name, error } => write!(f, "{name}: {}", reason(error)),
+            Trouble::Refused { place, refusal } => write!(f, "{place}: {}", told(*refusal)),
+            Trouble::NoPlan { name, full, reduced } if full == reduced => {
+                let place = Place::in_file(name, full.at);
+                write!(f, "{place}: neither a full file nor a reduced one, {}", told(full.refusal))
+            }
+            Trouble::NoPlan { name, full, reduced } => {
+                write!(f, "{name}: not a full file, {}; not a reduced file, {}", told(full.refusal), told(reduced.refusal))
+            }
+            Trouble::ClosedPipe => f.write_str("the reader of the output has gone"),
+        }
     }
-    lines
 }
 
 /// The system's words, without its number.
@@ -120,7 +78,7 @@ pub fn told(refusal: Refusal) -> String {
 }
 
 /// The words of the README's table.
-pub fn words(refusal: Refusal) -> &'static str {
+fn words(refusal: Refusal) -> &'static str {
     match refusal {
         Refusal::NotInOrder => {
             "these bytes are no table in order: a length that doesn't fit, or damage. \

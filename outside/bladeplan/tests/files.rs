@@ -8,10 +8,6 @@ use std::io::Write;
 use std::os::unix::fs::{symlink, PermissionsExt};
 use std::process::{Command, Stdio};
 
-/// A plan of one hexagon: the old file.
-const OLD: &str =
-    "-1\t0\t0\t0\t0\t0\n-1\t1\t0\t0\t0\t0\n0\t-1\t0\t0\t0\t0\n0\t0\t0\t3\t0\t0\n0\t1\t0\t0\t0\t0\n1\t-1\t0\t0\t0\t0\n1\t0\t0\t0\t0\t0\n";
-
 /// A desk with a plan whose file is longer than a run under LIMITED may write, in a file that was there before.
 fn with_a_long_plan(name: &str) -> Desk {
     let desk = Desk::new(name);
@@ -19,7 +15,7 @@ fn with_a_long_plan(name: &str) -> Desk {
     desk.put("centres.txt", centres);
     desk.good("lay centres.txt -o plan.full -q");
     assert!(desk.get("plan.full").len() > 2048);
-    desk.put("kept", OLD);
+    desk.put("kept", "the old file\n");
     desk
 }
 
@@ -31,7 +27,7 @@ fn a_write_that_fails_half_way_leaves_the_old_file() {
     let desk = with_a_long_plan("half");
     let failed = desk.shell(&format!("trap '' XFSZ; {LIMITED}"));
     assert_eq!(failed, Ran { status: 74, out: String::new(), err: "bladeplan: kept: File too large\n".to_string() });
-    assert_eq!(desk.get("kept"), OLD);
+    assert_eq!(desk.get("kept"), "the old file\n");
     assert_eq!(desk.files(), ["centres.txt", "kept", "plan.full"]);
 }
 
@@ -39,7 +35,7 @@ fn a_write_that_fails_half_way_leaves_the_old_file() {
 fn a_run_that_is_killed_in_a_write_leaves_the_old_file() {
     let desk = with_a_long_plan("killed");
     assert_ne!(desk.shell(LIMITED).status, 0);
-    assert_eq!((desk.get("kept").as_str(), desk.files().len()), (OLD, 4));
+    assert_eq!((desk.get("kept").as_str(), desk.files().len()), ("the old file\n", 4));
     assert_eq!(desk.run("restore plan.full -o kept -q").status, 0);
     assert_eq!(desk.get("kept"), desk.get("plan.full"));
     assert_eq!(desk.files(), ["centres.txt", "kept", "plan.full"], "what it left is cleared away by the next");

@@ -4,6 +4,8 @@ mod common;
 
 use common::{Desk, Ran};
 
+const SEVENTEEN: &str = "refused with 17: a number of the outline is not finite or beyond 1,000 either way, its radius is not above 0, or the passes or the level are over 12";
+
 /// The numbers before these words in the lines of standard error.
 fn told(ran: &Ran, word: &str) -> Vec<usize> {
     let before = |line: &str| line.split(word).next().and_then(|text| text.rsplit(' ').next()).and_then(|text| text.parse().ok());
@@ -46,55 +48,10 @@ fn in_the_order_typed() {
     desk.put("all.txt", "line -0.5,1,.2\nline\t0\t1\t0.4\ndisc 1, 0, 0.3\n");
     desk.good("refine base.full --outlines all.txt --level 3 -o other.full -q");
     assert_eq!(desk.get("one.full"), desk.get("other.full"));
-}
-
-/// Which number is out of range, or what is typed so.
-const FAR: &str = "where a number from -1,000 to 1,000 belongs";
-
-/// Both commands that take outlines refuse a list's lines alike, all of them; with `--skip` the others are done.
-#[test]
-fn lines_that_are_no_outline() {
-    let desk = Desk::with_plan("no-outline");
-    let cases = [
-        ("disc 1,0", 9, "2 numbers where 3 belong: x, y, radius".to_string()),
-        ("line 0,1,2,3", 9, "4 numbers where 3 belong: p, q, s".to_string()),
-        ("line", 9, "0 numbers where 3 belong: p, q, s".to_string()),
-        ("ring 1,0,1", 9, "'ring' where disc x,y,radius or line p,q,s belongs".to_string()),
-        ("1,0,1", 9, "'1,0,1' where disc x,y,radius or line p,q,s belongs".to_string()),
-        ("disc 1,,1", 9, "field 2 (y): nothing where a number belongs".to_string()),
-        ("line 0,1,x", 9, "field 3 (s): 'x' where a number belongs".to_string()),
-    ];
-    let list: String = cases.iter().map(|(line, _, _)| format!("{line}\n")).collect();
-    desk.put("bad.txt", format!("disc 1,0,0.3\n{list}"));
-    let told: String = cases
-        .iter()
-        .enumerate()
-        .map(|(at, (_, number, what))| format!("bladeplan: bad.txt, line {}: refused with {number}: {what}\n", at + 2))
-        .collect();
-    for command in ["refine base.full", "draw base.full"] {
-        assert_eq!(
-            desk.run(&format!("{command} --outlines bad.txt")),
-            Ran { status: 9, out: String::new(), err: told.clone() },
-            "{command}"
-        );
-        let skipped = desk.run(&format!("{command} --outlines bad.txt --skip -q"));
-        assert_eq!(skipped.err, format!("{told}bladeplan: --skip: 7 left out, the others done\n"));
-        assert_eq!(skipped.out, desk.good(&format!("{command} --disc 1,0,0.3 -q")));
-    }
-    desk.put("far.txt", "disc 1,0,2000\ndisc 1,0,0.3\ndisc 1,0,0\n");
-    let far = |line: usize, what: &str| {
-        format!("bladeplan: base.full, disc 1,0,{} (far.txt, line {line}): refused with 17: {what}\n", if line == 1 { 2000 } else { 0 })
-    };
-    let told = far(1, &format!("radius: 2000 {FAR}")) + &far(3, "radius: 0 where a number above 0 belongs");
-    for command in ["refine base.full", "draw base.full"] {
-        assert_eq!(
-            desk.run(&format!("{command} --outlines far.txt")),
-            Ran { status: 17, out: String::new(), err: told.clone() },
-            "{command}"
-        );
-        let skipped = desk.run(&format!("{command} --outlines far.txt --skip -q"));
-        assert_eq!(skipped.err, format!("{told}bladeplan: --skip: 2 left out, the others done\n"));
-        assert_eq!(skipped.out, desk.good(&format!("{command} --disc 1,0,0.3 -q")));
+    for line in ["disc 1,0\n", "ring 1,0,1\n", "line 0,1,2,3\n"] {
+        desk.put("bad.txt", format!("disc 1,0,1\n{line}"));
+        let nine = "bad.txt, line 2: refused with 9: that line of the file is malformed, or its record is not valid";
+        desk.refused("refine base.full --outlines bad.txt", 9, nine);
     }
 }
 
@@ -118,24 +75,16 @@ fn a_refused_pass_leaves_the_file() {
 #[test]
 fn what_is_out_of_range() {
     let desk = Desk::with_plan("range");
-    for (outline, what) in [
-        ("disc 1,0,0", "radius: 0 where a number above 0 belongs".to_string()),
-        ("disc 1,0,-0", "radius: -0 where a number above 0 belongs".to_string()),
-        ("disc nan,0,1", format!("x: NaN {FAR}")),
-        ("disc 0,1001,1", format!("y: 1001 {FAR}")),
-        ("line inf,0,1", format!("p: inf {FAR}")),
-        ("line 0,1,-1000.0000000000001", format!("s: -1000.0000000000001 {FAR}")),
-    ] {
+    for outline in ["disc 1,0,0", "disc 1,0,-0", "disc nan,0,1", "disc 1001,0,1", "line inf,0,1", "line 0,1,-1000.0000000000001"] {
         let (kind, numbers) = outline.split_once(' ').expect("two words");
-        let line = format!("plan.full, {outline}: refused with 17: {what}");
         for passes in [0, 3] {
-            desk.refused(&format!("refine plan.full --{kind} {numbers} --passes {passes} -o plan.full"), 17, &line);
+            let line = format!("refine plan.full --{kind} {numbers} --passes {passes} -o plan.full");
+            desk.refused(&line, 17, &format!("plan.full, {outline}: {SEVENTEEN}"));
         }
-        desk.refused(&format!("draw plan.full --{kind} {numbers}"), 17, &line);
+        desk.refused(&format!("draw plan.full --{kind} {numbers}"), 17, &format!("plan.full, {outline}: {SEVENTEEN}"));
     }
     for more in ["--passes 13", "--level 13", "--passes 999999999999"] {
-        let line = format!("plan.full, {more}: refused with 17: a whole number from 0 to 12 belongs there");
-        desk.refused(&format!("refine plan.full --disc 1,0,1 {more}"), 17, &line);
+        desk.refused(&format!("refine plan.full --disc 1,0,1 {more}"), 17, &format!("plan.full, disc 1,0,1: {SEVENTEEN}"));
     }
     assert_eq!(desk.run("refine plan.full --disc 1,0,1 --passes 1e3").status, 64);
 }

@@ -10,8 +10,6 @@ const STATUSES: std::ops::RangeInclusive<i32> = 0..=21;
 /// Numbers that are no call's answer.
 const UNUSED: [i32; 3] = [6, 18, 19];
 const PANIC: i32 = 101;
-/// The lines that a run may say: notes of words after `--`, one of a list that was cleaned, ten refusals, how many more, counts.
-const MOST: usize = 20;
 
 #[test]
 fn each_command_has_a_help_with_an_example() {
@@ -80,23 +78,12 @@ fn wrong_command_lines() {
         "off plan.full base.full",
         "obj",
         "obj --html plan.full",
-        "draw plan.full --title --html",
-        "draw plan.full --title --",
-        "census plan.full -o --quiet",
-        "census -- plan.full -o x",
-        "compare plan.full -- base.full --list",
-        "lay three.txt -o three.txt",
-        "example --replace",
         "replay",
         "replay plan.full base.full",
         "lay three.txt --log -",
         "lay three.txt -o new.full --log new.full",
         "subdivide plan.full 1,0 --log -",
-        "lay three.txt -o new.full --log ./new.full",
-        "lay three.txt -o new.full --log three.txt",
-        "subdivide plan.full 1,0 -o ./log --log log",
         "check plan.full --log",
-        "check - --log -",
         "example a b",
     ];
     for line in lines {
@@ -112,27 +99,6 @@ fn a_file_whose_name_looks_like_an_option() {
     let desk = Desk::with_plan("dash");
     desk.put("--odd", desk.get("plan.full"));
     assert_eq!(desk.good("census -- --odd"), desk.good("census plan.full"));
-    assert_eq!(desk.run("census -- --odd").err, "");
-}
-
-/// `--` may stand anywhere, and what looks like an option after it is told.
-#[test]
-fn the_end_of_the_options() {
-    let desk = Desk::with_plan("ended");
-    let census = desk.good("census plan.full");
-    for line in ["-- census plan.full", "census -- plan.full", "census plan.full --", "-- census -- plan.full", "census -q -- plan.full"] {
-        assert_eq!(desk.run(line), Ran { status: 0, out: census.clone(), err: String::new() }, "{line}");
-    }
-    desk.put("-q", desk.get("plan.full"));
-    let told = Ran { status: 0, out: census, err: "bladeplan: census: after -- the word -q is no option\n".to_string() };
-    assert_eq!(desk.run("census -- -q"), told);
-    let wrong = desk.run("census -- plan.full -o x").err;
-    assert!(wrong.starts_with("bladeplan: census: too few words, or too many: after -- the word -o is no option; usage: "), "{wrong}");
-    let title = desk.run("draw plan.full --title --html").err;
-    let how = "--title needs a value, and --html is an option; a value that looks like one is given as --title=--html";
-    assert!(title.starts_with(&format!("bladeplan: draw: {how}; usage: ")), "{title}");
-    assert!(desk.good("draw plan.full --title=--html -q").contains("<title>--html</title>"));
-    assert!(desk.good("draw plan.full --title -5 -q").contains("<title>-5</title>"));
 }
 
 #[test]
@@ -188,14 +154,16 @@ fn any_words_and_any_bytes() {
         let ran = desk.run_words(&words, &input);
         let known = (STATUSES.contains(&ran.status) && !UNUSED.contains(&ran.status)) || [64, 74].contains(&ran.status);
         assert!(known && ran.status != PANIC, "{words:?} on {input:?}: {} {}", ran.status, ran.err);
-        assert!(ran.err.lines().count() <= MOST && ran.err.lines().all(|line| line.starts_with("bladeplan: ")), "{words:?}: {}", ran.err);
+        // salvage tells each change in a line of its own
+        let tells = words.first().is_some_and(|word| word == "salvage");
+        assert!(tells || ran.err.lines().count() <= 1, "{words:?}: {}", ran.err);
     }
 }
 
 #[test]
 fn a_file_without_an_end() {
     let desk = Desk::new("endless");
-    let line = "/dev/zero, line 1: neither a full file nor a reduced one, refused with 9: no text";
+    let line = "/dev/zero, line 1: neither a full file nor a reduced one, refused with 9: that line of the file is malformed, or its record is not valid";
     desk.refused("census /dev/zero", 9, line);
-    desk.refused("lay /dev/zero", 74, "/dev/zero: longer than 64 MiB, so no list");
+    desk.refused("lay /dev/zero", 74, "/dev/zero: longer than 16 MiB, so no list");
 }

@@ -198,9 +198,6 @@ pub struct Salvaged {
 /// What a query answers: the points, or why not.
 pub type Answer = Result<Points, Refusal>;
 
-/// The faces round a vertex, each counter-clockwise from it, or why not.
-pub type Faces = Result<Vec<[Point; 4]>, Refusal>;
-
 fn points((number, flat): (u8, slices::Points)) -> Answer {
     Refusal::of(number)?;
     let mut list = [Point::new(0, 0, 0); 6];
@@ -390,7 +387,7 @@ impl Table {
     }
 
     /// The faces round a vertex, each counter-clockwise from it.
-    pub fn faces(&self, p: Point) -> Faces {
+    pub fn faces(&self, p: Point) -> Result<Vec<[Point; 4]>, Refusal> {
         let opposite = self.opposites(p)?;
         Ok(around(p, &self.neighbours(p)?, &opposite))
     }
@@ -406,7 +403,7 @@ impl Table {
     }
 
     /// What `faces` answers for each point, with two tests of the table; refused is only a table that is not in order.
-    pub fn faces_all(&self, list: &[Point]) -> Result<Vec<Faces>, Refusal> {
+    pub fn faces_all(&self, list: &[Point]) -> Result<Vec<Result<Vec<[Point; 4]>, Refusal>>, Refusal> {
         let (adjacent, opposite) = (self.neighbours_all(list)?, self.opposites_all(list)?);
         Ok(list.iter().zip(adjacent.into_iter().zip(opposite)).map(|(p, (u, o))| Ok(around(*p, &u?, &o?))).collect())
     }

@@ -6,7 +6,7 @@ fn functions(text: &str, ends: &str) -> Vec<(String, Vec<String>)> {
     let mut list = Vec::new();
     for piece in text.split(ends) {
         let Some((head, rest)) = piece.split_once('(') else { continue };
-        let Some(name) = head.split(|c: char| !c.is_alphanumeric() && c != '_').rfind(|word| word.starts_with("fb_")) else {
+        let Some(name) = head.split(|c: char| !c.is_alphanumeric() && c != '_').filter(|word| word.starts_with("fb_")).next_back() else {
             continue;
         };
         let inside = rest.split(')').next().expect("a part");
@@ -19,7 +19,7 @@ fn functions(text: &str, ends: &str) -> Vec<(String, Vec<String>)> {
 /// A C parameter as Rust writes it.
 fn in_rust(c: &str) -> String {
     let (words, is_array) = (c.replace('*', "* "), c.contains('['));
-    let words: Vec<&str> = words.split([' ', '[']).filter(|w| !w.is_empty() && !w.ends_with(']')).collect();
+    let words: Vec<&str> = words.split(|c: char| c == ' ' || c == '[').filter(|w| !w.is_empty() && !w.ends_with(']')).collect();
     let is_const = words.contains(&"const");
     let is_pointer = words.contains(&"*") || is_array;
     let plain: Vec<&&str> = words.iter().filter(|w| **w != "const" && **w != "*").collect();

@@ -1,9 +1,8 @@
 //! `compare`: an older plan against a newer one, vertex by vertex.
 
 use crate::files;
-use crate::outputs::{self, Output};
-use crate::plan::Plan;
-use crate::points::{order, spelled};
+use crate::plan::{order, Plan};
+use crate::points::spelled;
 use crate::trouble::Outcome;
 use crate::words::{Command, Words};
 use flaskbloom::Record;
@@ -26,12 +25,6 @@ example: what is new this autumn
     run,
 };
 
-const COUNTS: Output = Output {
-    name: "a comparison",
-    is_one: |text| text.split(|byte| *byte == b'\n').next().is_some_and(|line| line.ends_with(b"\tin both")),
-};
-const LISTED: Output = Output { name: "a comparison's list", is_one: is_listed };
-
 /// A vertex's record in either plan: one of both at least.
 type Pair = (Option<Record>, Option<Record>);
 
@@ -44,23 +37,14 @@ fn run(words: &Words) -> Outcome<()> {
     if !words.has("--list") {
         let (old, new) = (old.name, new.name);
         let text = format!("{both}\tin both\n{changed}\tof these with another star\n{gone}\tonly in {old}\n{fresh}\tonly in {new}\n");
-        return outputs::write(words, &COUNTS, text.as_bytes());
+        return files::write(words.output(), text.as_bytes());
     }
     let lines: String = pairs.iter().map(line).collect();
-    outputs::write(words, &LISTED, lines.as_bytes())?;
+    files::write(words.output(), lines.as_bytes())?;
     if !words.quiet() {
         files::say(&format!("compare: {both} in both, {changed} of these with another star, {gone} only in OLD, {fresh} only in NEW"));
     }
     Ok(())
-}
-
-/// Every line begins with a verdict, and has three fields after it.
-fn is_listed(text: &[u8]) -> bool {
-    let listed = |line: &str| {
-        let fields: Vec<&str> = line.split('\t').collect();
-        fields.len() == 4 && ["same", "changed", "old", "new"].contains(&fields[0])
-    };
-    std::str::from_utf8(text).is_ok_and(|text| text.lines().all(listed))
 }
 
 /// Both plans' records in file order, those of one point together.

@@ -1,8 +1,7 @@
 //! `census` and `check`: a plan counted, and what kind of file it is.
 
-use crate::counted;
+use crate::files;
 use crate::log::Log;
-use crate::outputs::{self, Output};
 use crate::plan::{Kind, Making, Plan, HEXAGON_FACES, NEW_EDGES, NEW_FACES, NEW_VERTICES};
 use crate::trouble::{told, Outcome};
 use crate::words::{Command, Words};
@@ -45,24 +44,15 @@ example:
     run: check,
 };
 
-const COUNTED: Output =
-    Output { name: "a census", is_one: |text| text.starts_with(HEAD.as_bytes()) && text.split(|byte| *byte == b'\n').count() == 3 };
-const CHECKED: Output = Output { name: "a check's answer", is_one: is_checked };
-
-/// How the line begins that a log gives.
-const BY_LOG: &str = "by the log, ";
-/// The first line of a census.
-const HEAD: &str = "V\tE\tF\td0\td3\td4\td5\td6\n";
-
 fn census(words: &Words) -> Outcome<()> {
     let counts = Plan::load(&words.plain[0])?.counts()?;
-    outputs::write(words, &COUNTED, text(&counts).as_bytes())
+    files::write(words.output(), text(&counts).as_bytes())
 }
 
 /// The census program's two lines.
 fn text(counts: &Counts) -> String {
     let ([d0, d3, d4, d5, d6], Counts { vertices, edges, faces, .. }) = (counts.degrees, counts);
-    format!("{HEAD}{vertices}\t{edges}\t{faces}\t{d0}\t{d3}\t{d4}\t{d5}\t{d6}\n")
+    format!("V\tE\tF\td0\td3\td4\td5\td6\n{vertices}\t{edges}\t{faces}\t{d0}\t{d3}\t{d4}\t{d5}\t{d6}\n")
 }
 
 fn check(words: &Words) -> Outcome<()> {
@@ -75,10 +65,10 @@ fn check(words: &Words) -> Outcome<()> {
     };
     let (lines, [v, e, f]) = (plan.lines, [counts.vertices, counts.edges, counts.faces]);
     let text = format!("{} is {kind}\n{lines} lines: {v} vertices, {e} edges, {f} faces\n{}\n", plan.name, sums(&counts, &plan.making()?));
-    let Some(path) = words.value("--log") else { return outputs::write(words, &CHECKED, text.as_bytes()) };
-    let log = Log::load(words, path)?;
+    let Some(path) = words.value("--log") else { return files::write(words.output(), text.as_bytes()) };
+    let log = Log::load(path)?;
     let (alike, due) = (log.agreeing(&plan)?, log.vertices()?);
-    outputs::write(words, &CHECKED, (text + &by_log(&log, alike, due)).as_bytes())?;
+    files::write(words.output(), (text + &by_log(&log, alike, due)).as_bytes())?;
     match (alike, due) == (v, v) {
         true => Ok(()),
         false => Err(log.not_of(&plan)),
@@ -87,15 +77,9 @@ fn check(words: &Words) -> Outcome<()> {
 
 /// How many vertices are as the log has them, of those that it has.
 fn by_log(log: &Log, alike: usize, due: usize) -> String {
-    let made = counted::making(log.hexagons.len(), log.made.len());
-    format!("{BY_LOG}{made}, without a table: {alike} of {due} vertices are so\n")
-}
-
-/// The last line has the sums, but for one by a log.
-fn is_checked(text: &[u8]) -> bool {
-    let lines = String::from_utf8_lossy(text);
-    let last = lines.lines().rfind(|line| !line.starts_with(BY_LOG)).unwrap_or_default();
-    text.ends_with(b"\n") && [" hexagon", " together: V = ", ", E = ", ", F = "].iter().all(|part| last.contains(part))
+    let (h, s) = (log.hexagons.len(), log.made.len());
+    let made = format!("{h} hexagon{} and {s} subdivision{}", plural(h), plural(s));
+    format!("by the log, {made}, without a table: {alike} of {due} vertices are so\n")
 }
 
 /// V, E and F by the hexagons and the subdivisions, with the sums shown. Of every plan that the readers accept these are proved
@@ -112,5 +96,12 @@ fn sums(counts: &Counts, making: &Making) -> String {
     let vertices = format!("V = {} + {NEW_VERTICES}*{s} = {v}", base.vertices);
     let edges = format!("E = {} + {NEW_EDGES}*{s} = {e}", base.edges);
     let faces = format!("F = {HEXAGON_FACES}*{h} + {NEW_FACES}*{s} = {f}");
-    format!("{} {fit} together: {vertices}, {edges}, {faces}", counted::making(*h, *s))
+    format!("{h} hexagon{} and {s} subdivision{} {fit} together: {vertices}, {edges}, {faces}", plural(*h), plural(*s))
+}
+
+fn plural(count: usize) -> &'static str {
+    match count {
+        1 => "",
+        _ => "s",
+    }
 }

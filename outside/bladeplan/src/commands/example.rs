@@ -1,22 +1,19 @@
 //! `example`: the whole job on a small blade, by the very commands that a person would type.
 
 use crate::files;
-use crate::outputs;
 use crate::trouble::{Outcome, Trouble};
 use crate::words::{Command, Words};
 use std::ffi::{OsStr, OsString};
 use std::fs;
-use std::io;
 
 pub const COMMAND: Command = Command {
     name: "example",
     usage: "[DIRECTORY] [--quiet]",
     about: "do the whole job on a blade, and show where the results are",
     help: "\
-Writes the hexagons, outlines and findings of a blade, and a broken file, into DIRECTORY (bladeplan-example where none is given; where that
-is taken, bladeplan-example-2, and so on), which must not be there, or be empty. No file is written over. There it lays the blade, refines
-it round two pits and along a score, reduces, counts, compares and draws it, joins its findings, and writes it for a viewer; and mends the
-broken file and draws what it gives. Each command is shown as it would be typed.
+Writes the hexagons, outlines and findings of a blade, and a broken file, into DIRECTORY (bladeplan-example where none is given), which is
+made if need be; there lays the blade, refines it round two pits and along a score, reduces, counts, compares and draws it, joins its
+findings and writes it for a viewer; and mends the broken file and draws what it gives. Each command is shown as it would be typed.
 
 example:
   bladeplan example blade
@@ -28,8 +25,6 @@ example:
 };
 
 const DIRECTORY: &str = "bladeplan-example";
-/// How many directories are tried.
-const NAMES: usize = 1000;
 
 const INPUTS: [(&str, &str); 4] = [
     ("hexagons.txt", include_str!("../../../../examples/hexagons.txt")),
@@ -72,44 +67,19 @@ const RESULTS: &str = "
 ";
 
 fn run(words: &Words) -> Outcome<()> {
-    let directory = words.plain.first().map_or_else(unused, |named| Ok(named.clone()))?;
-    let failed = |error| Trouble::file(&files::shown(&directory), error);
-    if !is_unused(&directory) {
-        return Err(Trouble::Kept(format!(
-            "{}: it is there and not empty, and stays as it is: name a new directory",
-            files::shown(&directory)
-        )));
-    }
-    fs::create_dir_all(&directory).and_then(|()| std::env::set_current_dir(&directory)).map_err(failed)?;
+    let directory = words.plain.first().map_or(OsStr::new(DIRECTORY), OsString::as_os_str);
+    let failed = |error| Trouble::file(&files::shown(directory), error);
+    fs::create_dir_all(directory).and_then(|()| std::env::set_current_dir(directory)).map_err(failed)?;
     for (name, text) in INPUTS {
-        outputs::create(OsStr::new(name), text.as_bytes())?;
+        files::write(Some(OsStr::new(name)), text.as_bytes())?;
     }
     for step in STEPS {
-        files::print(format!("$ bladeplan {}\n", typed(step)).as_bytes())?;
+        files::write(None, format!("$ bladeplan {}\n", typed(step)).as_bytes())?;
         let quiet = words.quiet().then_some(&"--quiet");
         crate::run(step.iter().chain(quiet).map(OsString::from))?;
     }
     let place = std::env::current_dir().map_err(failed)?;
-    files::print(format!("\nThe results are in {}:\n{RESULTS}", place.display()).as_bytes())
-}
-
-/// Whether nothing is there, or an empty directory.
-fn is_unused(directory: &OsStr) -> bool {
-    match fs::read_dir(directory) {
-        Ok(mut entries) => entries.next().is_none(),
-        Err(error) => error.kind() == io::ErrorKind::NotFound,
-    }
-}
-
-/// The directory's own name, or where that is taken the first with a number that is not; that is told.
-fn unused() -> Outcome<OsString> {
-    if is_unused(OsStr::new(DIRECTORY)) {
-        return Ok(DIRECTORY.into());
-    }
-    let other = (2..NAMES).map(|number| format!("{DIRECTORY}-{number}")).find(|name| is_unused(OsStr::new(name)));
-    let other = other.ok_or_else(|| Trouble::Kept(format!("{DIRECTORY} is there, and as many more as are tried: name a new directory")))?;
-    files::say(&format!("{DIRECTORY} is there and not empty, and stays as it is: the results go to {other}"));
-    Ok(other.into())
+    files::write(None, format!("\nThe results are in {}:\n{RESULTS}", place.display()).as_bytes())
 }
 
 /// A command line as a person types it.

@@ -1,13 +1,10 @@
 //! `normalise` and `star`: points without any plan.
 
-use crate::asked::point_word;
-use crate::outputs::{self, POINTS};
+use crate::files;
 use crate::place::Place;
-use crate::points::{lines, record, spelled};
-use crate::records;
-use crate::trouble::{words as told, Outcome, Refused, Trouble};
+use crate::points::{lines, point_word, record};
+use crate::trouble::{Outcome, Trouble};
 use crate::words::{Command, Words};
-use flaskbloom::{Record, Refusal};
 
 pub const NORMALISE: Command = Command {
     name: "normalise",
@@ -45,7 +42,7 @@ example: the star of a vertex of degree 6 that was subdivided once
 fn normalise(words: &Words) -> Outcome<()> {
     let points = words.plain.iter().map(|word| point_word(&NORMALISE, word)).collect::<Outcome<Vec<_>>>()?;
     let forms: Vec<_> = points.into_iter().map(flaskbloom::normalise).collect();
-    outputs::write(words, &POINTS, lines(&forms).as_bytes())
+    files::write(words.output(), lines(&forms).as_bytes())
 }
 
 fn star(words: &Words) -> Outcome<()> {
@@ -53,16 +50,6 @@ fn star(words: &Words) -> Outcome<()> {
     let wrong = || STAR.wrong(&format!("{} is no record a,b,m,d,k,n", word.to_string_lossy()));
     let r = word.to_str().and_then(record).ok_or_else(wrong)?;
     let place = Place::Word(format!("record {}", word.to_string_lossy()));
-    let points = flaskbloom::star(r).map_err(|refusal| Trouble::Refused(vec![Refused::saying(place, refusal, why(r, refusal))]))?;
-    outputs::write(words, &POINTS, lines(&points).as_bytes())
-}
-
-/// What is wrong with a record: the field, where there is one.
-fn why(r: Record, refusal: Refusal) -> String {
-    let line = format!("{}\t{}\t{}\t{}\t{}\t{}", r.point.a, r.point.b, r.point.m, r.degree, r.orientation, r.level);
-    match (refusal, records::fault(line.as_bytes())) {
-        (Refusal::BadLine, Some(fault)) => fault.to_string(),
-        (Refusal::DegreeZero, _) => format!("{} stands on the rim (d is 0), which has no star", spelled(r.point)),
-        _ => told(refusal).to_string(),
-    }
+    let points = flaskbloom::star(r).map_err(|refusal| Trouble::refused(place, refusal))?;
+    files::write(words.output(), lines(&points).as_bytes())
 }

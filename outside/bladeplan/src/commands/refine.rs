@@ -1,11 +1,10 @@
 //! `refine`: a plan made finer at vertices, whatever their degree, or round outlines.
 
 use super::round;
-use crate::added::finer;
 use crate::asked::Asked;
 use crate::counted;
 use crate::files;
-use crate::log::Log;
+use crate::log::{self, Log};
 use crate::outlines;
 use crate::points::spelled;
 use crate::trouble::Outcome;
@@ -13,7 +12,7 @@ use crate::words::{Command, Words};
 
 pub const COMMAND: Command = Command {
     name: "refine",
-    usage: "PLAN WHERE.. [--subdivide] [--passes N] [--level N] [--skip] [-o FILE] [--log FILE] [--quiet]",
+    usage: "PLAN WHERE.. [--subdivide] [--passes N] [--level N] [-o FILE] [--log FILE] [--quiet]",
     about: "make a plan finer round outlines, or at vertices whatever their degree: the full file",
     help: "\
 PLAN is a full or a reduced file, '-' standard input. WHERE are outlines or points, not both.
@@ -29,7 +28,6 @@ Points: a POINT is a,b,m (a,b for m 0), spelled in any way; --list FILE has more
 subdivided for it to have six neighbours is subdivided, and only that; with --subdivide it is then subdivided itself. How many subdivisions
 each took is told on standard error. If one is refused nothing is written: with 16 where what has to be subdivided comes to the rim.
 
-With --skip outlines, points and lines of a list that are refused are left out and told, and the others are done; too many vertices end it.
 The full file goes to standard output, or to FILE, which may be PLAN. With --log what was made is added to the plan's log, level by level:
 see replay. A log of another plan is refused with 21.
 
@@ -37,7 +35,7 @@ example: four passes round a pit and along a score, to level 4; then a vertex th
   bladeplan refine plan.full --disc 2.5,6,0.8 --line 0.2,1,9 --passes 4 --level 4 -o plan.full
   bladeplan refine plan.full 0,0 --subdivide -o plan.full
 ",
-    flags: &["--subdivide", "--skip"],
+    flags: &["--subdivide"],
     valued: &["--list", "--disc", "--line", "--outlines", "--passes", "--level", "--log", "--output"],
     takes: 1..=usize::MAX,
     run,
@@ -58,15 +56,14 @@ fn run(words: &Words) -> Outcome<()> {
 fn at_points(words: &Words) -> Outcome<()> {
     let asked = Asked::load(&COMMAND, words)?;
     let log = Log::of_plan(&COMMAND, words, &asked.plan)?;
-    let changed = asked.plan.refined(&asked.points, words.has("--subdivide"))?;
-    asked.judged(words, &changed)?;
+    let (file, taken) = asked.plan.refined(&asked.points, words.has("--subdivide"))?.map_err(|refused| asked.refused(refused))?;
     if !words.quiet() {
-        for (p, taken) in asked.points.iter().zip(&changed.taken) {
-            taken.iter().for_each(|taken| files::say(&format!("refine: {} took {}", spelled(*p), subdivisions(*taken))));
+        for (p, taken) in asked.points.iter().zip(taken) {
+            files::say(&format!("refine: {} took {}", spelled(*p), subdivisions(taken)));
         }
     }
-    let log = finer(log, &asked.plan, &changed.file)?;
-    counted::write_logged(&COMMAND, words, &counted::vertices(&asked.plan, "in"), &changed.file, log)
+    let log = log::finer(log, words, &asked.plan, &file)?;
+    counted::write_logged(&COMMAND, words, &counted::vertices(&asked.plan, "in"), &file, log)
 }
 
 fn subdivisions(taken: usize) -> String {

@@ -25,7 +25,7 @@ example:
 };
 
 fn run(words: &Words) -> Outcome<()> {
-    let log = Log::load(words, &words.plain[0])?;
+    let log = Log::load(&words.plain[0])?;
     let file = log.table()?.write_full().map_err(|refusal| Trouble::refused(Place::File(log.list.name.clone()), refusal))?;
-    counted::write(&COMMAND, words, &format!("{} in", counted::making(log.hexagons.len(), log.made.len())), &file)
+    counted::write(&COMMAND, words, &counted::making(log.hexagons.len(), log.made.len()), &file)
 }

@@ -1,16 +1,14 @@
 //! `refine` round outlines: pass by pass, so that each can be told; the plan is changed whole or not at all.
 
-use crate::added::finer;
-use crate::advice;
 use crate::counted;
 use crate::files;
-use crate::log::Log;
+use crate::log::{self, Log};
 use crate::outlines::{self, Given};
 use crate::plan::{Plan, NEW_VERTICES};
 use crate::sizes;
-use crate::trouble::{words as said, Outcome, Trouble};
+use crate::trouble::{Outcome, Trouble};
 use crate::words::{Command, Words};
-use flaskbloom::{Refusal, RefusedAt, Table};
+use flaskbloom::{RefusedAt, Table};
 
 /// The level up to which is refined where none is given, and the passes.
 const HIGHEST: u8 = 12;
@@ -28,14 +26,13 @@ pub fn run(command: &Command, words: &Words) -> Outcome<()> {
     let (passes, level) = (small(command, words, "--passes", ONCE)?, small(command, words, "--level", HIGHEST)?);
     let plan = Plan::load(&words.plain[0])?;
     let log = Log::of_plan(command, words, &plan)?;
-    let given = outlines::judged(words, &plan, given)?;
     let mut made = Vec::new();
     let refined = refined(&plan, &given, passes, level, &mut made)?;
     if !words.quiet() {
         told(&given, &made).iter().for_each(|line| files::say(line));
     }
-    let file = refined.map_err(|refused| stopped(words, &plan, &given, &made, refused))?;
-    let log = finer(log, &plan, &file)?;
+    let file = refined.map_err(|refused| stopped(&plan, &given, &made, refused))?;
+    let log = log::finer(log, words, &plan, &file)?;
     counted::write_logged(command, words, &counted::vertices(&plan, "in"), &file, log)
 }
 
@@ -67,7 +64,7 @@ fn refined(plan: &Plan, given: &[Given], passes: u8, level: u8, made: &mut Vec<P
         Ok(table)
     });
     Ok(match table {
-        Ok(table) => Ok(table.write_full().map_err(|refusal| outlines::refused_at(plan, "the output", refusal, said(refusal)))?),
+        Ok(table) => Ok(table.write_full().map_err(|refusal| outlines::refused_at(plan, "the output", refusal))?),
         Err(refused) => Err(refused),
     })
 }
@@ -81,17 +78,13 @@ fn told(given: &[Given], made: &[Pass]) -> Vec<String> {
     made.iter().enumerate().map(line).collect()
 }
 
-/// How far it came: the outline, and which of its passes was refused. What is out of range is the passes or the level: the outlines were judged before.
-fn stopped(words: &Words, plan: &Plan, given: &[Given], made: &[Pass], refused: RefusedAt) -> Trouble {
+/// How far it came: the outline, and which of its passes was refused; of what is out of range none was begun.
+fn stopped(plan: &Plan, given: &[Given], made: &[Pass], refused: RefusedAt) -> Trouble {
     let at = usize::try_from(refused.at).unwrap_or(usize::MAX);
-    let Some(outline) = given.get(at) else { return outlines::refused_at(plan, "the plan", refused.refusal, said(refused.refusal)) };
-    let pass = format!("{}, pass {}", outline.told, 1 + made.iter().filter(|pass| pass.of == at).count());
-    match refused.refusal {
-        Refusal::BadOutline => {
-            let typed = words.all(&["--passes", "--level"]).map(|(name, value)| format!("{name} {}", value.to_string_lossy()));
-            outlines::refused_at(plan, &typed.collect::<Vec<_>>().join(" "), refused.refusal, "a whole number from 0 to 12 belongs there")
-        }
-        Refusal::TooFewSlots => outlines::refused_at(plan, &pass, refused.refusal, &advice::too_large()),
-        other => outlines::refused_at(plan, &pass, other, said(other)),
-    }
+    let Some(outline) = given.get(at) else { return outlines::refused_at(plan, "the plan", refused.refusal) };
+    let place = match refused.refusal {
+        flaskbloom::Refusal::BadOutline => outline.told.clone(),
+        _ => format!("{}, pass {}", outline.told, 1 + made.iter().filter(|pass| pass.of == at).count()),
+    };
+    outlines::refused_at(plan, &place, refused.refusal)
 }

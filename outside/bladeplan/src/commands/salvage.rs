@@ -1,17 +1,13 @@
 //! `salvage`: an old file that the readers refuse, mended, with what was changed.
 
-use crate::advice;
 use crate::files;
-use crate::mending::{look, salvaged};
-use crate::outputs::{self, Answer, Output, Over};
-use crate::patience;
 use crate::place::Place;
-use crate::plan::{self, Plan};
-use crate::points::{order, record, spelled};
+use crate::plan::{order, Plan};
+use crate::points::{record, spelled};
 use crate::sizes;
-use crate::trouble::{Outcome, Refused, Trouble};
+use crate::trouble::{Outcome, Trouble};
 use crate::words::{Command, Words};
-use flaskbloom::{normalise, Record, Refusal, Salvaged, Table};
+use flaskbloom::{normalise, Refusal, RefusedAt, Salvaged, Table};
 use std::collections::HashSet;
 use std::ffi::OsStr;
 use std::io;
@@ -25,8 +21,7 @@ FILE is a plan's file that may be broken, '-' standard input. Malformed lines ar
 form, a line that then says what an earlier one says is dropped, the rest is sorted, and vertices that are missing round one with six
 neighbours are restored. The full file goes to standard output, or to FULL. LIST gets a line a change: the line's number (0 for a restored
 vertex), a tab, and dropped, normalised, repeat or restored. On standard error each change is told in words, with the line as it stood, and
-the sums. If one point has two different records (20), or no grown mesh is left (11), nothing is written. FILE stays as it is: only with
---replace may FULL be FILE.
+the sums. If one point has two different records (20), or no grown mesh is left (11), nothing is written.
 
 example: a file of the old drawing tool
   bladeplan salvage old.txt -o plan.full --changes changes.txt
@@ -42,27 +37,20 @@ const LONGEST: u64 = 64 << 20;
 const SHOWN: usize = 60;
 const SEARCHED: usize = 4 * sizes::LARGEST;
 
-/// The list of changes, and its words.
-const CHANGES: Output = Output { name: "a list of changes", is_one: is_changes };
-const WORDS: [&str; 4] = ["dropped", "normalised", "repeat", "restored"];
-
 fn run(words: &Words) -> Outcome<()> {
-    let listed = words.has("--changes");
-    if listed && outputs::are_one_place(words, "--changes") {
+    let list = words.value("--changes");
+    if list.is_some_and(|list| words.output() == Some(list) || words.output().is_none() && list == "-") {
         return Err(COMMAND.wrong("the full file and the list of changes cannot go to one place"));
     }
     let (name, file) = load(&words.plain[0])?;
     let lines: Vec<&[u8]> = file.split_inclusive(|byte| *byte == b'\n').collect();
-    let tried = patience::shown(&format!("{name}: {} lines", lines.len()), || {
-        salvaged(&file).map_err(|refusal| Trouble::Refused(vec![refused(&name, &file, &lines, refusal)]))
-    });
-    let salvaged = tried?;
+    let tried = sizes::growing(lines.len(), |slots| Table::salvage(slots, &file).map_err(|refusal| RefusedAt { refusal, at: 0 }));
+    let salvaged = tried.map_err(|refused| Trouble::refused(place(&name, &lines, refused.refusal), refused.refusal))?;
     let plan = Plan::read("the output", &salvaged.file)?;
-    let mut answers = vec![Answer { option: "--output", kind: &plan::OUTPUT, bytes: &salvaged.file, over: Over::Mended }];
-    if listed {
-        answers.push(Answer { option: "--changes", kind: &CHANGES, bytes: &salvaged.changes, over: Over::Like });
+    if let Some(list) = list {
+        files::write(Some(list), &salvaged.changes)?;
     }
-    outputs::write_all(words, &answers)?;
+    files::write(words.output(), &salvaged.file)?;
     if !words.quiet() {
         told(&name, &lines, &salvaged, &plan).iter().for_each(|line| files::say(line));
     }
@@ -79,47 +67,12 @@ fn load(path: &OsStr) -> Outcome<(String, Vec<u8>)> {
     }
 }
 
-/// What is refused, and what can be done; of 20 the two lines, which the library's call does not tell.
-fn refused(name: &str, file: &[u8], lines: &[&[u8]], refusal: Refusal) -> Refused {
-    let place = Place::File(name.to_string());
+/// Where a refusal is; the library's call tells no line.
+fn place(name: &str, lines: &[&[u8]], refusal: Refusal) -> Place {
     match refusal {
-        Refusal::TwoRecords if lines.len() <= SEARCHED => {
-            let both = two_records(lines);
-            let what = both_records(both.map(|at| parsed(lines[at - 1])));
-            Refused::saying(Place::Lines(name.to_string(), both), refusal, what)
-        }
-        Refusal::TooFewSlots => Refused::saying(place, refusal, advice::too_large()),
-        Refusal::NotGrown => Refused::saying(place, refusal, look(file).unwrap_or_else(|| left(lines))),
-        other => Refused::new(place, other),
+        Refusal::TwoRecords if lines.len() <= SEARCHED => Place::Lines(name.to_string(), two_records(lines)),
+        _ => Place::File(name.to_string()),
     }
-}
-
-/// Why no grown mesh is left of these lines.
-fn left(lines: &[&[u8]]) -> String {
-    match lines {
-        [] => "an empty file".to_string(),
-        lines if lines.iter().all(|line| parsed(line).is_none()) => "no line of it is one of a plan".to_string(),
-        _ => "what is left of it is no grown mesh: a vertex is missing that no neighbour implies, or something was changed by hand"
-            .to_string(),
-    }
-}
-
-/// Two records of one point, of which one is wrong.
-fn both_records(both: [Option<Record>; 2]) -> String {
-    let point = both[0].map_or(String::new(), |r| spelled(normalise(r.point)));
-    let [first, second] = both.map(|r| r.map_or(String::new(), |r| format!("{},{},{}", r.degree, r.orientation, r.level)));
-    format!("{point} has two records, d,k,n {first} and {second}: take out the line that is wrong")
-}
-
-/// The numbers of a line; whether they are a valid record is the library's to say.
-fn parsed(line: &[u8]) -> Option<Record> {
-    record(String::from_utf8_lossy(line).trim_end())
-}
-
-/// Every line is the number of a line and a word.
-fn is_changes(text: &[u8]) -> bool {
-    let is_change = |line: &str| line.split_once('\t').is_some_and(|(at, word)| at.parse::<usize>().is_ok() && WORDS.contains(&word));
-    text.ends_with(b"\n") && std::str::from_utf8(text).is_ok_and(|text| text.lines().all(is_change))
 }
 
 /// The lines of two records of one point, found by asking of fewer and fewer lines: the first that comes too many, and the last before it that it
@@ -138,7 +91,7 @@ fn told(name: &str, lines: &[&[u8]], salvaged: &Salvaged, plan: &Plan) -> Vec<St
     let changes: Vec<(usize, &str)> =
         text.lines().filter_map(|line| line.split_once('\t')).map(|(at, word)| (at.parse().unwrap_or(0), word)).collect();
     let count = |word: &str| changes.iter().filter(|change| change.1 == word).count();
-    let [dropped, normalised, repeated, restored] = WORDS.map(count);
+    let [dropped, normalised, repeated, restored] = ["dropped", "normalised", "repeat", "restored"].map(count);
     let (kept, out) = (lines.len() - dropped - repeated, plan.records().len());
     let of_lines = changes.iter().filter(|change| change.0 > 0);
     let mut told: Vec<String> = of_lines.map(|(at, word)| in_words(name, *at, word, lines[at - 1])).collect();
@@ -172,6 +125,7 @@ fn in_words(name: &str, at: usize, word: &str, line: &[u8]) -> String {
 fn without_line<'a>(lines: &[&[u8]], changes: &[(usize, &str)], plan: &'a Plan) -> impl Iterator<Item = String> + 'a {
     let dropped: HashSet<usize> = changes.iter().filter(|change| change.1 == "dropped").map(|change| change.0).collect();
     let kept = (1..).zip(lines).filter(|(at, _)| !dropped.contains(at));
-    let given: HashSet<_> = kept.filter_map(|(_, line)| parsed(line)).map(|r| order(normalise(r.point))).collect();
+    let records = kept.filter_map(|(_, line)| record(String::from_utf8_lossy(line).trim_end()));
+    let given: HashSet<_> = records.map(|r| order(normalise(r.point))).collect();
     plan.records().iter().map(|r| r.point).filter(move |p| !given.contains(&order(*p))).map(spelled)
 }

@@ -2,7 +2,6 @@
 
 use crate::counted;
 use crate::files;
-use crate::outputs::{self, Output};
 use crate::plan::Plan;
 use crate::trouble::Outcome;
 use crate::words::{Command, Words};
@@ -43,40 +42,22 @@ example: the plan in a viewer that reads no OFF
     run: obj,
 };
 
-const OFF_FILE: Output =
-    Output { name: "an OFF file", is_one: |text| text.starts_with(b"OFF\n") && lines(text).skip(2).all(|line| is_line("", "4 ", line)) };
-const OBJ_FILE: Output = Output { name: "an OBJ file", is_one: |text| lines(text).all(|line| is_line("v ", "f ", line)) };
-
 fn off(words: &Words) -> Outcome<()> {
-    view(&OFF, &OFF_FILE, words, Plan::off)
+    view(&OFF, words, Plan::off)
 }
 
 fn obj(words: &Words) -> Outcome<()> {
-    view(&OBJ, &OBJ_FILE, words, Plan::obj)
+    view(&OBJ, words, Plan::obj)
 }
 
-fn view(command: &Command, kind: &Output, words: &Words, file: fn(&Plan) -> Outcome<Vec<u8>>) -> Outcome<()> {
+fn view(command: &Command, words: &Words, file: fn(&Plan) -> Outcome<Vec<u8>>) -> Outcome<()> {
     let plan = Plan::load(&words.plain[0])?;
     let text = file(&plan)?;
-    outputs::write(words, kind, &text)?;
+    files::write(words.output(), &text)?;
     if !words.quiet() {
         files::say(&format!("{}: {}, {}", command.name, counted::vertices(&plan, "in"), out(&text)));
     }
     Ok(())
-}
-
-/// The lines of a file, of which the last is ended as well.
-fn lines(text: &[u8]) -> impl Iterator<Item = &[u8]> {
-    text.strip_suffix(b"\n").unwrap_or(b"?").split(|byte| *byte == b'\n')
-}
-
-/// Whether a line is a vertex or a face as these files have them: no other program ends each vertex with 0.0000.
-fn is_line(vertex: &str, face: &str, line: &[u8]) -> bool {
-    let words = |line: &[u8]| line.split(|byte| *byte == b' ').count();
-    match line.strip_prefix(face.as_bytes()) {
-        Some(corners) => words(corners) == 4,
-        None => line.strip_prefix(vertex.as_bytes()).is_some_and(|place| words(place) == 3 && place.ends_with(b" 0.0000")),
-    }
 }
 
 /// What goes out, counted in the file's own lines: only those of vertices have a point in them, only those of faces five words.

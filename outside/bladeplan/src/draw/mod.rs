@@ -21,7 +21,6 @@ mod text;
 
 use crate::files;
 use crate::findings::{in_and_out, JoinedList};
-use crate::outputs::{self, Output};
 use crate::plan::Plan;
 use crate::trouble::Outcome;
 use crate::words::{Command, Words};
@@ -36,10 +35,10 @@ use std::ffi::OsStr;
 
 pub const COMMAND: Command = Command {
     name: "draw",
-    usage: "PLAN [--html] [--findings FILE] [--over OLD] [OUTLINES] [--skip] [--title TEXT] [-o FILE] [--quiet]",
+    usage: "PLAN [--html] [--findings FILE] [--over OLD] [OUTLINES] [--title TEXT] [-o FILE] [--quiet]",
     about: "draw a plan for the report: a sheet (SVG), or a page to look about in (HTML)",
     help: HELP,
-    flags: &["--html", "--skip"],
+    flags: &["--html"],
     valued: &["--output", "--findings", "--over", "--disc", "--line", "--outlines", "--title"],
     takes: 1..=1,
     run,
@@ -50,7 +49,6 @@ Draws a plan, a full or a reduced file or '-', on an A4 sheet: an SVG file, whic
 
   --html           one page for a browser instead: zoom with the wheel, move by dragging, the findings in a list beside the plan
   --findings FILE  marks findings, a list as 'bladeplan findings' takes it. Those with no vertex are listed in the caption
-  --skip           leaves out findings and outlines that are none, and tells them
   --over OLD       draws an older plan under this one, and shows what is new
   OUTLINES         --disc X,Y,R, --line P,Q,S and --outlines FILE as 'bladeplan refine' takes them: each is shown by a broken line
   --title TEXT     the title; without it the file's name
@@ -58,13 +56,6 @@ Draws a plan, a full or a reduced file or '-', on an A4 sheet: an SVG file, whic
 example: this autumn's plan over last spring's, with the inspectors' findings
   bladeplan draw autumn.full --over spring.full --findings pits.txt --html -o autumn.html
 ";
-
-const SHEET: Output =
-    Output { name: "an SVG drawing", is_one: |text| is_drawn(text, b"<svg xmlns=\"http://www.w3.org/2000/svg\" width=\"") };
-const PAGE: Output = Output {
-    name: "a page for a browser",
-    is_one: |text| is_drawn(text, b"<!DOCTYPE html>\n<html lang=\"en\">\n<head>\n<meta charset=\"utf-8\">\n<title>"),
-};
 
 /// The figures of a path on a page that is zoomed; on a sheet a level is one path.
 const PIECE: usize = 400;
@@ -94,12 +85,13 @@ pub struct Drawing<'a> {
 
 impl Drawing<'_> {
     pub fn of<'a>(plan: &'a Plan, words: &Words) -> Outcome<Drawing<'a>> {
-        let findings = words.value("--findings").map(|path| load(plan, words, path)).transpose()?;
+        let findings = words.value("--findings").map(|path| load(plan, path)).transpose()?;
         let title = match words.value("--title") {
             Some(title) => text::shown(title.as_encoded_bytes()),
             None => named(&words.plain[0]),
         };
-        let given = crate::outlines::judged(words, plan, crate::outlines::load(&COMMAND, words)?)?;
+        let given = crate::outlines::load(&COMMAND, words)?;
+        crate::outlines::judge(plan, &given)?;
         let outlines = given.into_iter().map(|given| given.outline).collect();
         let piece = if words.has("--html") { PIECE } else { usize::MAX };
         let faces = plan.faces()?;
@@ -131,21 +123,15 @@ fn run(words: &Words) -> Outcome<()> {
     let drawing = Drawing::of(&plan, words)?;
     let page = Page::of(&drawing);
     let marks = drawing.marks(page.scale);
-    let (kind, text) = match words.has("--html") {
-        true => (&PAGE, html::html(&drawing, &page, &svg::svg(&drawing, &page, &marks, ""))),
-        false => (&SHEET, svg::svg(&drawing, &page, &marks, &svg::own_page(&page))),
+    let text = match words.has("--html") {
+        true => html::html(&drawing, &page, &svg::svg(&drawing, &page, &marks, "")),
+        false => svg::svg(&drawing, &page, &marks, &svg::own_page(&page)),
     };
-    outputs::write(words, kind, text.as_bytes())?;
+    files::write(words.output(), text.as_bytes())?;
     if !words.quiet() {
         told(&drawing, &marks).iter().for_each(|line| files::say(line));
     }
     Ok(())
-}
-
-/// Whether a drawing begins and is described as ours are: another program that changed one writes its own first line.
-fn is_drawn(text: &[u8], begins: &[u8]) -> bool {
-    let described = b"<desc>Blade plan: ";
-    text.starts_with(begins) && text.windows(described.len()).any(|part| part == described)
 }
 
 /// The last part of a file's name, as the sheet shows it.
@@ -154,8 +140,8 @@ fn named(path: &OsStr) -> String {
     name.map_or("standard input".to_string(), |name| text::shown(name.as_encoded_bytes()))
 }
 
-fn load(plan: &Plan, words: &Words, path: &OsStr) -> Outcome<Findings> {
-    let list = JoinedList::load(plan, words, path)?;
+fn load(plan: &Plan, path: &OsStr) -> Outcome<Findings> {
+    let list = JoinedList::load(plan, path)?;
     let joined = Joined::of(plan, &list);
     Ok(Findings { came_in: list.findings().count(), path: list.name, name: named(path), joined })
 }

@@ -1,7 +1,6 @@
 //! An older plan under the new one: which vertices and faces are new, which went, which vertices have another star.
 
-use crate::plan::{Face, Plan};
-use crate::points::order;
+use crate::plan::{order, Face, Plan};
 use crate::trouble::Outcome;
 use std::collections::HashSet;
 

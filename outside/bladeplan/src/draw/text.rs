@@ -1,7 +1,5 @@
 //! Bytes of a note or of a file's name as text for a page: what is no text is shown by its number, nothing is dropped, and nothing is markup.
 
-use crate::fields;
-
 /// Bytes as text. A byte that is no UTF-8, and a character that can't be seen or would turn its line round, is shown as ‹its number›.
 pub fn shown(bytes: &[u8]) -> String {
     let mut text = String::new();
@@ -41,9 +39,17 @@ pub fn escaped(text: &str) -> String {
     out
 }
 
-/// A count with a comma at each thousand.
+/// A number with a comma at each thousand.
 pub fn grouped(n: usize) -> String {
-    fields::grouped(n as i64)
+    let digits = n.to_string();
+    let mut out = String::new();
+    for (i, digit) in digits.chars().enumerate() {
+        if i > 0 && (digits.len() - i) % 3 == 0 {
+            out.push(',');
+        }
+        out.push(digit);
+    }
+    out
 }
 
 /// How many of a thing, the word in the singular for one.

@@ -34,6 +34,8 @@ pub const COMMANDS: [&str; 19] = [
     "example",
 ];
 
+pub const FIFTEEN: &str = "refused with 15: that line is no finding: number, a, b, m and note, tabs between, each within its limits";
+
 pub struct Desk {
     pub place: PathBuf,
 }

@@ -1,6 +1,6 @@
 //! Findings are counted in and counted out: on the sheet in boxes or in the caption, on the page in the list; and their notes are text.
 
-use crate::common::Desk;
+use crate::common::{Desk, FIFTEEN};
 use crate::sheet::Sheet;
 use crate::xml;
 
@@ -88,11 +88,7 @@ fn what_is_no_finding_is_refused() {
     let desk = Desk::with_plan("no-finding");
     desk.put("list.txt", "1\t0\t0\t0\tgood\n2\t0\t0\tshort\n");
     desk.put("old.svg", "old");
-    desk.refused(
-        "draw plan.full --findings list.txt -o old.svg",
-        15,
-        "list.txt, line 2: refused with 15: 4 fields where 5 belong: number, a, b, m and note, tabs between",
-    );
+    desk.refused("draw plan.full --findings list.txt -o old.svg", 15, &format!("list.txt, line 2: {FIFTEEN}"));
     assert_eq!(desk.get("old.svg"), "old");
     desk.refused("draw plan.full --findings missing.txt", 74, "missing.txt: No such file or directory");
     desk.put("empty.txt", "");
