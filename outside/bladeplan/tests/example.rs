@@ -20,13 +20,8 @@ fn the_example_is_the_stored_one() {
             "examples/{name} is not what 'bladeplan example' makes; where the change is meant, './bladeplan example examples' stores it"
         );
     }
-    let vertices = |name: &str| fs::read_to_string(stored.join(name)).expect("stored").lines().count();
-    let (base, plan) = (vertices("base.full"), vertices("plan.full"));
-    let counted = format!(
-        "bladeplan: lay: 97 hexagons in, {base} vertices out\nbladeplan: refine: disc 1.5,7.8,1.1 (outlines.txt, line 3), pass 1: "
-    );
-    assert!(ran.err.starts_with(&counted), "{}", ran.err);
-    assert!(ran.err.contains(&format!("bladeplan: refine: {base} vertices in, {plan} vertices out\n")), "{}", ran.err);
+    let counted = "bladeplan: lay: 32 hexagons in, 120 vertices out\nbladeplan: subdivide: 120 vertices in, 186 vertices out\n";
+    assert!(ran.err.starts_with(counted), "{}", ran.err);
     assert!(ran.out.contains(&format!("The results are in {}", fs::canonicalize(&made).expect("made").display())), "{}", ran.out);
 }
 

