@@ -2,7 +2,7 @@
 -- mesh's StepLaws and ChainLaws have besides.
 -- `After` what a step leaves: number and table as the definition has them, in order, its free slots: `after-here`, `given-after`, `after_same`,
 -- `after_then` · `held-refused`, `held-made` a vertex's subdivision as a step · `near-stop`, `near_on` one neighbour · `Turning`, `turning-..` the places
--- in turn.
+-- in turn · `tried-on`, `tried-back` all or nothing.
 -- Assumes nothing.
 use Rattle.std.specs.Prelude.{◌≡◌, Bool, true, false, cond, List, length}
 use Rattle.std.proofs.Math.Path.{refl, ap}
@@ -17,12 +17,13 @@ use Rattle.table.specs.Order.{InOrder}
 use Rattle.table.specs.Slots.{free_slots}
 use Rattle.table.specs.MapLaws.{table_same}
 use Rattle.table.specs.declared.entries.Looked.TheVariants.{Held}
-use Rattle.mesh.specs.Subdivide.{MeshAfter, mesh_after, subdivided, subdivide_vertex}
+use Rattle.mesh.specs.Subdivide.{MeshAfter, mesh_after, subdivided, subdivide_vertex, all_or}
 use Rattle.mesh.specs.SubdivideLaws.{subdivided-order, subdivided-free}
 use Rattle.mesh.specs.WriteLaws.{Standing, subdivided-length}
-use Rattle.mesh.specs.StepLaws.{Given, Divided, denied, done, divided, then-on, then-stop}
+use Rattle.mesh.specs.StepLaws.{Given, Divided, denied, done, divided, then-on, then-stop, all_made, all_back}
 use Rattle.bring.specs.Bring.{places_of, each_of, raised_at, near_of, is_six, ends_at, bring_of}
 use Rattle.bring.specs.ChainLaws.{run, places-first, near-lower, bring-is}
+use Rattle.bring.specs.CallLaws.{RequestLeaves, comes-same}
 
 -- what a step that comes to o leaves of the table t: the number x, the table t' and its free slots
 pub record After (t : List ℕ) (o : MeshAfter) (x f : ℕ) (t' : List ℕ) : Type 0 where
@@ -177,3 +178,11 @@ module _ (t₀ : List ℕ) (v : Record) (n : ℕ) (t : List ℕ) (f j : ℕ) (g 
               (λ i. each_of (near_of v.n.0) v (a.bytes i) (run (j + 1) (k i)))
               ∙ each_more (near_of v.n.0) v t j (6 - v.d - j) (omega arith) (sym a.number ∙ z) ∙ g.left;
         }
+
+-- ---- all or nothing
+module _ (t s s' : List ℕ) (l : length s' ≡ length s) (o : MeshAfter) (x f : ℕ) (t' : List ℕ) (a : After t o x f t') where
+  pub tried-on : x ≡ 0 → RequestLeaves (all_or t o) s x t' s'
+  tried-on z = comes-same (all_made t o (sym a.number ∙ z)) (record { number = a.number; bytes = a.bytes; long = l })
+
+  pub tried-back : (x ≡ 0 → ⊥) → (t'' : List ℕ) → t'' ≡ t → RequestLeaves (all_or t o) s x t'' s'
+  tried-back n t'' e = comes-same (all_back t o (λ z. n (a.number ∙ z))) (record { number = a.number; bytes = e; long = l })
