@@ -2,7 +2,7 @@
 -- as the machine wants it: `adjacent-bound`, `chosen-bound`; `size-wide`, `size-high`, `wide-bound`, `high-bound`, `raised-bound` what that says of a
 -- numerator.
 -- Assumes nothing.
-use Rattle.std.specs.Prelude.{◌≡◌, refl, Bool, true, false, cond, List, ℕ, zero, suc, ◌+◌, ◌*◌, ◌-◌, ◌^◌, ◌≤◌, ◌<◌, ℤ, nat_abs}
+use Rattle.std.specs.Prelude.{◌≡◌, refl, Bool, true, false, cond, List, ℕ, zero, suc, ◌+◌, ◌*◌, ◌-◌, ◌^◌, ◌≤◌, ◌<◌, ℤ, nat_abs, Option, Some, None}
 use Rattle.std.proofs.Common.{sym, ap, ◌∙◌, subst, arith, mul_assoc, le_trans, mul-le-mul, mul-le-mul_right, mul-le-mul_left, mul-one, lit≤, lit<, pow-add}
 use Rattle.std.proofs.Math.Nat.{one-le-pow, pow-le-pow_right}
 use Rattle.laws.specs.Sizes.{abs-add, abs-mul}
@@ -15,8 +15,6 @@ use Rattle.lattice.specs.Stars.{scale_of, step_of, adjacent_at, first_at, second
 use Rattle.lattice.specs.RecordLaws.{Inner}
 use Rattle.lattice.specs.declared.points.Point.{Point}
 use Rattle.lattice.specs.declared.records.Record.{Record}
-use Rattle.lattice.specs.declared.patterns.Spot.{Spot}
-use Rattle.lattice.specs.declared.patterns.Spot.TheVariants.{At, Nothing}
 use Rattle.table.specs.Entries.{holds}
 use Rattle.queries.specs.Queries.{there, chosen_at}
 use Rattle.across.specs.Across.{StarPoint}
@@ -24,39 +22,39 @@ use Rattle.across.specs.Across.{StarPoint}
 -- ---- the opposites of a corner, as pattern points
 
 -- the first and the second
-abbrev pub opposite_of : ℕ → ℕ → ℕ → Spot
-opposite_of d j zero = At (pattern_of d j).first
+abbrev pub opposite_of : ℕ → ℕ → ℕ → Option Point
+opposite_of d j zero = Some (pattern_of d j).first
 opposite_of d j (suc w) = (pattern_of d j).second
 
 pub record Opposite (v : Record) (j : ℕ) (o : Point) : Type 0 where
   pub pattern : Point
   pub which : ℕ
   pub two : which < 2
-  pub row : opposite_of v.d j which ≡ At pattern
+  pub row : opposite_of v.d j which ≡ Some pattern
   pub is : step_of v.at v.n (orient v.k pattern) ≡ o
 
-spot-inj : (p q : Point) → At p ≡ At q → p ≡ q
+spot-inj : (p q : Point) → Some p ≡ Some q → p ≡ q
 spot-inj p q e = cc
 
-spot-none : {A : Type 0} {p : Point} → Nothing ≡ At p → A
+spot-none : {A : Type 0} {p : Point} → None ≡ Some p → A
 spot-none e = absurd (let z : ◌≡◌ {A = ℕ} 0 1 = cc in omega arith)
 
-pub chosen-opposite : (t : List ℕ) (v : Record) (j : ℕ) (o : Point) → chosen_at t v j ≡ At o → Opposite v j o
+pub chosen-opposite : (t : List ℕ) (v : Record) (j : ℕ) (o : Point) → chosen_at t v j ≡ Some o → Opposite v j o
 unfolding chosen_at
 chosen-opposite t v j o e = first (holds t (first_at v j)) e
   where
     step : Point → Point
     step p = step_of v.at v.n (orient v.k p)
 
-    second : (s : Spot) → (pattern_of v.d j).second ≡ s → there t (on_spot (step_of v.at v.n) (on_spot (orient v.k) s)) ≡ At o → Opposite v j o
-    second Nothing x g = spot-none g
-    second (At p) x g = found (holds t (step p)) g
+    second : (s : Option Point) → (pattern_of v.d j).second ≡ s → there t (on_spot (step_of v.at v.n) (on_spot (orient v.k) s)) ≡ Some o → Opposite v j o
+    second None x g = spot-none g
+    second (Some p) x g = found (holds t (step p)) g
       where
-        found : (b : Bool) → cond b (At (step p)) Nothing ≡ At o → Opposite v j o
+        found : (b : Bool) → cond b (Some (step p)) None ≡ Some o → Opposite v j o
         found true y = record { pattern = p; which = 1; two = omega arith; row = x; is = spot-inj (step p) o y }
         found false y = spot-none y
 
-    first : (b : Bool) → cond b (At (first_at v j)) (there t (second_at v j)) ≡ At o → Opposite v j o
+    first : (b : Bool) → cond b (Some (first_at v j)) (there t (second_at v j)) ≡ Some o → Opposite v j o
     first true g = record { pattern = (pattern_of v.d j).first; which = 0; two = omega arith; row = refl; is = spot-inj (first_at v j) o g }
     first false g = second (pattern_of v.d j).second refl g
 
@@ -139,7 +137,7 @@ module _ (v : Record) (i : Inner v) where
   opposite-close : (j : ℕ) (o : Point) → j < v.d → (x : Opposite v j o) → Close x.pattern
   opposite-close j o h x = go x.which x.row
     where
-      go : (w : ℕ) → opposite_of v.d j w ≡ At x.pattern → Close x.pattern
+      go : (w : ℕ) → opposite_of v.d j w ≡ Some x.pattern → Close x.pattern
       go zero e = subst Close (spot-inj (pattern_of v.d j).first x.pattern e) (first-close v.d j i.low i.top h)
       go (suc w) e = second-close v.d j i.low i.top h x.pattern e
 
@@ -153,5 +151,5 @@ module _ (v : Record) (i : Inner v) where
   opposite-bound j o h x =
       step-bound v i (orient v.k x.pattern) (close-near v.k v.n (opposite-close j o h x) i.parity i.level)
 
-  pub chosen-bound : (t : List ℕ) (j : ℕ) (o : Point) → j < v.d → chosen_at t v j ≡ At o → StarPoint o
+  pub chosen-bound : (t : List ℕ) (j : ℕ) (o : Point) → j < v.d → chosen_at t v j ≡ Some o → StarPoint o
   chosen-bound t j o h c = let x = chosen-opposite t v j o c in subst StarPoint x.is (opposite-bound j o h x)

@@ -1,31 +1,14 @@
 // Where a vertex across from a side can stand: eight places seen from either end, each by a turn and a length from the side itself.
 #![tactic(auto)]
 
-ghost use Rattle.std.specs.Prelude.{◌≡◌, ◌*◌, ◌-◌, ◌^◌, ◌≤◌, ◌<◌, max, nat_abs, pos};
+ghost use Rattle.std.specs.Prelude.{◌≡◌, ◌≤◌, ◌<◌, nat_abs};
 ghost use Rattle.lattice.specs.Points.{lift};
 ghost use Rattle.across.specs.Across.{StarPoint, factor, factor_of, along_of, across_of, apex_of};
 
-use lattice::{Depth, Point, normalise};
+use lattice::{Depth, Point, normalise, power};
 
 // No point of a star is deeper.
 const DEEPEST: Depth = Depth(7);
-
-// 3 to the k.
-fn power(k: u8) -> i32
-    requires { k ≤ 7 }
-    ensures { result ≡ pos (3 ^ k) }
-{
-    match k {
-        0 => 1,
-        1 => 3,
-        2 => 9,
-        3 => 27,
-        4 => 81,
-        5 => 243,
-        6 => 729,
-        _ => 2187,
-    }
-}
 
 // A numerator of depth m, brought to depth d.
 fn raised(x: i32, m: Depth, d: Depth) -> i32
@@ -45,36 +28,21 @@ fn along(x: i32, y: i32, a: i32, b: i32, e: i32, h: i32) -> Point
     normalise(3 * a + (x * e - y * h), 3 * b + (y * e + (x + y) * h), 8)
 }
 
-// The eight factors: w, w squared, their sum and a third of it; then the same the other way round.
-fn factor_x(c: u8) -> i32
+// The eight factors x + yw: w, w squared, their sum and a third of it; then the same the other way round.
+fn factor(c: u8) -> (i32, i32)
     requires { c < 8 }
-    ensures { result ≡ (factor_of c).x }
+    ensures x_value { result.0 ≡ (factor_of c).x }
+    ensures y_value { result.1 ≡ (factor_of c).y }
 {
     match c {
-        0 => 0,
-        1 => -3,
-        2 => -3,
-        3 => -1,
-        4 => 3,
-        5 => 0,
-        6 => 3,
-        _ => 1,
-    }
-}
-
-fn factor_y(c: u8) -> i32
-    requires { c < 8 }
-    ensures { result ≡ (factor_of c).y }
-{
-    match c {
-        0 => 3,
-        1 => 3,
-        2 => 6,
-        3 => 2,
-        4 => -3,
-        5 => -3,
-        6 => -6,
-        _ => -2,
+        0 => (0, 3),
+        1 => (-3, 3),
+        2 => (-3, 6),
+        3 => (-1, 2),
+        4 => (3, -3),
+        5 => (0, -3),
+        6 => (3, -6),
+        _ => (1, -2),
     }
 }
 
@@ -83,19 +51,12 @@ pub fn across(p: Point, q: Point, c: u8) -> Point
     requires { StarPoint p × (StarPoint q × (c < 8)) }
     ensures { result ≡ across_of (factor_of c) p q }
 {
-    let m = p.m;
-    let n = q.m;
-    let a = raised(p.a, m, DEEPEST);
-    let b = raised(p.b, m, DEEPEST);
-    let x = raised(q.a, n, DEEPEST);
-    let y = raised(q.b, n, DEEPEST);
-    along(factor_x(c), factor_y(c), a, b, x - a, y - b)
-}
-
-fn deeper(m: Depth, n: Depth) -> Depth
-    ensures { result.0 ≡ max m.0 n.0 }
-{
-    if m.0 < n.0 { n } else { m }
+    let (x, y) = factor(c);
+    let a = raised(p.a, p.m, DEEPEST);
+    let b = raised(p.b, p.m, DEEPEST);
+    let e = raised(q.a, q.m, DEEPEST) - a;
+    let h = raised(q.b, q.m, DEEPEST) - b;
+    along(x, y, a, b, e, h)
 }
 
 // The third corner of the triangle with equal sides to the left of the way from p to q.
@@ -103,12 +64,10 @@ pub fn apex(p: Point, q: Point) -> Point
     requires { StarPoint p × StarPoint q }
     ensures { result ≡ apex_of p q }
 {
-    let m = p.m;
-    let n = q.m;
-    let d = deeper(m, n);
-    let a = raised(p.a, m, d);
-    let b = raised(p.b, m, d);
-    let x = raised(q.a, n, d);
-    let y = raised(q.b, n, d);
+    let d = Depth(p.m.0.max(q.m.0));
+    let a = raised(p.a, p.m, d);
+    let b = raised(p.b, p.m, d);
+    let x = raised(q.a, q.m, d);
+    let y = raised(q.b, q.m, d);
     normalise(a + b - y, x + y - a, d.0)
 }

@@ -1,7 +1,7 @@
 -- Refining round an outline makes a sequence too: what a pass makes it makes by accepted subdivisions, and a refused pass leaves the table as it was.
 -- `each-run` a list that is made in turn · `pass-run` a pass · `passes-run` the passes · `refine-run` the call, whatever it answers.
 -- Assumes nothing.
-use Rattle.std.specs.Prelude.{◌≡◌, refl, Bool, true, false, eqb}
+use Rattle.std.specs.Prelude.{◌≡◌, refl, Bool, true, false, eqb, Some}
 use Rattle.std.proofs.Common.{sym, ◌∙◌}
 use Rattle.std.proofs.Math.Path.{ap, subst}
 use mathlib.Core.List.{List, [], ◌∷◌}
@@ -15,7 +15,6 @@ use Rattle.table.specs.Entries.{look_up}
 use Rattle.table.specs.MapLaws.{order-test, test-order}
 use Rattle.table.specs.Order.{InOrder, in_order_of}
 use Rattle.table.specs.Slots.{lengths_fit}
-use Rattle.table.specs.declared.entries.Looked.TheVariants.{Held}
 use Rattle.mesh.specs.Subdivide.{MeshAfter, mesh_after, subdivided, subdivide_looked, subdivide_of, all_or}
 use Rattle.mesh.specs.SubdivideLaws.{Intact, subdivided-order}
 use Rattle.mesh.specs.CallLaws.{call-vertex}
@@ -41,7 +40,7 @@ module _ (t₀ : List ℕ) where
       order : InOrder t
       order = w.ready.order
 
-      looked : look_up t (normal_of v.at.a v.at.b v.at.m.0) ≡ Held v
+      looked : look_up t (normal_of v.at.a v.at.b v.at.m.0) ≡ Some v
       looked = own-looked t order v w.ready.held
 
       is : mesh_after 0 (subdivided t v) ≡ subdivide_of t v.at.a v.at.b v.at.m.0

@@ -5,10 +5,9 @@
 -- `Left cs l t` the records of t result from a base of the list cs and the accepted subdivisions l, the last first, in whatever tables they stood on the way ·
 -- `left-traced` it is a sequence over sheets · `traced-left` with slots enough a sequence over sheets is one over tables.
 -- Assumes nothing.
-use Rattle.std.specs.Prelude.{◌≡◌, refl, ◌≢◌, Bool, true, false, cond, List, [], ◌∷◌, ℕ, suc, ◌+◌, ◌*◌, ◌≤◌, ◌<◌, ltb, ℤ, length, replicate}
+use Rattle.std.specs.Prelude.{◌≡◌, refl, ◌≢◌, Bool, true, false, cond, List, [], ◌∷◌, ℕ, suc, ◌+◌, ◌*◌, ◌≤◌, ◌<◌, ltb, ℤ, length, replicate, Option, Some, None}
 use Rattle.std.proofs.Common.{sym, ◌∙◌, ap, subst, arith}
 use Rattle.std.proofs.Math.Path.{fun_ext}
-use Rattle.std.proofs.Math.Option.{none, some}
 use Rattle.std.proofs.lemmas.List.{length-replicate}
 use Rattle.laws.specs.Each.{not-both}
 use Rattle.lattice.specs.Points.{normal_of}
@@ -20,8 +19,6 @@ use Rattle.table.specs.Entries.{look_up}
 use Rattle.table.specs.MapLaws.{table-slots}
 use Rattle.table.specs.Order.{InOrder}
 use Rattle.table.specs.Slots.{slot_width, Table, slots_of, free_slots, fits_length}
-use Rattle.table.specs.declared.entries.Looked.{Looked}
-use Rattle.table.specs.declared.entries.Looked.TheVariants.{Absent, Held}
 use Rattle.centres.specs.Centres.{GoodList}
 use Rattle.base.specs.Base.{centres_in, is_listed, bad_place, unpaired, base_of, from_laid, laid_of, Laid, Room, NoRoom}
 use Rattle.base.specs.BaseLaws.{base-list, base-order, base-accepts}
@@ -42,7 +39,7 @@ use Rattle.engine.specs.Traced as spelling
 -- ---- "the list left by any sequence of accepted subdivisions" from an accepted base
 pub data Left (cs : List ℤ) : List Division → List ℕ → Type 0 where
   laid : (t : List ℕ) → (base_of t cs).number ≡ 0 → Left cs [] (base_of t cs).bytes
-  divided : (l : List Division) (t : List ℕ) → Left cs l t → (a b : ℤ) (m : ℕ) (v : Record) → look_up t (normal_of a b m) ≡ Held v
+  divided : (l : List Division) (t : List ℕ) → Left cs l t → (a b : ℤ) (m : ℕ) (v : Record) → look_up t (normal_of a b m) ≡ Some v
       → (subdivide_of t a b m).number ≡ 0 → Left cs ((v.at, v.n.0) ∷ l) (subdivide_of t a b m).bytes
   -- the same records in another table in order: a larger one, or one that a file was read into
   copied : (l : List Division) (t u : List ℕ) → Left cs l u → InOrder t → ((p : Point) → look_up t p ≡ look_up u p) → Left cs l t
@@ -62,7 +59,7 @@ left-traced cs _ _ (divided l t k a b m v e z) =
     let x : s.vertex ≡ v = held_same (sym s.looked ∙ e) in
     let u = (subdivide_of t a b m).bytes in
     grow l (sheet_of t) v (sheet_of u) (left-traced cs l t k)
-    (subst (λ (w : Record). sheet_of t w.at ≡ some w) x (ap as_option s.held))
+    (subst (λ (w : Record). sheet_of t w.at ≡ Some w) x (ap as_option s.held))
     (ap (λ (w : Record). w.d) (sym x) ∙ s.six)
     (subst (λ (w : Record). w.n.0 < 12) x s.below)
     (subst (λ (w : Record). UntornAt (sheet_of t) w) x s.whole)
@@ -78,15 +75,15 @@ module _ (cs ps : List ℤ) (a b : ℤ) (m : ℕ) where
 
   -- "and says absent exactly where the table has none"
   pub absent-exactly : (l : List Division) (t : List ℕ) → Left cs l t → Spelled ps l
-      → (look_up t p ≡ Absent → vertex_of cs ps a b m ≡ refusal 3) × ((vertex_of cs ps a b m).number ≡ 3 → look_up t p ≡ Absent)
+      → (look_up t p ≡ None → vertex_of cs ps a b m ≡ refusal 3) × ((vertex_of cs ps a b m).number ≡ 3 → look_up t p ≡ None)
   absent-exactly l t k s = (
-    (λ e. same-record l t k s ∙ ap (λ (x : Looked). tell_at (as_option x)) e),
+    (λ e. same-record l t k s ∙ ap (λ (x : Option Record). tell_at (as_option x)) e),
     (λ e. go (look_up t p) (ap (λ (x : VertexAfter). x.number) (sym (same-record l t k s)) ∙ e)),
   )
     where
-      go : (x : Looked) → (tell_at (as_option x)).number ≡ 3 → x ≡ Absent
-      go Absent e = refl
-      go (Held r) e = absurd (omega arith)
+      go : (x : Option Record) → (tell_at (as_option x)).number ≡ 3 → x ≡ None
+      go None e = refl
+      go (Some r) e = absurd (omega arith)
 
 -- ---- with slots enough a sequence over sheets is one over tables
 -- the slots that a base of the list and n subdivisions take
@@ -117,7 +114,7 @@ module _ (cs : List ℤ) (g : GoodList cs) (x : List ℕ) (w : Table x (slots_of
       go s =
           let u = s.table in
           let is : sheet_of u ≡ R = fun_ext s.same in
-          let held : look_up u v.at ≡ Held v = sheet-held (look_up u v.at) v (s.same v.at ∙ at) in
+          let held : look_up u v.at ≡ Some v = sheet-held (look_up u v.at) v (s.same v.at ∙ at) in
           let un : UntornAt (sheet_of u) v = subst (λ (S : Sheet). UntornAt S v) (sym is) whole in
           let six-free : 6 ≤ free_slots u = (let f = s.free in omega arith) in
           let z = whole-accepted u s.order v held six low un six-free in

@@ -1,7 +1,7 @@
 -- The full file of a grown mesh: `full-returns` it comes back · `full-accepted` nothing but grown meshes and their files is accepted · `full-one` two
 -- tables of one file hold the same · `full-count` as many records as lines.
 -- Assumes nothing.
-use Rattle.std.specs.Prelude.{◌≡◌, Bool, true, cond, ℕ, ◌≤◌, length}
+use Rattle.std.specs.Prelude.{◌≡◌, Bool, true, cond, ℕ, ◌≤◌, length, Some}
 use Rattle.std.proofs.Common.{sym, ap, ◌∙◌, subst, arith}
 use mathlib.Core.List.{List, Memᴰ}
 use Rattle.lattice.specs.declared.points.Point.{Point}
@@ -11,7 +11,6 @@ use Rattle.table.specs.SlotLaws.{lengths-table}
 use Rattle.table.specs.Order.{InOrder}
 use Rattle.table.specs.Entries.{look_up, records_of}
 use Rattle.table.specs.MapLaws.{lookup-point, lookup-valid, records-looked, looked-records}
-use Rattle.table.specs.declared.entries.Looked.TheVariants.{Held}
 use Rattle.text.specs.Line.{lines}
 use Rattle.sorting.specs.SortLaws.{sort-length}
 use Rattle.writers.specs.Files.{before, sorted, full_file}
@@ -32,13 +31,13 @@ module _ (t : List ℕ) (o : InOrder t) where
   abbrev written : List Record
   written = sorted (records_of t)
 
-  written-looked : (r : Record) → Memᴰ r written → look_up t r.at ≡ Held r
+  written-looked : (r : Record) → Memᴰ r written → look_up t r.at ≡ Some r
   written-looked r m = records-looked t o r (sorted-holds t r m)
 
   written-valid : Valid written
   written-valid r m = lookup-valid t o r.at r (written-looked r m)
 
-  looked-written : (p : Point) (r : Record) → look_up t p ≡ Held r → Memᴰ r written
+  looked-written : (p : Point) (r : Record) → look_up t p ≡ Some r → Memᴰ r written
   looked-written p r h = holds-sorted t r (looked-records t o p r h)
 
   -- a table with exactly those holds the same

@@ -4,7 +4,7 @@
 -- 3 adjacent of a degree 6 vertex is the very record that restoring enters there (M4, docs/MODEL.md). And back: `read-leaves` what is read with 0 or 12
 -- leaves out redundant records of a grown mesh.
 -- Assumes nothing.
-use Rattle.std.specs.Prelude.{◌≡◌, refl, ◌⊎◌, Bool, true, false, cond, ℕ, ◌*◌, ◌+◌, ◌%◌, ◌≤◌, ◌<◌, length}
+use Rattle.std.specs.Prelude.{◌≡◌, refl, ◌⊎◌, Bool, true, false, cond, ℕ, ◌*◌, ◌+◌, ◌%◌, ◌≤◌, ◌<◌, length, Some, None}
 use Rattle.std.proofs.Common.{sym, ap, ◌∙◌, inl, inr, arith}
 use Rattle.std.proofs.Math.Path.{fun_ext}
 use mathlib.Core.List.{List, Memᴰ}
@@ -21,7 +21,6 @@ use Rattle.table.specs.Order.{InOrder}
 use Rattle.table.specs.Entries.{look_up, records_of}
 use Rattle.table.specs.RecordLaws.{apart-fewer}
 use Rattle.table.specs.MapLaws.{lookup-point, lookup-valid, records-looked, looked-records}
-use Rattle.table.specs.declared.entries.Looked.TheVariants.{Absent, Held}
 use Rattle.text.specs.Line.{lines}
 use Rattle.sorting.specs.SortLaws.{Rising}
 use Rattle.writers.specs.Files.{redundant}
@@ -43,8 +42,8 @@ use Rattle.archive.specs.Returns.{both-within, rising-apart}
 -- ---- records of table t that rise, all of them but redundant ones: of such a file the mesh comes back
 pub record Leaves (t : List ℕ) (rs : List Record) : Type 0 where
   pub rises : Rising Before rs
-  pub held : (r : Record) → Memᴰ r rs → look_up t r.at ≡ Held r
-  pub rest : (r : Record) → look_up t r.at ≡ Held r → redundant t r ≡ false → Memᴰ r rs
+  pub held : (r : Record) → Memᴰ r rs → look_up t r.at ≡ Some r
+  pub rest : (r : Record) → look_up t r.at ≡ Some r → redundant t r ≡ false → Memᴰ r rs
 
 -- M4's record is the one that restoring enters
 entered : (v : Record) (j : ℕ) → vertex (adjacent_at v j) 3 ((6 + 2 * j + v.k) % 4) v.n.0 ≡ born_of v j
@@ -54,7 +53,7 @@ module _ (t : List ℕ) (g : Grown t) (rs : List Record) (x : Leaves t rs) where
   o : InOrder t
   o = g.order
 
-  listed : (p : Point) (r : Record) → look_up t p ≡ Held r → Memᴰ r rs ⊎ Redundant t r
+  listed : (p : Point) (r : Record) → look_up t p ≡ Some r → Memᴰ r rs ⊎ Redundant t r
   listed p r h = go (redundant t r) refl
     where
       go : (b : Bool) → redundant t r ≡ b → Memᴰ r rs ⊎ Redundant t r
@@ -78,11 +77,11 @@ module _ (t : List ℕ) (g : Grown t) (rs : List Record) (x : Leaves t rs) where
     lacks : (v : Record) → Memᴰ v rs → v.d ≡ 6 → (j : ℕ) → j < 6 → Lacks t u v j
     lacks v m d j i =
         let (a, y, three) = grown-adjacent (sheet_of t) (grown-sheet t g) v (ap as_option (x.held v m)) d j i in
-        let h : look_up t (adjacent_at v j) ≡ Held a = sheet-held (look_up t (adjacent_at v j)) a y in
+        let h : look_up t (adjacent_at v j) ≡ Some a = sheet-held (look_up t (adjacent_at v j)) a y in
         (a, h, λ none. at a h three none (listed (adjacent_at v j) a h))
       where
-        at : (a : Record) → look_up t (adjacent_at v j) ≡ Held a → (a.d ≡ 3 → a ≡ vertex (adjacent_at v j) 3 ((6 + 2 * j + v.k) % 4) v.n.0)
-            → look_up u (adjacent_at v j) ≡ Absent → Memᴰ a rs ⊎ Redundant t a
+        at : (a : Record) → look_up t (adjacent_at v j) ≡ Some a → (a.d ≡ 3 → a ≡ vertex (adjacent_at v j) 3 ((6 + 2 * j + v.k) % 4) v.n.0)
+            → look_up u (adjacent_at v j) ≡ None → Memᴰ a rs ⊎ Redundant t a
             → a ≡ born_of v j
         at a h three none (inl k) = held-absent (ap (look_up u) (sym (lookup-point t o (adjacent_at v j) a h)) ∙ l.held a k) none
         at a h three none (inr k) = three k.three ∙ entered v j
@@ -97,8 +96,8 @@ module _ (t : List ℕ) (g : Grown t) (rs : List Record) (x : Leaves t rs) where
         let inside = in_within t o u l.order within slots w a in
         (w, e, a.order, both-within w t inside (λ p r h. back w e a inside p r h (listed p r h)))
       where
-        back : (w : List ℕ) → restore_all rs (With u) ≡ With w → Adds (In t) u w → Within w t → (p : Point) (r : Record) → look_up t p ≡ Held r
-            → Memᴰ r rs ⊎ Redundant t r → look_up w p ≡ Held r
+        back : (w : List ℕ) → restore_all rs (With u) ≡ With w → Adds (In t) u w → Within w t → (p : Point) (r : Record) → look_up t p ≡ Some r
+            → Memᴰ r rs ⊎ Redundant t r → look_up w p ≡ Some r
         back w e a inside p r h (inl m) = a.keeps p r (ap (look_up u) (sym (lookup-point t o p r h)) ∙ l.held r m)
         back w e a inside p r h (inr k) =
             let v = k.centre in
@@ -106,8 +105,8 @@ module _ (t : List ℕ) (g : Grown t) (rs : List Record) (x : Leaves t rs) where
             let m = x.rest v here (six-kept t v k.six) in
             let (q, y) = (restore-all rs u w l.order e).has v m k.six k.place k.below in
             let there : adjacent_at v k.place ≡ p = k.adjacent ∙ lookup-point t o p r h in
-            let z : look_up w p ≡ Held q = ap (look_up w) (sym there) ∙ y in
-            z ∙ ap Held (held_same (inside p q z) h)
+            let z : look_up w p ≡ Some q = ap (look_up w) (sym there) ∙ y in
+            z ∙ ap Some (held_same (inside p q z) h)
 
 -- the mesh comes back, or 12
 pub record Back (t : List ℕ) (rs : List Record) (table scratch : List ℕ) : Type 0 where
@@ -152,12 +151,12 @@ module _ (table scratch f : List ℕ) (kept : Bool) (x : ReducedRead table scrat
   pub read-leaves : Leaves x.table x.records
   read-leaves = record { rises = lined.rises; held = stands; rest = λ r h e. left r h e (restores.adds.only r.at r h) }
     where
-      stands : (r : Record) → Memᴰ r x.records → look_up x.table r.at ≡ Held r
+      stands : (r : Record) → Memᴰ r x.records → look_up x.table r.at ≡ Some r
       stands r m = restores.adds.keeps r.at r (lined.held r m)
 
       -- a record restored is redundant
-      left : (r : Record) → look_up x.table r.at ≡ Held r → redundant x.table r ≡ false
-          → (look_up x.lined r.at ≡ Held r) ⊎ RestoredOf x.records r → Memᴰ r x.records
+      left : (r : Record) → look_up x.table r.at ≡ Some r → redundant x.table r ≡ false
+          → (look_up x.lined r.at ≡ Some r) ⊎ RestoredOf x.records r → Memᴰ r x.records
       left r h e (inl k) = lined.only r.at r k
       left r h e (inr (v, m, d, j, i, k)) =
           absurd (not-both (is-redundant x.table r (record {

@@ -1,7 +1,7 @@
 -- What it is that a mesh comes back: `Returns`, `accepted-returns` · `both-within` two tables, each with what the other holds, hold the same ·
 -- `rising-apart` records that rise have each a point of their own.
 -- Assumes nothing.
-use Rattle.std.specs.Prelude.{◌≡◌, refl, List, [], ◌∷◌, ℕ, length}
+use Rattle.std.specs.Prelude.{◌≡◌, refl, List, [], ◌∷◌, ℕ, length, Option, Some, None}
 use Rattle.std.proofs.Common.{sym, ap, ◌∙◌, arith}
 use mathlib.Core.List.Memᴰ
 use Rattle.lattice.specs.declared.points.Point.{Point}
@@ -9,8 +9,6 @@ use Rattle.lattice.specs.declared.records.Record.{Record}
 use Rattle.table.specs.Order.{InOrder}
 use Rattle.table.specs.Entries.{look_up, records_of}
 use Rattle.table.specs.MapLaws.{Apart, records-same}
-use Rattle.table.specs.declared.entries.Looked.{Looked}
-use Rattle.table.specs.declared.entries.Looked.TheVariants.{Absent, Held}
 use Rattle.sorting.specs.SortLaws.{Rising}
 use Rattle.text.specs.LineOrder.{order_of}
 use Rattle.writers.specs.FileLaws.{Before}
@@ -34,10 +32,10 @@ accepted-returns t w s o v e = record { number = refl; line = refl; order = v; s
 pub both-within : (t u : List ℕ) → Within t u → Within u t → (p : Point) → look_up t p ≡ look_up u p
 both-within t u f g p = go (look_up t p) (look_up u p) refl refl
   where
-    go : (k l : Looked) → look_up t p ≡ k → look_up u p ≡ l → look_up t p ≡ look_up u p
-    go Absent Absent e h = e ∙ sym h
-    go (Held r) l e h = e ∙ sym (f p r e)
-    go Absent (Held r) e h = held-absent (g p r h) e
+    go : (k l : Option Record) → look_up t p ≡ k → look_up u p ≡ l → look_up t p ≡ look_up u p
+    go None None e h = e ∙ sym h
+    go (Some r) l e h = e ∙ sym (f p r e)
+    go None (Some r) e h = held-absent (g p r h) e
 
 -- ---- records that rise have each a point of their own
 pub rising-apart : (rs : List Record) → Rising Before rs → Valid rs → Apart rs

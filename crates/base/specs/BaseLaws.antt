@@ -2,7 +2,7 @@
 -- `BaseEnd`, `base-end` how a base ends · `base-list`, `base-order`, `base-holds`, `base-count` what is so where the number is 0 · `base-accepts`
 -- when it is 0 · `centre-base`, `base-centre`, `corner-base`, `base-corner` the points of a base are its centres and their unit neighbours.
 -- Assumes nothing.
-use Rattle.std.specs.Prelude.{◌≡◌, refl, Bool, true, false, cond, List, ℕ, zero, suc, ◌+◌, ◌%◌, ◌≤◌, ◌<◌, ltb, ℤ, length}
+use Rattle.std.specs.Prelude.{◌≡◌, refl, Bool, true, false, cond, List, ℕ, zero, suc, ◌+◌, ◌%◌, ◌≤◌, ◌<◌, ltb, ℤ, length, Some, None}
 use Rattle.std.proofs.Common.{sym, ◌∙◌, ap, subst, arith, ltb-true, ltb-false, lit<, mod-lt}
 use Rattle.laws.specs.Each.{not-both, among-at, at-among}
 use Rattle.lattice.specs.Points.{class_of}
@@ -13,7 +13,6 @@ use Rattle.table.specs.Order.{InOrder}
 use Rattle.table.specs.SearchLaws.{same_refl, same_true}
 use Rattle.table.specs.Slots.{Table, fits_length, slots_of, cleared_of}
 use Rattle.lattice.specs.declared.points.Point.{Point}
-use Rattle.table.specs.declared.entries.Looked.TheVariants.{Absent, Held}
 use Rattle.centres.specs.Centres.{GoodList}
 use Rattle.centres.specs.MarkLaws.{Good, good-is, listed_at, listed-is, good-list, none_first}
 use Rattle.base.specs.Base.{centre_at, centres_in, is_listed, bad_place, corner_of, Laid, Room, NoRoom, laid_of, BaseAfter}
@@ -82,7 +81,7 @@ module _ (t : List ℕ) (cs : List ℤ) where
     base-order = record-done.1.order
 
     -- it holds the vertex of each point of the base, and nothing else
-    pub base-holds : (p : Point) → look_up (base_of t cs).bytes p ≡ cond (in_base cs p) (Held (base_record (is_listed cs) p)) Absent
+    pub base-holds : (p : Point) → look_up (base_of t cs).bytes p ≡ cond (in_base cs p) (Some (base_record (is_listed cs) p)) None
     base-holds = record-done.1.holds
 
     -- as many records as the base has points

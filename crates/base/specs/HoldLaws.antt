@@ -6,7 +6,7 @@
 -- Assumes nothing.
 use Rattle.std.proofs.Math.Path.{◌≡◌, refl, sym, ap, subst}
 use Rattle.std.proofs.Common.{◌∙◌, lit<, eq-eqb, ne_eqb, le-leb, mod-lt}
-use Rattle.std.specs.Prelude.{Bool, true, false, ◌&&◌, ◌||◌, eqb, ℤ, pos, ◌+ℤ◌, nat_abs, ◌-ℤ◌, length}
+use Rattle.std.specs.Prelude.{Bool, true, false, ◌&&◌, ◌||◌, eqb, ℤ, pos, ◌+ℤ◌, nat_abs, ◌-ℤ◌, length, Some, None}
 use Rattle.std.proofs.Math.Bool.{cond, or_assoc}
 use mathlib.Core.List.{List}
 use Prim.Native.Nat.{ℕ, zero, suc, ◌+◌, ◌%◌, ◌≤◌, ◌<◌}
@@ -28,7 +28,6 @@ use Rattle.table.specs.SearchLaws.{same_refl, same_true}
 use Rattle.table.specs.Slots.{Table, slots_in, slots_of, cleared_of}
 use Rattle.lattice.specs.declared.points.Point.{Point}
 use Rattle.lattice.specs.declared.records.Record.{Record}
-use Rattle.table.specs.declared.entries.Looked.TheVariants.{Absent, Held}
 use Rattle.base.specs.Laying.{Within}
 use Rattle.base.specs.Base.{centre_at, centres_in, good_centre, is_listed, corner_of, internal, at0, centre_record, corner_record, hexagon_of, Laid}
 use Rattle.base.specs.Base.{Room, NoRoom, lay_at, lay, lay_hexagon, lay_all}
@@ -108,7 +107,7 @@ module _ (listed : Point → Bool) (c : Point) (g : Good c) (d : c.m.0 ≡ 0) wh
 -- the points p of which `laid p` is so, n in number, and no other
 pub record Holding (listed : Point → Bool) (slots : ℕ) (u : List ℕ) (laid : Point → Bool) (n : ℕ) : Type 0 where
   pub order : InOrder u
-  pub holds : (p : Point) → look_up u p ≡ cond (laid p) (Held (base_record listed p)) Absent
+  pub holds : (p : Point) → look_up u p ≡ cond (laid p) (Some (base_record listed p)) None
   pub count : length (records_of u) ≡ n
   pub wide : slots_of u ≡ slots
 
@@ -120,23 +119,23 @@ room-none a e = absurd (let z : ◌≡◌ {A = ℕ} 0 1 = cc in omega arith)
 
 module _ (listed : Point → Bool) (slots : ℕ) (u : List ℕ) (laid : Point → Bool) (n : ℕ) (h : Holding listed slots u laid n) (r : Record) where
   -- what is found is laid
-  held-laid : (q : Record) → look_up u r.at ≡ Held q → laid r.at ≡ true
+  held-laid : (q : Record) → look_up u r.at ≡ Some q → laid r.at ≡ true
   held-laid q k = go (laid r.at) refl
     where
       go : (b : Bool) → laid r.at ≡ b → laid r.at ≡ true
       go true e = e
       go false e =
-          let a : Held q ≡ Absent = sym k ∙ h.holds r.at ∙ ap (λ (b : Bool). cond b (Held (base_record listed r.at)) Absent) e in
+          let a : Some q ≡ None = sym k ∙ h.holds r.at ∙ ap (λ (b : Bool). cond b (Some (base_record listed r.at)) None) e in
           absurd (let z : ◌≡◌ {A = ℕ} 0 1 = cc in omega arith)
 
-  absent-laid : look_up u r.at ≡ Absent → laid r.at ≡ false
+  absent-laid : look_up u r.at ≡ None → laid r.at ≡ false
   absent-laid k = go (laid r.at) refl
     where
       go : (b : Bool) → laid r.at ≡ b → laid r.at ≡ false
       go false e = e
       go true e =
-          let a : Absent ≡ Held (base_record listed r.at) = sym k ∙ h.holds r.at
-          ∙ ap (λ (b : Bool). cond b (Held (base_record listed r.at)) Absent) e in
+          let a : None ≡ Some (base_record listed r.at) = sym k ∙ h.holds r.at
+          ∙ ap (λ (b : Bool). cond b (Some (base_record listed r.at)) None) e in
           absurd (let z : ◌≡◌ {A = ℕ} 0 1 = cc in omega arith)
 
   -- no slot is left: its point is new, and every slot is taken
@@ -160,7 +159,7 @@ module _ (listed : Point → Bool) (slots : ℕ) (u : List ℕ) (laid : Point �
             subst (λ (x : List ℕ). Holding listed slots x (λ p. same_point r.at p || laid p) (n + cond (laid r.at) 0 1)) same
             (record {
               order = h.order;
-              holds = λ p. h.holds p ∙ ap (λ (b : Bool). cond b (Held (base_record listed p)) Absent) (old p t (same_point r.at p) refl);
+              holds = λ p. h.holds p ∙ ap (λ (b : Bool). cond b (Some (base_record listed p)) None) (old p t (same_point r.at p) refl);
               count = h.count ∙ (let z : n ≡ n + 0 = omega arith in z) ∙ sym (ap (λ (b : Bool). n + cond b 0 1) t);
               wide = h.wide;
             })
@@ -178,10 +177,10 @@ module _ (listed : Point → Bool) (slots : ℕ) (u : List ℕ) (laid : Point �
               wide = ap slots_in (enter-length u r) ∙ h.wide;
             })
           where
-            new : (p : Point) (b : Bool) → same_point r.at p ≡ b → look_up (enter_of u r) p ≡ cond (b || laid p) (Held (base_record listed p)) Absent
+            new : (p : Point) (b : Bool) → same_point r.at p ≡ b → look_up (enter_of u r) p ≡ cond (b || laid p) (Some (base_record listed p)) None
             new p true x =
                 let q = same_true r.at p x in
-                ap (look_up (enter_of u r)) (sym q) ∙ enter-finds u h.order r ok a k ∙ ap Held (is ∙ ap (base_record listed) q)
+                ap (look_up (enter_of u r)) (sym q) ∙ enter-finds u h.order r ok a k ∙ ap Some (is ∙ ap (base_record listed) q)
             new p false x = enter-keeps u h.order r ok p (λ q. not-both (ap (same_point r.at) q ∙ same_refl r.at) x) ∙ h.holds p
         go (full f a k) = room-none v (sym e ∙ ap (lay_at u r) f)
 
@@ -204,7 +203,7 @@ module _ (listed : Point → Bool) (slots : ℕ) (c : Point) (g : Good c) (d : c
       ∙ sum n (new_points laid c k) (cond (in_hexagon c k (hexagon_point c k) || laid (hexagon_point c k)) 0 1) in
       record {
         order = x.order;
-        holds = λ p. x.holds p ∙ ap (λ (b : Bool). cond b (Held (base_record listed p)) Absent)
+        holds = λ p. x.holds p ∙ ap (λ (b : Bool). cond b (Some (base_record listed p)) None)
             (ap (λ (y : Point). same_point y p || (in_hexagon c k p || laid p)) q ∙ sym (or_assoc (same_point (hexagon_point c k) p) (in_hexagon c k p) (laid p)));
         count = x.count ∙ at;
         wide = x.wide;

@@ -1,5 +1,6 @@
 -- Document 01, "Base", in antt.
 pub mod Base
+pub mod Told
 pub mod Examples
 -- what the promises of the functions below cite besides
 pub mod Laying

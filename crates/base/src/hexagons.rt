@@ -35,10 +35,7 @@ fn hexagon_marked(marks: &[u8; MARK_BYTES], p: Point) -> bool
     requires { p.m.0 ≡ 0 }
     ensures { result ≡ hexagon_listed (in_marks marks.now) p }
 {
-    if class(p) != 0 {
-        return true;
-    }
-    is_marked(marks, p)
+    class(p) != 0 || is_marked(marks, p)
 }
 
 // All three hexagons round a corner are marked.
@@ -47,13 +44,11 @@ fn is_internal(marks: &[u8; MARK_BYTES], q: Point) -> bool
     ensures { result ≡ internal (in_marks marks.now) q }
 {
     let mut step = AHEAD;
-    let mut j: u8 = 0;
-    while j < CORNERS {
+    for j in 0..CORNERS {
         if !hexagon_marked(marks, beside(q, step)) {
             return false;
         }
         step = turn60(step);
-        j += 1;
     }
     true
 }
@@ -64,8 +59,8 @@ fn vertex(p: Point, d: u8, k: u8) -> Record
 {
     Record {
         at: p,
-        d: d,
-        k: k,
+        d,
+        k,
         n: Level(0),
     }
 }
@@ -76,12 +71,12 @@ fn corner_record(marks: &[u8; MARK_BYTES], q: Point) -> Record
     ensures { result ≡ corner_record (in_marks marks.now) q }
 {
     if !is_internal(marks, q) {
-        return vertex(q, 0, 0);
+        vertex(q, 0, 0)
+    } else if class(q) == 1 {
+        vertex(q, 6, 0)
+    } else {
+        vertex(q, 3, 2)
     }
-    if class(q) == 1 {
-        return vertex(q, 6, 0);
-    }
-    vertex(q, 3, 2)
 }
 
 // Enters a record, unless its point is there already: false where no slot is left.
@@ -89,8 +84,7 @@ fn lay_record(table: &mut [u8], n: usize, r: Record) -> bool
     requires { Table table.old n }
     ensures { laid_by result table.new ≡ lay (Room table.old) r }
 {
-    let f = enter(table, r, n);
-    match f {
+    match enter(table, r, n) {
         Found::At(_) => true,
         Found::Free(_) => true,
         Found::Full => false,
@@ -102,8 +96,7 @@ fn lay_corner(table: &mut [u8], n: usize, marks: &[u8; MARK_BYTES], q: Point) ->
     requires { Table table.old n × Within 251 q }
     ensures { laid_by result table.new ≡ lay (Room table.old) (corner_record (in_marks marks.now) q) }
 {
-    let f = find(table, q, n);
-    match f {
+    match find(table, q, n) {
         Found::At(_) => true,
         Found::Free(i) => {
             write_slot(table, i, corner_record(marks, q));
@@ -119,13 +112,11 @@ fn lay_corners(table: &mut [u8], n: usize, marks: &[u8; MARK_BYTES], p: Point) -
     ensures { laid_by result table.new ≡ lay_corners (in_marks marks.now) p 6 (Room table.old) }
 {
     let mut step = AHEAD;
-    let mut j: u8 = 0;
-    while j < CORNERS {
+    for j in 0..CORNERS {
         if !lay_corner(table, n, marks, beside(p, step)) {
             return false;
         }
         step = turn60(step);
-        j += 1;
     }
     true
 }
@@ -135,10 +126,7 @@ fn lay_hexagon(table: &mut [u8], n: usize, marks: &[u8; MARK_BYTES], p: Point) -
     requires { Table table.old n × Within 250 p }
     ensures { laid_by result table.new ≡ lay_hexagon (in_marks marks.now) p 7 (Room table.old) }
 {
-    if !lay_record(table, n, vertex(p, 3, 0)) {
-        return false;
-    }
-    lay_corners(table, n, marks, p)
+    lay_record(table, n, vertex(p, 3, 0)) && lay_corners(table, n, marks, p)
 }
 
 // Enters the records of all hexagons, in the order of the list.
@@ -147,12 +135,8 @@ pub fn lay_all(table: &mut [u8], n: usize, centres: &[i32], marks: &[u8; MARK_BY
     requires marks_value { in_marks marks.now ≡ is_listed centres.now }
     ensures { laid_by result table.new ≡ lay_all centres.now (centres_in centres.now) (Room table.old) }
 {
-    let count = centres.len() / 2;
-    let mut i = 0;
-    while i < count {
-        if lay_hexagon(table, n, marks, centre_at(centres, i)) {
-            i += 1;
-        } else {
+    for i in 0..centres.len() / 2 {
+        if !lay_hexagon(table, n, marks, centre_at(centres, i)) {
             return false;
         }
     }

@@ -7,51 +7,53 @@
 mod hexagons;
 
 ghost use Rattle.std.specs.Prelude.{◌≡◌};
+ghost use Rattle.lattice.specs.Refusals.{number_of};
 ghost use Rattle.base.specs.Base.{base_after, base_of};
+ghost use Rattle.base.specs.Told.{base_number, base_place};
 
 use crate::hexagons::lay_all;
 use centres::{MARK_BYTES, first_bad};
-use lattice::{BAD_LIST, DONE, NO_ROOM, NOT_IN_ORDER};
+use lattice::Refusal;
 use table::{clear, slots_of};
 
-// The number that document 01 gives, and the place of the first bad centre, else 0.
-#[derive(Clone, Copy)]
-pub struct Based {
-    pub number: u8,
+// Why a base is refused, and the place of the first bad centre, else 0.
+#[derive(Clone, Copy, PartialEq, Eq)]
+pub struct BadBase {
+    pub why: Refusal,
     pub place: usize,
 }
 
-fn answer(number: u8, place: usize) -> Based
-    ensures { (result.number ≡ number) × (result.place ≡ place) }
+fn refuse(why: Refusal, place: usize) -> Result<(), BadBase>
+    ensures { (base_number result ≡ number_of why) × (base_place result ≡ place) }
 {
-    Based { number, place }
+    Err(BadBase { why, place })
 }
 
 // Clears the table and lays the hexagons at the centres a, b, a, b, .. into it. Refused with 1 the table is untouched, with 2 or 8 all 255.
 // Linear in the table's slots and in the list, as long as the searches are short.
-pub fn base(table: &mut [u8], centres: &[i32]) -> Based
-    ensures { base_after result.number result.place table.new ≡ base_of table.old centres.now }
+pub fn base(table: &mut [u8], centres: &[i32]) -> Result<(), BadBase>
+    ensures { base_after (base_number result) (base_place result) table.new ≡ base_of table.old centres.now }
 {
     let n = slots_of(table);
     if n == 0 {
-        return answer(NOT_IN_ORDER, 0);
+        return refuse(Refusal::NotInOrder, 0);
     }
     clear(table);
     let l = centres.len();
     if l == 0 {
-        return answer(BAD_LIST, 0);
+        return refuse(Refusal::BadList, 0);
     }
     if l % 2 != 0 {
-        return answer(BAD_LIST, 0);
+        return refuse(Refusal::BadList, 0);
     }
     let mut marks = [0; MARK_BYTES];
     let bad = first_bad(centres, l / 2, &mut marks);
     if bad < l / 2 {
-        return answer(BAD_LIST, bad);
+        return refuse(Refusal::BadList, bad);
     }
     if lay_all(table, n, centres, &marks) {
-        return answer(DONE, 0);
+        return Ok(());
     }
     clear(table);
-    answer(NO_ROOM, 0)
+    refuse(Refusal::NoRoom, 0)
 }

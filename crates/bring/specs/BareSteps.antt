@@ -4,7 +4,7 @@
 -- `after_then` · `held-refused`, `held-made` a vertex's subdivision as a step · `near-stop`, `near_on` one neighbour · `Turning`, `turning-..` the places
 -- in turn · `tried-on`, `tried-back` all or nothing.
 -- Assumes nothing.
-use Rattle.std.specs.Prelude.{◌≡◌, Bool, true, false, cond, List, length}
+use Rattle.std.specs.Prelude.{◌≡◌, Bool, true, false, cond, List, length, Some}
 use Rattle.std.proofs.Math.Path.{refl, ap}
 use Rattle.std.proofs.Common.{sym, ◌∙◌, subst}
 use Prim.Native.Nat.{ℕ, zero, suc, ◌+◌, ◌-◌, ◌≤◌, ◌<◌}
@@ -16,7 +16,6 @@ use Rattle.table.specs.Entries.{look_up}
 use Rattle.table.specs.Order.{InOrder}
 use Rattle.table.specs.Slots.{free_slots}
 use Rattle.table.specs.MapLaws.{table_same}
-use Rattle.table.specs.declared.entries.Looked.TheVariants.{Held}
 use Rattle.mesh.specs.Subdivide.{MeshAfter, mesh_after, subdivided, subdivide_vertex, all_or}
 use Rattle.mesh.specs.SubdivideLaws.{subdivided-order, subdivided-free}
 use Rattle.mesh.specs.WriteLaws.{Standing, subdivided-length}
@@ -80,7 +79,7 @@ module _ {t : List ℕ} {n f : ℕ} (g : Given t n f) (v : Record) (s : Standing
 
 -- ---- one neighbour
 module _ (n : ℕ) (t : List ℕ) (p : Point) where
-  module _ (u : Record) (e : look_up t p ≡ Held u) where
+  module _ (u : Record) (e : look_up t p ≡ Some u) where
     module _ (rim : u.d ≡ 0 → ⊥) where
       module _ (less : u.d ≡ 6 → ⊥) where
         -- it could not be brought

@@ -4,15 +4,13 @@
 -- vertex · `sixteen-boundary`, `boundary-sixteen` it ends with 16 there, and nowhere else.
 -- By the definition's own recursion: of all that it answers, only a boundary neighbour gives 16, and 16 is handed up.
 -- Assumes nothing.
-use Rattle.std.specs.Prelude.{◌≡◌, refl, Bool, true, false, cond, ℕ, zero, suc, ◌+◌, eqb, ltb}
+use Rattle.std.specs.Prelude.{◌≡◌, refl, Bool, true, false, cond, ℕ, zero, suc, ◌+◌, eqb, ltb, Option, Some, None}
 use Rattle.std.proofs.Common.{sym, ◌∙◌, ap, arith}
 use mathlib.Core.List.{List, [], ◌∷◌}
 use Rattle.std.proofs.Math.Decide.{ℕ_discrete}
 use Rattle.lattice.specs.Stars.{adjacent_at}
 use Rattle.lattice.specs.declared.records.Record.{Record}
 use Rattle.table.specs.Entries.{look_up}
-use Rattle.table.specs.declared.entries.Looked.{Looked}
-use Rattle.table.specs.declared.entries.Looked.TheVariants.{Absent, Held}
 use Rattle.table.specs.Slots.{free_slots}
 use Rattle.mesh.specs.Subdivide.{MeshAfter, mesh_after, torn, subdivided, subdivide_vertex}
 use Rattle.bring.specs.Bring.{places_of, each_of, raised_at, near_of, is_six, ends_at, bring_of}
@@ -28,7 +26,7 @@ pub data Turns (t : List ℕ) (v : Record) : List ℕ → List ℕ → Type 0 wh
 -- the one asked, and each neighbour whose turn comes while it is of another degree than 6 and a level lower
 pub data Chain (t : List ℕ) (v : Record) : List ℕ → Record → Type 0 where
   asked : Chain t v t v
-  lower : (s : List ℕ) (w : Record) (j : ℕ) (js r : List ℕ) (u : Record) → Chain t v s w → Turns s w (j ∷ js) r → look_up r (adjacent_at w j) ≡ Held u
+  lower : (s : List ℕ) (w : Record) (j : ℕ) (js r : List ℕ) (u : Record) → Chain t v s w → Turns s w (j ∷ js) r → look_up r (adjacent_at w j) ≡ Some u
       → (u.d ≡ 0 → ⊥) → (u.d ≡ 6 → ⊥) → u.n.0 + 1 ≡ w.n.0
       → Chain t v r u
 
@@ -42,7 +40,7 @@ pub record AtBoundary (t : List ℕ) (v : Record) : Type 0 where
   pub table : List ℕ
   pub turns : Turns from at (place ∷ rest) table
   pub neighbour : Record
-  pub looked : look_up table (adjacent_at at place) ≡ Held neighbour
+  pub looked : look_up table (adjacent_at at place) ≡ Some neighbour
   pub boundary : neighbour.d ≡ 0
 
 -- a chain from a vertex of v's chain is v's
@@ -77,11 +75,11 @@ vertex-not t u e = go (eqb u.d 6) (eqb u.n.0 12) (torn t u) (ltb (free_slots t) 
     go true false false true e = omega arith
     go true false false false e = omega arith
 
-raised-not : (t : List ℕ) (l : Looked) → (raised_at t l).number ≡ 16 → ⊥
-raised-not t Absent e = omega arith
-raised-not t (Held u) e = vertex-not t u e
+raised-not : (t : List ℕ) (l : Option Record) → (raised_at t l).number ≡ 16 → ⊥
+raised-not t None e = omega arith
+raised-not t (Some u) e = vertex-not t u e
 
-ends-not : (t : List ℕ) (l : Looked) → (ends_at t l).number ≡ 16 → ⊥
+ends-not : (t : List ℕ) (l : Option Record) → (ends_at t l).number ≡ 16 → ⊥
 ends-not t l e = go (is_six l) e
   where
     go : (b : Bool) → (cond b (mesh_after 0 t) (mesh_after 7 t)).number ≡ 16 → ⊥
@@ -104,18 +102,18 @@ module _ (t : List ℕ) (v : Record)
     told : {x : MeshAfter} → x ≡ near_of v.n.0 s (adjacent_at v j) → x.number ≡ 16
     told h = ap (λ (o : MeshAfter). o.number) h ∙ e
 
-    lesser : (u : Record) → look_up s (adjacent_at v j) ≡ Held u → (u.d ≡ 0 → ⊥) → (u.d ≡ 6 → ⊥) → Dec (u.n.0 + 1 ≡ v.n.0) → AtBoundary t v
+    lesser : (u : Record) → look_up s (adjacent_at v j) ≡ Some u → (u.d ≡ 0 → ⊥) → (u.d ≡ 6 → ⊥) → Dec (u.n.0 + 1 ≡ v.n.0) → AtBoundary t v
     lesser u h z x (no k) = let w = told (near-far v.n.0 s (adjacent_at v j) u h z x k) in absurd (omega arith)
     lesser u h z x (yes k) =
         then-sixteen (bring_of u.n.0 s u) (λ r. raised_at r (look_up r u.at)) (told (near-lower v.n.0 s (adjacent_at v j) u h z x k))
         (λ w. boundary-on (lower t v j js s u asked m h z x k) (before s u k w))
         (λ y w. absurd (raised-not (bring_of u.n.0 s u).bytes (look_up (bring_of u.n.0 s u).bytes u.at) w))
 
-    six : (u : Record) → look_up s (adjacent_at v j) ≡ Held u → (u.d ≡ 0 → ⊥) → u.d ≡ 6 → Dec (u.n.0 ≡ v.n.0) → AtBoundary t v
+    six : (u : Record) → look_up s (adjacent_at v j) ≡ Some u → (u.d ≡ 0 → ⊥) → u.d ≡ 6 → Dec (u.n.0 ≡ v.n.0) → AtBoundary t v
     six u h z x (yes k) = absurd (vertex-not s u (told (near-six v.n.0 s (adjacent_at v j) u h z x k)))
     six u h z x (no k) = let w = told (near-other v.n.0 s (adjacent_at v j) u h z x k) in absurd (omega arith)
 
-    held : (u : Record) → look_up s (adjacent_at v j) ≡ Held u → Dec (u.d ≡ 0) → Dec (u.d ≡ 6) → AtBoundary t v
+    held : (u : Record) → look_up s (adjacent_at v j) ≡ Some u → Dec (u.d ≡ 0) → Dec (u.d ≡ 6) → AtBoundary t v
     held u h (yes z) x =
         record { from = t; at = v; chain = asked; place = j; rest = js; table = s; turns = m; neighbour = u; looked = h; boundary = z }
     held u h (no z) (yes x) = six u h z x (ℕ_discrete u.n.0 v.n.0)
@@ -124,9 +122,9 @@ module _ (t : List ℕ) (v : Record)
     at-neighbour : AtBoundary t v
     at-neighbour = go (look_up s (adjacent_at v j)) refl
       where
-        go : (l : Looked) → look_up s (adjacent_at v j) ≡ l → AtBoundary t v
-        go Absent h = let w = told (near-absent v.n.0 s (adjacent_at v j) h) in absurd (omega arith)
-        go (Held u) h = held u h (ℕ_discrete u.d 0) (ℕ_discrete u.d 6)
+        go : (l : Option Record) → look_up s (adjacent_at v j) ≡ l → AtBoundary t v
+        go None h = let w = told (near-absent v.n.0 s (adjacent_at v j) h) in absurd (omega arith)
+        go (Some u) h = held u h (ℕ_discrete u.d 0) (ℕ_discrete u.d 6)
 
   at_places : (js s : List ℕ) → Turns t v js s → (each_of (near_of v.n.0) v s js).number ≡ 16 → AtBoundary t v
   unfolding each_of

@@ -3,7 +3,7 @@
 -- `places_of` the neighbours to subdivide · `near_of` one neighbour subdivided, `bring_of` a vertex brought to degree 6: they call each other and the
 -- level falls · `bring_vertex`, `request_of` the request on a table whose length fits · `BringAfter`, `bring_to_six` the call, with its scratch table.
 -- Assumes nothing.
-use Rattle.std.specs.Prelude.{Bool, false, cond, ◌&&◌, not, List, [], ◌∷◌, ◌++◌, ℕ, zero, suc, ◌+◌, ◌-◌, ◌%◌, eqb, ℤ}
+use Rattle.std.specs.Prelude.{Bool, false, cond, ◌&&◌, not, List, [], ◌∷◌, ◌++◌, ℕ, zero, suc, ◌+◌, ◌-◌, ◌%◌, eqb, ℤ, Option, Some, None}
 use Rattle.laws.specs.Choices.{unless}
 use Rattle.lattice.specs.Points.{normal_of, turn60_of}
 use Rattle.lattice.specs.Patterns.{pattern_of}
@@ -14,8 +14,6 @@ use Rattle.table.specs.Entries.{look_up}
 use Rattle.table.specs.Order.{in_order_of}
 use Rattle.table.specs.Search.{same_point}
 use Rattle.table.specs.Slots.{lengths_fit, cleared_of}
-use Rattle.table.specs.declared.entries.Looked.{Looked}
-use Rattle.table.specs.declared.entries.Looked.TheVariants.{Absent, Held}
 use Rattle.mesh.specs.Subdivide.{MeshAfter, mesh_after, subdivide_vertex, and_then, all_or}
 
 -- ---- "each neighbour across an edge that has no 60 degree angle at the vertex"
@@ -45,9 +43,9 @@ each_of near v t (j ∷ js) = and_then (near t (adjacent_at v j)) (λ u. each_of
 
 -- ---- one neighbour, wanted at level n; `lower` brings a vertex a level lower to degree 6
 -- "a neighbour not yet of degree 6 is itself brought to degree 6 before it is subdivided": as it stands then
-abbrev pub raised_at : List ℕ → Looked → MeshAfter
-raised_at t Absent = mesh_after 7 t
-raised_at t (Held u) = subdivide_vertex t u
+abbrev pub raised_at : List ℕ → Option Record → MeshAfter
+raised_at t None = mesh_after 7 t
+raised_at t (Some u) = subdivide_vertex t u
 
 -- "7 where a neighbour .. has degree 6 at another level than wanted, or a lower degree and isn't exactly one level lower, where a subdivision answers
 -- 7 ..; 16 for a boundary neighbour; 8"
@@ -59,20 +57,20 @@ near_vertex lower n t u =
     (and_then (lower t u) (λ s. raised_at s (look_up s u.at)))))
 
 -- "7 where a neighbour is absent"
-abbrev pub near_looked : (List ℕ → Record → MeshAfter) → ℕ → List ℕ → Looked → MeshAfter
-near_looked lower n t Absent = mesh_after 7 t
-near_looked lower n t (Held u) = near_vertex lower n t u
+abbrev pub near_looked : (List ℕ → Record → MeshAfter) → ℕ → List ℕ → Option Record → MeshAfter
+near_looked lower n t None = mesh_after 7 t
+near_looked lower n t (Some u) = near_vertex lower n t u
 
 abbrev pub near_with : (List ℕ → Record → MeshAfter) → ℕ → List ℕ → Point → MeshAfter
 near_with lower n t p = near_looked lower n t (look_up t p)
 
 -- ---- a vertex brought to degree 6, by what subdivides a neighbour
-abbrev pub is_six : Looked → Bool
-is_six Absent = false
-is_six (Held w) = eqb w.d 6
+abbrev pub is_six : Option Record → Bool
+is_six None = false
+is_six (Some w) = eqb w.d 6
 
 -- "or where the vertex ends below degree 6"
-abbrev pub ends_at : List ℕ → Looked → MeshAfter
+abbrev pub ends_at : List ℕ → Option Record → MeshAfter
 ends_at t l = unless (is_six l) (mesh_after 7 t) (mesh_after 0 t)
 
 abbrev pub brought_by : (List ℕ → Point → MeshAfter) → List ℕ → Record → MeshAfter
@@ -106,9 +104,9 @@ bring_vertex t v =
     (cond (eqb v.n.0 12) (mesh_after 5 t)
     (all_or t (bring_of v.n.0 t v))))
 
-abbrev pub bring_looked : List ℕ → Looked → MeshAfter
-bring_looked t Absent = mesh_after 3 t
-bring_looked t (Held v) = bring_vertex t v
+abbrev pub bring_looked : List ℕ → Option Record → MeshAfter
+bring_looked t None = mesh_after 3 t
+bring_looked t (Some v) = bring_vertex t v
 
 -- "Every point in a request is normalised before it is looked up"
 unfoldable pub request_of : List ℕ → ℤ → ℤ → ℕ → MeshAfter

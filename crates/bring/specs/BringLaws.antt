@@ -4,10 +4,9 @@
 -- the goal in any room; 8, and every sequence that does is longer than the free slots allow · `Request`, `request-end` how every request ends.
 -- Why: Ends follows the request in the model, with all counts that reach the goal in view; each step it makes is one that they all have.
 -- Assumes nothing.
-use Rattle.std.specs.Prelude.{◌≡◌, ◌≢◌, Bool, true, ℤ}
+use Rattle.std.specs.Prelude.{◌≡◌, ◌≢◌, Bool, true, ℤ, Option, Some, None}
 use Rattle.std.proofs.Math.Path.{refl}
 use Rattle.std.proofs.Common.{sym, ◌∙◌, ap, subst}
-use Rattle.std.proofs.Math.Option.{some}
 use mathlib.Core.List.{List, ◌∷◌, Memᴰ}
 use Prim.Native.Nat.{ℕ, zero, suc, ◌+◌, ◌*◌, ◌%◌, ◌≤◌, ◌<◌}
 use native.Mathlib.Omega.{arith}
@@ -33,8 +32,6 @@ use Rattle.table.specs.Entries.{look_up}
 use Rattle.table.specs.Order.{InOrder}
 use Rattle.table.specs.Slots.{free_slots}
 use Rattle.table.specs.MapLaws.{lookup-valid, lookup-point, order-test}
-use Rattle.table.specs.declared.entries.Looked.{Looked}
-use Rattle.table.specs.declared.entries.Looked.TheVariants.{Absent, Held}
 use Rattle.mesh.specs.Grown.{Grown}
 use Rattle.mesh.specs.Subdivide.{MeshAfter, mesh_after}
 use Rattle.local.specs.Sheet.{as_option, sheet_of}
@@ -63,7 +60,7 @@ pub record Alike (t t' : List ℕ) : Type 0 where
 
 -- a vertex of degree 6 stands at p
 abbrev pub Six : List ℕ → Point → Type 0
-Six t p = (w : Record) × (look_up t p ≡ Held w) × (w.d ≡ 6)
+Six t p = (w : Record) × (look_up t p ≡ Some w) × (w.d ≡ 6)
 
 -- a sequence of accepted subdivisions, from the records of t in whatever room, after which the vertex at p has degree 6
 pub record Reaching (t : List ℕ) (p : Point) (l : List Division) : Type 0 where
@@ -81,12 +78,12 @@ risen p n = vertex p 6 (suc n % 2) (suc n)
 pub data Finish (t : List ℕ) (p : Point) (n : ℕ) (o : MeshAfter) : Type 0 where
   -- done, by a sequence of accepted subdivisions in t's own room; the vertex has risen, the table is grown, and x was made exactly where every sequence
   -- reaching the goal has it
-  done : (l : List Division) → o.number ≡ 0 → Run t l o.bytes → look_up o.bytes p ≡ Held (risen p n) → Grown o.bytes
+  done : (l : List Division) → o.number ≡ 0 → Run t l o.bytes → look_up o.bytes p ≡ Some (risen p n) → Grown o.bytes
       → ((x : Division) → Memᴰ x l → (k : List Division) → Reaching t p k → Memᴰ x k)
       → ((x : Division) → ((k : List Division) → Reaching t p k → Memᴰ x k) → Memᴰ x l)
       → Finish t p n o
   -- 16 (where the chain reaches a boundary vertex: Boundary): no sequence reaches the goal, in no room
-  rim : (l : List Division) (s : List ℕ) (u : Record) → o.number ≡ 16 → o.bytes ≡ t → Run t l s → look_up s u.at ≡ Held u → u.d ≡ 0
+  rim : (l : List Division) (s : List ℕ) (u : Record) → o.number ≡ 16 → o.bytes ≡ t → Run t l s → look_up s u.at ≡ Some u → u.d ≡ 0
       → ((k : List Division) → Reaching t p k → ⊥) → Finish t p n o
   -- 8: after some accepted subdivisions fewer than six slots were free; then each sequence that reaches the goal wants more slots than t has free
   short : (l : List Division) (s : List ℕ) → o.number ≡ 8 → o.bytes ≡ t → Run t l s → free_slots s < 6 → free_slots t < 12 * near_most n + 6
@@ -98,7 +95,7 @@ run-grown t _ _ g here = g
 run-grown t _ _ g (next l s r v e z) = divided-grown s (run-grown t s l g r) v.at.a v.at.b v.at.m.0 z
 
 -- ---- a vertex of a grown table, below degree 6 and level 12
-module _ (t : List ℕ) (g : Grown t) (v : Record) (held : look_up t v.at ≡ Held v) (rim-not : v.d ≢ 0) (six-not : v.d ≢ 6) (low : v.n.0 < 12) where
+module _ (t : List ℕ) (g : Grown t) (v : Record) (held : look_up t v.at ≡ Some v) (rim-not : v.d ≢ 0) (six-not : v.d ≢ 6) (low : v.n.0 < 12) where
   closed : Closed (sheet_of t)
   closed = grown-closed (sheet_of t) (grown-sheet t g)
 
@@ -126,10 +123,10 @@ module _ (t : List ℕ) (g : Grown t) (v : Record) (held : look_up t v.at ≡ He
   reaching-goal k r =
       let m = run-mesh H c r.first r.last k (alike-mesh r.first r.alike) r.run in
       let (w, e, d) = r.six in
-      let x : rec H (at (plus k c)) p ≡ some w = sym (record_is (plus k c) H p) ∙ sym (m.is v.at) ∙ ap as_option e in
+      let x : rec H (at (plus k c)) p ≡ Some w = sym (record_is (plus k c) H p) ∙ sym (m.is v.at) ∙ ap as_option e in
       (m.good, plus-le k c, (One.six H (at (plus k c)) p w x d).1)
 
-  in-mesh : rec H (at c) p ≡ some v
+  in-mesh : rec H (at c) p ≡ Some v
   in-mesh = sym (record_is c H p) ∙ sym (closed.is v.at) ∙ ap as_option held
 
   -- the vertex has level rank - 1
@@ -189,12 +186,12 @@ module _ (t : List ℕ) (g : Grown t) (v : Record) (held : look_up t v.at ≡ He
           → Finish t v.at v.n.0 (all_or t o)
       go o (E.made l y z r on full goes) = subst (Finish t v.at v.n.0) (all_made t o z) (done l z r rises (run-grown t o.bytes l g r) needed exact)
         where
-          rises : look_up o.bytes v.at ≡ Held (risen v.at v.n.0)
+          rises : look_up o.bytes v.at ≡ Some (risen v.at v.n.0)
           rises =
               let n = rank p + plus l c v.at in
               let w = vertex v.at 6 (n % 2) n in
               sheet-held (look_up o.bytes v.at) w (on.mesh.is v.at ∙ record_is (plus l c) H p ∙ rec-full H (at (plus l c)) p full)
-              ∙ ap (λ (i : ℕ). Held (vertex v.at 6 (i % 2) i)) (level-after (plus l c) goes)
+              ∙ ap (λ (i : ℕ). Some (vertex v.at 6 (i % 2) i)) (level-after (plus l c) goes)
 
           six : Six o.bytes v.at
           six = (risen v.at v.n.0, rises, refl)
@@ -226,29 +223,29 @@ module _ (t : List ℕ) (g : Grown t) (v : Record) (held : look_up t v.at ≡ He
 
 -- ---- the request
 pub data Request (t : List ℕ) (a b : ℤ) (m : ℕ) : Type 0 where
-  missing : look_up t (normal_of a b m) ≡ Absent → mesh_after 3 t ≡ request_of t a b m → Request t a b m
-  boundary : (v : Record) → look_up t (normal_of a b m) ≡ Held v → v.d ≡ 0 → mesh_after 14 t ≡ request_of t a b m → Request t a b m
-  already : (v : Record) → look_up t (normal_of a b m) ≡ Held v → v.d ≡ 6 → mesh_after 0 t ≡ request_of t a b m → Request t a b m
-  top : (v : Record) → look_up t (normal_of a b m) ≡ Held v → v.d ≢ 0 → v.d ≢ 6 → v.n.0 ≡ 12 → mesh_after 5 t ≡ request_of t a b m → Request t a b m
-  asked : (v : Record) → look_up t (normal_of a b m) ≡ Held v → v.d ≢ 0 → v.d ≢ 6 → v.n.0 < 12 → Finish t v.at v.n.0 (request_of t a b m)
+  missing : look_up t (normal_of a b m) ≡ None → mesh_after 3 t ≡ request_of t a b m → Request t a b m
+  boundary : (v : Record) → look_up t (normal_of a b m) ≡ Some v → v.d ≡ 0 → mesh_after 14 t ≡ request_of t a b m → Request t a b m
+  already : (v : Record) → look_up t (normal_of a b m) ≡ Some v → v.d ≡ 6 → mesh_after 0 t ≡ request_of t a b m → Request t a b m
+  top : (v : Record) → look_up t (normal_of a b m) ≡ Some v → v.d ≢ 0 → v.d ≢ 6 → v.n.0 ≡ 12 → mesh_after 5 t ≡ request_of t a b m → Request t a b m
+  asked : (v : Record) → look_up t (normal_of a b m) ≡ Some v → v.d ≢ 0 → v.d ≢ 6 → v.n.0 < 12 → Finish t v.at v.n.0 (request_of t a b m)
       → Request t a b m
 
 module _ (t : List ℕ) (g : Grown t) (a b : ℤ) (m : ℕ) where
   pub request-end : Request t a b m
   request-end = looked (look_up t (normal_of a b m)) refl
     where
-      at-vertex : (v : Record) → look_up t (normal_of a b m) ≡ Held v → Dec (v.d ≡ 0) → Dec (v.d ≡ 6) → Dec (v.n.0 ≡ 12) → Request t a b m
+      at-vertex : (v : Record) → look_up t (normal_of a b m) ≡ Some v → Dec (v.d ≡ 0) → Dec (v.d ≡ 6) → Dec (v.n.0 ≡ 12) → Request t a b m
       at-vertex v e (yes d) six n = boundary v e d (vertex-14 t v d ∙ request-on t a b m (order-test t g.order) v e)
       at-vertex v e (no d) (yes six) n = already v e six (vertex-0 t v d six ∙ request-on t a b m (order-test t g.order) v e)
       at-vertex v e (no d) (no six) (yes n) = top v e d six n (vertex-5 t v d six n ∙ request-on t a b m (order-test t g.order) v e)
       at-vertex v e (no d) (no six) (no n) =
           let l = valid-level v (of-true (lookup-valid t g.order (normal_of a b m) v e)) in
           let low : v.n.0 < 12 = omega arith in
-          let own : look_up t v.at ≡ Held v = ap (look_up t) (lookup-point t g.order (normal_of a b m) v e) ∙ e in
+          let own : look_up t v.at ≡ Some v = ap (look_up t) (lookup-point t g.order (normal_of a b m) v e) ∙ e in
           asked v e d six low
           (subst (Finish t v.at v.n.0) (vertex-on t v d six n ∙ request-on t a b m (order-test t g.order) v e)
           (vertex-finish t g v own d six low))
 
-      looked : (l : Looked) → look_up t (normal_of a b m) ≡ l → Request t a b m
-      looked Absent e = missing e (request-3 t a b m (order-test t g.order) e)
-      looked (Held v) e = at-vertex v e (ℕ_discrete v.d 0) (ℕ_discrete v.d 6) (ℕ_discrete v.n.0 12)
+      looked : (l : Option Record) → look_up t (normal_of a b m) ≡ l → Request t a b m
+      looked None e = missing e (request-3 t a b m (order-test t g.order) e)
+      looked (Some v) e = at-vertex v e (ℕ_discrete v.d 0) (ℕ_discrete v.d 6) (ℕ_discrete v.n.0 12)

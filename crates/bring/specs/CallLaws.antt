@@ -2,7 +2,7 @@
 -- `vertex-14`, `vertex-0`, `vertex-5`, `vertex-on` · `request-1`, `request-3`, `request-on` · `call_none`, `call-other`, `call-on`, `call-request` the
 -- call.
 -- Assumes nothing.
-use Rattle.std.specs.Prelude.{◌≡◌, refl, Bool, true, false, List, ℕ, ℤ, length, replicate}
+use Rattle.std.specs.Prelude.{◌≡◌, refl, Bool, true, false, List, ℕ, ℤ, length, replicate, Option, Some, None}
 use Rattle.std.proofs.Common.{sym, ◌∙◌}
 use Rattle.std.proofs.Math.Path.{ap}
 use Rattle.std.proofs.Math.Bool.{cond}
@@ -13,8 +13,6 @@ use Rattle.table.specs.Entries.{look_up}
 use Rattle.table.specs.Order.{in_order_of}
 use Rattle.table.specs.Slots.{Table, lengths_fit, slots_of, cleared_of}
 use Rattle.table.specs.SlotLaws.{table-lengths, lengths_none, lengths-other}
-use Rattle.table.specs.declared.entries.Looked.{Looked}
-use Rattle.table.specs.declared.entries.Looked.TheVariants.{Absent, Held}
 use Rattle.mesh.specs.Subdivide.{MeshAfter, mesh_after, all_or}
 use Rattle.mesh.specs.StepLaws.{After, all_made, all_back}
 use Rattle.bring.specs.Bring.{bring_of, bring_vertex, bring_looked, request_of, bring_after, cleared, bring_to_six}
@@ -65,15 +63,15 @@ module _ (t : List ℕ) (a b : ℤ) (m : ℕ) where
   unfolding request_of
   request-1 h = ap (λ (x : Bool). cond x (bring_looked t (look_up t (normal_of a b m))) (mesh_after 1 t)) (sym h)
 
-  request-looked : in_order_of t ≡ true → (l : Looked) → look_up t (normal_of a b m) ≡ l → bring_looked t l ≡ request_of t a b m
+  request-looked : in_order_of t ≡ true → (l : Option Record) → look_up t (normal_of a b m) ≡ l → bring_looked t l ≡ request_of t a b m
   unfolding request_of
   request-looked h l e = ap (bring_looked t) (sym e) ∙ ap (λ (x : Bool). cond x (bring_looked t (look_up t (normal_of a b m))) (mesh_after 1 t)) (sym h)
 
-  pub request-3 : in_order_of t ≡ true → look_up t (normal_of a b m) ≡ Absent → mesh_after 3 t ≡ request_of t a b m
-  request-3 h e = request-looked h Absent e
+  pub request-3 : in_order_of t ≡ true → look_up t (normal_of a b m) ≡ None → mesh_after 3 t ≡ request_of t a b m
+  request-3 h e = request-looked h None e
 
-  pub request-on : in_order_of t ≡ true → (v : Record) → look_up t (normal_of a b m) ≡ Held v → bring_vertex t v ≡ request_of t a b m
-  request-on h v e = request-looked h (Held v) e
+  pub request-on : in_order_of t ≡ true → (v : Record) → look_up t (normal_of a b m) ≡ Some v → bring_vertex t v ≡ request_of t a b m
+  request-on h v e = request-looked h (Some v) e
 
 -- ---- the call
 module _ (t s : List ℕ) (a b : ℤ) (m : ℕ) where

@@ -1,12 +1,13 @@
 -- A vertex brought to degree 6, step by step, as the code goes (mesh's StepLaws): `Locates`, `located` where a vertex stands · `Taken`, `slot_is` a slot
 -- where a search ends · `places-first` the places are the first 6 - d · `near-..` one neighbour by cases · `Turning`, `turning-..` the places in turn.
 -- Assumes nothing.
-use Rattle.std.specs.Prelude.{◌≡◌, Bool, true, false, cond, List, [], ◌∷◌, length}
+use Rattle.std.specs.Prelude.{◌≡◌, Bool, true, false, cond, List, [], ◌∷◌, length, Option, Some, None}
 use Rattle.std.proofs.Math.Path.{refl, ap}
 use Rattle.std.proofs.Common.{sym, ◌∙◌}
 use Prim.Native.Nat.{ℕ, zero, suc, ◌+◌, ◌-◌, ◌≤◌, ◌<◌}
 use native.Mathlib.Omega.{arith}
 use borrow.Author.Tests.{eq-eqb, ne_eqb}
+use Rattle.lattice.specs.RefusalLaws.{number-some}
 use Rattle.laws.specs.Choices.{of-true}
 use Rattle.lattice.specs.Patterns.{rows_of, pattern_of}
 use Rattle.lattice.specs.Stars.{adjacent_at}
@@ -18,25 +19,25 @@ use Rattle.table.specs.Order.{InOrder}
 use Rattle.table.specs.Search.{same_point, find_of}
 use Rattle.table.specs.Slots.{slot_at}
 use Rattle.table.specs.MapLaws.{lookup-point, lookup-valid}
-use Rattle.table.specs.declared.entries.Looked.{Looked}
-use Rattle.table.specs.declared.entries.Looked.TheVariants.{Absent, Held}
 use Rattle.table.specs.declared.probe.Found.TheVariants as found
 use Rattle.mesh.specs.Subdivide.{MeshAfter, mesh_after, subdivide_vertex, and_then}
 use Rattle.mesh.specs.WriteLaws.{Standing}
 use Rattle.mesh.specs.Met.{InSlot}
 use Rattle.mesh.specs.CallLaws.{looked-standing}
-use Rattle.mesh.specs.StepLaws.{Given, Stays, After, after-here, given-after, after_same, after_then, then-on, then-stop}
-use Rattle.bring.specs.declared.locate.Located.{Located}
-use Rattle.bring.specs.declared.locate.Located.TheVariants.{Nowhere, In}
+use Rattle.mesh.specs.StepLaws.{Given, Stays, After, after-here, given-after, after_same, after_then, then-on, then-stop, Leaves, leaves_same, leaves_then}
+use Rattle.lattice.specs.Refusals.{number_of}
+use Rattle.lattice.specs.declared.refusals.Refusal.{Refusal}
+use Rattle.table.specs.Slots.{free_slots}
+use Rattle.std.specs.Prelude.{Option, Result, MatchOption}
 use Rattle.bring.specs.Bring.{sixty_at, no_sixty, places_below, places_of, each_of, raised_at, near_vertex, near_looked, near_of}
 use Rattle.bring.specs.Bring.{lower_of, is_six, ends_at, brought_by, bring_of}
 
 -- where the vertex at p stands
-abbrev pub Locates : List ℕ → Point → Located → Type 0
-Locates t p Nowhere = look_up t p ≡ Absent
-Locates t p (In u i) = (look_up t p ≡ Held u) × (find_of t p ≡ found.At i)
+abbrev pub Locates : List ℕ → Point → Option (Record × ℕ) → Type 0
+Locates t p l = MatchOption l (look_up t p ≡ None) (λ w. (look_up t p ≡ Some w.0) × (find_of t p ≡ found.At w.1))
 
-pub located : {t : List ℕ} → InOrder t → (p : Point) (u : Record) (i : ℕ) → Locates t p (In u i) → Standing t u × InSlot t u i
+pub located : {t : List ℕ} → InOrder t → (p : Point) (u : Record) (i : ℕ) → (look_up t p ≡ Some u) × (find_of t p ≡ found.At i)
+    → Standing t u × InSlot t u i
 located {t} o p u i w = (looked-standing t o p u w.0, ap (find_of t) (lookup-point t o p u w.0) ∙ w.1)
 
 -- what stands where a search ended is what it looked for
@@ -74,35 +75,35 @@ places-first (suc (suc (suc (suc (suc (suc (suc d))))))) l h = absurd (omega ari
 
 -- ---- one neighbour, by cases
 module _ (n : ℕ) (t : List ℕ) (p : Point) where
-  near-looked : (l : Looked) → look_up t p ≡ l → near_looked (lower_of n) n t l ≡ near_of n t p
+  near-looked : (l : Option Record) → look_up t p ≡ l → near_looked (lower_of n) n t l ≡ near_of n t p
   near-looked l e = ap (near_looked (lower_of n) n t) (sym e)
 
-  pub near-absent : look_up t p ≡ Absent → mesh_after 7 t ≡ near_of n t p
-  near-absent e = near-looked Absent e
+  pub near-absent : look_up t p ≡ None → mesh_after 7 t ≡ near_of n t p
+  near-absent e = near-looked None e
 
-  module _ (u : Record) (e : look_up t p ≡ Held u) where
+  module _ (u : Record) (e : look_up t p ≡ Some u) where
     pub near-rim : u.d ≡ 0 → mesh_after 16 t ≡ near_of n t p
-    near-rim z = at ∙ near-looked (Held u) e
+    near-rim z = at ∙ near-looked (Some u) e
       where
         at : mesh_after 16 t ≡ near_vertex (lower_of n) n t u
         at = unfold near_vertex in rw (eq-eqb u.d 0 z)
 
     module _ (rim : u.d ≡ 0 → ⊥) where
       pub near-six : u.d ≡ 6 → u.n.0 ≡ n → subdivide_vertex t u ≡ near_of n t p
-      near-six s l = at ∙ near-looked (Held u) e
+      near-six s l = at ∙ near-looked (Some u) e
         where
           at : subdivide_vertex t u ≡ near_vertex (lower_of n) n t u
           at = unfold near_vertex in rw (ne_eqb u.d 0 rim, eq-eqb u.d 6 s, eq-eqb u.n.0 n l)
 
       pub near-other : u.d ≡ 6 → (u.n.0 ≡ n → ⊥) → mesh_after 7 t ≡ near_of n t p
-      near-other s l = at ∙ near-looked (Held u) e
+      near-other s l = at ∙ near-looked (Some u) e
         where
           at : mesh_after 7 t ≡ near_vertex (lower_of n) n t u
           at = unfold near_vertex in rw (ne_eqb u.d 0 rim, eq-eqb u.d 6 s, ne_eqb u.n.0 n l)
 
       module _ (less : u.d ≡ 6 → ⊥) where
         pub near-far : (u.n.0 + 1 ≡ n → ⊥) → mesh_after 7 t ≡ near_of n t p
-        near-far l = at ∙ near-looked (Held u) e
+        near-far l = at ∙ near-looked (Some u) e
           where
             at : mesh_after 7 t ≡ near_vertex (lower_of n) n t u
             at = unfold near_vertex in rw (ne_eqb u.d 0 rim, ne_eqb u.d 6 less, ne_eqb (u.n.0 + 1) n l)
@@ -117,23 +118,25 @@ module _ (n : ℕ) (t : List ℕ) (p : Point) where
             at = unfold lower_of in refl
 
         pub near-lower : u.n.0 + 1 ≡ n → and_then (bring_of u.n.0 t u) (λ s. raised_at s (look_up s u.at)) ≡ near_of n t p
-        near-lower l = ap (λ (o : MeshAfter). and_then o (λ s. raised_at s (look_up s u.at))) (sym (lower-is l)) ∙ at ∙ near-looked (Held u) e
+        near-lower l = ap (λ (o : MeshAfter). and_then o (λ s. raised_at s (look_up s u.at))) (sym (lower-is l)) ∙ at ∙ near-looked (Some u) e
           where
             at : and_then (lower_of n t u) (λ s. raised_at s (look_up s u.at)) ≡ near_vertex (lower_of n) n t u
             at = unfold near_vertex in rw (ne_eqb u.d 0 rim, ne_eqb u.d 6 less, eq-eqb (u.n.0 + 1) n l)
 
         -- it could not be brought
-        pub near-stop : u.n.0 + 1 ≡ n → (x f : ℕ) (t' : List ℕ) → After t (bring_of u.n.0 t u) x f t' → (x ≡ 0 → ⊥) → After t (near_of n t p) x f t'
-        near-stop l x f t' a nz = after_same (then-stop (bring_of u.n.0 t u) (λ s. raised_at s (look_up s u.at)) (λ z. nz (a.number ∙ z)) ∙ near-lower l) a
+        pub near-stop : u.n.0 + 1 ≡ n → (why : Refusal) (t' : List ℕ) → After t (bring_of u.n.0 t u) (number_of why) (free_slots t') t'
+            → After t (near_of n t p) (number_of why) (free_slots t') t'
+        near-stop l why t' a =
+            after_same (then-stop (bring_of u.n.0 t u) (λ s. raised_at s (look_up s u.at)) (λ z. number-some why (a.number ∙ z)) ∙ near-lower l) a
 
         -- it was, and is subdivided
-        pub near_on : u.n.0 + 1 ≡ n → (x f : ℕ) (t' : List ℕ) → After t (bring_of u.n.0 t u) x f t' → x ≡ 0
-            → (y h : ℕ) (t'' : List ℕ) → After t' (raised_at t' (look_up t' u.at)) y h t'' → After t (near_of n t p) y h t''
-        near_on l x f t' a z y h t'' b =
-            after_then a.long a.stays
-            (after_same
+        pub near_on : u.n.0 + 1 ≡ n → (f : ℕ) (t' : List ℕ) → After t (bring_of u.n.0 t u) 0 f t'
+            → (r : Result ℕ Refusal) (t'' : List ℕ) → Leaves t' (raised_at t' (look_up t' u.at)) r t'' → Leaves t (near_of n t p) r t''
+        near_on l f t' a r t'' b =
+            leaves_then t t' (near_of n t p) r t'' a.long a.stays
+            (leaves_same t' (raised_at t' (look_up t' u.at)) (near_of n t p) r t''
             (ap (λ (s : List ℕ). raised_at s (look_up s u.at)) a.bytes
-            ∙ then-on (bring_of u.n.0 t u) (λ s. raised_at s (look_up s u.at)) (sym a.number ∙ z) ∙ near-lower l)
+            ∙ then-on (bring_of u.n.0 t u) (λ s. raised_at s (look_up s u.at)) (sym a.number) ∙ near-lower l)
             b)
 
 -- ---- the places in turn
@@ -205,16 +208,18 @@ module _ (t₀ : List ℕ) (v : Record) (n : ℕ) (t : List ℕ) (f j : ℕ) (g 
   pub turning-short : 6 - v.d ≤ j → is_six (look_up t v.at) ≡ false → After t₀ (bring_of v.n.0 t₀ v) 7 f t
   turning-short h e = here (ap (λ (b : Bool). cond b (mesh_after 0 t) (mesh_after 7 t)) (sym e) ∙ ends h)
 
-  module _ (h : j < 6 - v.d) (x f' : ℕ) (t' : List ℕ) (a : After t (near_of v.n.0 t (adjacent_at v j)) x f' t') where
-    pub turning-stop : (x ≡ 0 → ⊥) → After t₀ (bring_of v.n.0 t₀ v) x f' t'
-    turning-stop nz =
-        let e = each-stop (near_of v.n.0) v t j (6 - v.d - j) (omega arith) (λ z. nz (a.number ∙ z)) ∙ g.left in
-        let ne : (each_of (near_of v.n.0) v t₀ (places_of v.d)).number ≡ 0 → ⊥ = λ z. nz (a.number ∙ ap (λ (o : MeshAfter). o.number) e ∙ z) in
+  module _ (h : j < 6 - v.d) (t' : List ℕ) where
+    pub turning-stop : (why : Refusal) → After t (near_of v.n.0 t (adjacent_at v j)) (number_of why) (free_slots t') t'
+        → After t₀ (bring_of v.n.0 t₀ v) (number_of why) (free_slots t') t'
+    turning-stop why a =
+        let e = each-stop (near_of v.n.0) v t j (6 - v.d - j) (omega arith) (λ z. number-some why (a.number ∙ z)) ∙ g.left in
+        let ne : (each_of (near_of v.n.0) v t₀ (places_of v.d)).number ≡ 0 → ⊥ =
+        λ z. number-some why (a.number ∙ ap (λ (o : MeshAfter). o.number) e ∙ z) in
         after_then g.long g.stays
         (after_same (e ∙ then-stop (each_of (near_of v.n.0) v t₀ (places_of v.d)) (λ s. ends_at s (look_up s v.at)) ne ∙ bring-is v.n.0 t₀ v) a)
 
-    pub turning-more : x ≡ 0 → Turning t₀ v n t' f' (j + 1)
-    turning-more z =
+    pub turning-more : (f' : ℕ) → After t (near_of v.n.0 t (adjacent_at v j)) 0 f' t' → Turning t₀ v n t' f' (j + 1)
+    turning-more f' a =
         let k : 6 - v.d - (j + 1) ≡ 6 - v.d - j - 1 = omega arith in
         record {
           within = omega arith;
@@ -223,5 +228,5 @@ module _ (t₀ : List ℕ) (v : Record) (n : ℕ) (t : List ℕ) (f j : ℕ) (g 
           stays = λ p i h. a.stays p i (g.stays p i h);
           left =
               (λ i. each_of (near_of v.n.0) v (a.bytes i) (run (j + 1) (k i)))
-              ∙ each_more (near_of v.n.0) v t j (6 - v.d - j) (omega arith) (sym a.number ∙ z) ∙ g.left;
+              ∙ each_more (near_of v.n.0) v t j (6 - v.d - j) (omega arith) (sym a.number) ∙ g.left;
         }

@@ -8,12 +8,11 @@
 -- (`six-level`), or a lower degree and level b - 1: were its rank below b, it would be p's creator, which has been subdivided and so has degree 6
 -- (`creator-split`).
 -- Assumes nothing.
-use Rattle.std.specs.Prelude.{◌≡◌, ◌≢◌, ◌⊎◌, false, length}
+use Rattle.std.specs.Prelude.{◌≡◌, ◌≢◌, ◌⊎◌, false, length, Option, Some}
 use Rattle.std.proofs.Math.Path.{refl, sym, ap, fun_ext}
 use Rattle.std.proofs.Common.{◌∙◌, subst, mul-le-mul_right, length-append}
 use Rattle.std.proofs.Math.Logic.{inl, inr}
 use Rattle.std.proofs.Math.Bool.{Bool, true, true≢false}
-use Rattle.std.proofs.Math.Option.{some}
 use mathlib.Core.List.Memᴰ
 use mathlib.Core.List.{List, [], ◌∷◌, ◌++◌, Memᴰ}
 use Prim.Native.Nat.{ℕ, zero, suc, ◌+◌, ◌*◌, ◌%◌, ◌/◌, ◌≤◌, ◌<◌}
@@ -40,8 +39,6 @@ use Rattle.growth.specs.Bring.{T-le, pres-le, on-six, creator-split, six-level}
 use Rattle.table.specs.Entries.{look_up}
 use Rattle.table.specs.Slots.{free_slots}
 use Rattle.table.specs.MapLaws.{order-test}
-use Rattle.table.specs.declared.entries.Looked.{Looked}
-use Rattle.table.specs.declared.entries.Looked.TheVariants.{Held}
 use Rattle.mesh.specs.Subdivide.{MeshAfter, subdivide_vertex, subdivide_of}
 use Rattle.mesh.specs.CallLaws.{call-vertex}
 use Rattle.local.specs.Sheet.{as_option, sheet_of}
@@ -56,10 +53,10 @@ use Rattle.bring.specs.Runs.{Division, divide_at, Run, here, next, run_on, plus,
 use Rattle.growth.specs.Model as M
 use Rattle.bring.specs.Ways as W
 
-pub some_same : {a b : Record} → some a ≡ some b → a ≡ b
+pub some_same : {a b : Record} → Some a ≡ Some b → a ≡ b
 some_same {a} {b} e = cc
 
-held-some : (l : Looked) (r : Record) → l ≡ Held r → as_option l ≡ some r
+held-some : (l : Option Record) (r : Record) → l ≡ Some r → as_option l ≡ Some r
 held-some l r e = ap as_option e
 
 module _ (H : Point → Bool) (E : Counts → Type 0) (E-good : (e : Counts) → E e → M.Good H e) where
@@ -77,7 +74,7 @@ module _ (H : Point → Bool) (E : Counts → Type 0) (E-good : (e : Counts) →
   pub data Ends (m n : ℕ) (d : Counts) (t : List ℕ) (P : Counts → Type 0) (o : MeshAfter) : Type 0 where
     made : (l : List Division) → length l ≤ m → o.number ≡ 0 → Run t l o.bytes → On (plus l d) o.bytes → P (plus l d) → Goes n d (plus l d)
         → Ends m n d t P o
-    rim : (l : List Division) (u : Record) → length l ≤ m → o.number ≡ 16 → Run t l o.bytes → look_up o.bytes u.at ≡ Held u → u.d ≡ 0
+    rim : (l : List Division) (u : Record) → length l ≤ m → o.number ≡ 16 → Run t l o.bytes → look_up o.bytes u.at ≡ Some u → u.d ≡ 0
         → ((e : Counts) → E e → ⊥) → Ends m n d t P o
     short : (l : List Division) (q : Point) → length l < m → o.number ≡ 8 → Run t l o.bytes → free_slots o.bytes < 6
         → ((e : Counts) → E e → (p : Point) → more q (plus l d) p ≤ e p) → Ends m n d t P o
@@ -124,10 +121,10 @@ module _ (H : Point → Bool) (E : Counts → Type 0) (E-good : (e : Counts) →
 
   -- ---- what stands at a point of the mesh
   module _ {d : Counts} {t : List ℕ} (on : On d t) (q : Pt) where
-    held-rec : (u : Record) → look_up t q.at ≡ Held u → rec H (at d) q ≡ some u
+    held-rec : (u : Record) → look_up t q.at ≡ Some u → rec H (at d) q ≡ Some u
     held-rec u e = sym (record_is d H q) ∙ sym (on.mesh.is q.at) ∙ held-some (look_up t q.at) u e
 
-    rec-held : (u : Record) → rec H (at d) q ≡ some u → look_up t q.at ≡ Held u
+    rec-held : (u : Record) → rec H (at d) q ≡ Some u → look_up t q.at ≡ Some u
     rec-held u e = sheet-held (look_up t q.at) u (on.mesh.is q.at ∙ record_is d H q ∙ e)
 
   -- ---- one subdivision: q has degree 6 and level b, and E has it subdivided there
@@ -147,13 +144,13 @@ module _ (H : Point → Bool) (E : Counts → Type 0) (E-good : (e : Counts) →
     abbrev u : Record
     u = vertex q.at 6 ((rank q + d q.at) % 2) (rank q + d q.at)
 
-    stands : rec H (at d) q ≡ some u
+    stands : rec H (at d) q ≡ Some u
     stands = rec-full H (at d) q full
 
-    held : look_up t q.at ≡ Held u
+    held : look_up t q.at ≡ Some u
     held = rec-held on q u stands
 
-    in-mesh : mesh_of H d q.at ≡ some u
+    in-mesh : mesh_of H d q.at ≡ Some u
     in-mesh = record_is d H q ∙ stands
 
     whole : UntornAt (sheet_of t) u
@@ -212,7 +209,7 @@ module _ (H : Point → Bool) (E : Counts → Type 0) (E-good : (e : Counts) →
             grows : (p : Point) → d p ≤ more q.at d p
             grows p = unfold more in omega arith
 
-    pub divide-ends : (r : Record) → look_up t q.at ≡ Held r → Ends 1 (suc b) d t (After q b d) (subdivide_vertex t r)
+    pub divide-ends : (r : Record) → look_up t q.at ≡ Some r → Ends 1 (suc b) d t (After q b d) (subdivide_vertex t r)
     divide-ends r e = subst (λ (r : Record). Ends 1 (suc b) d t (After q b d) (subdivide_vertex t r)) (some_same (sym stands ∙ held-rec on q r e)) divide-u
 
   -- ---- a parent of p that is no creator has p's creator for a parent, and that has been subdivided
@@ -241,7 +238,7 @@ module _ (H : Point → Bool) (E : Counts → Type 0) (E-good : (e : Counts) →
   -- a vertex of level i and a degree below 6, brought to degree 6
   abbrev pub Bring : ℕ → Type 0
   Bring i =
-      (d : Counts) (t : List ℕ) → On d t → (p : Pt) (v : Record) → look_up t p.at ≡ Held v → v.d ≢ 0 → v.d ≢ 6 → rank p ≡ suc i → i < 12
+      (d : Counts) (t : List ℕ) → On d t → (p : Pt) (v : Record) → look_up t p.at ≡ Some v → v.d ≢ 0 → v.d ≢ 6 → rank p ≡ suc i → i < 12
       → ((e : Counts) → E e → Six p e)
       → (m : ℕ) → total p i (open_of (T (at d) (par p 0 i) i) (T (at d) (par p 1 i) i) (T (at d) (par p 2 i) i)) ≤ m → Ends m (suc i) d t (Six p) (bring_of i t v)
 
@@ -267,7 +264,7 @@ module _ (H : Point → Bool) (E : Counts → Type 0) (E-good : (e : Counts) →
     -- on the rim: 16, and E is empty
     near-on-rim : int_at H q (rank q) ≡ false → Ends (cost p b k) (suc b) d t (After q b d) (near_of b t q.at)
     near-on-rim e =
-        let r : rec H (at d) q ≡ some (vertex q.at 0 0 0) = rec-q false e ∙ unfold look in refl in
+        let r : rec H (at d) q ≡ Some (vertex q.at 0 0 0) = rec-q false e ∙ unfold look in refl in
         let h = rec-held on q (vertex q.at 0 0 0) r in
         ends_same (near-rim b t q.at (vertex q.at 0 0 0) h refl)
         (rim [] (vertex q.at 0 0 0) (omega arith) refl here h refl (λ c x. true≢false (sym (int-of-full H (at c) q (rank q) (want-six c x)) ∙ e)))
@@ -320,7 +317,7 @@ module _ (H : Point → Bool) (E : Counts → Type 0) (E-good : (e : Counts) →
         abbrev s : Record
         s = star_at (at d) q (suc i)
 
-        held-s : look_up t q.at ≡ Held s
+        held-s : look_up t q.at ≡ Some s
         held-s = rec-held on q s (rec-q true inside ∙ ap (λ (n : ℕ). look true true q.at (star_at (at d) q n)) rank-i ∙ unfold look in refl)
 
         -- one of its own parents has been subdivided
@@ -345,7 +342,7 @@ module _ (H : Point → Bool) (E : Counts → Type 0) (E-good : (e : Counts) →
             let pr' : pres_at H (at d') p (suc b) ≡ true = pres-le H (at d) (at d') p (suc b) (λ x. g.above x.at) pr in
             let lev : b ≡ rank q + d' q.at = six-level H (at d') p b k (good-in d' H on'.mesh.good) f hk pr' full off' in
             let w : Record = vertex q.at 6 ((rank q + d' q.at) % 2) (rank q + d' q.at) in
-            let r : look_up t' q.at ≡ Held w = rec-held on' q w (rec-full H (at d') q full) in
+            let r : look_up t' q.at ≡ Some w = rec-held on' q w (rec-full H (at d') q full) in
             let e : subdivide_vertex t' w ≡ raised_at t' (look_up t' s.at) = ap (raised_at t') (sym r ∙ ap (look_up t') (sym (star-less i rank-i).3)) in
             ends_same e (ends-past d' t' (subdivide_vertex t' w) g (divide-ends d' t' on' q full b lev low want w r))
           where
@@ -476,7 +473,7 @@ module _ (H : Point → Bool) (E : Counts → Type 0) (E-good : (e : Counts) →
         last : (d' : Counts) (u : List ℕ) → On d' u → Six p d' → v.at ≡ p.at → Ends 0 (suc b) d' u (Six p) (ends_at u (look_up u v.at))
         last d' u on' full at_p =
             let w : Record = vertex p.at 6 ((rank p + d' p.at) % 2) (rank p + d' p.at) in
-            let r : look_up u v.at ≡ Held w = ap (look_up u) at_p ∙ rec-held on' p w (rec-full H (at d') p full) in
+            let r : look_up u v.at ≡ Some w = ap (look_up u) at_p ∙ rec-held on' p w (rec-full H (at d') p full) in
             ends_same (ap (ends_at u) (sym r))
             (made [] (omega arith) refl here (subst (λ (c : Counts). On c u) (plus_none d') on') (subst (Six p) (plus_none d') full)
             (subst (Goes (suc b) d') (plus_none d') (goes_refl (suc b) d')))

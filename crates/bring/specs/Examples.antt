@@ -1,7 +1,7 @@
 -- The request, computed from the definition: on document 01's "Three" and on seven hexagons, `of_three`, `of-seven`; on tables that are not grown,
 -- `of-torn` the seven with a neighbour's record left out, `of-few` each cause of 7 by itself, 16, and the first met of two.
 -- Assumes nothing.
-use Rattle.std.specs.Prelude.{◌≡◌, refl, cond, List, [], ◌∷◌, ℕ, ◌*◌, ℤ, pos, negsuc, length, replicate}
+use Rattle.std.specs.Prelude.{◌≡◌, refl, cond, List, [], ◌∷◌, ℕ, ◌*◌, ℤ, pos, negsuc, length, replicate, Some}
 use Rattle.laws.specs.Words.{word_at}
 use Rattle.base.specs.Base.{listed_in, first_bad, internal, corner_record, hexagon_of, lay_hexagon, lay_all, laid_of, base_of}
 use Rattle.lattice.specs.Patterns.{rows_of, pattern_of, orient}
@@ -13,7 +13,6 @@ use Rattle.table.specs.Search.{home_of, same_point, search_from, find_of}
 use Rattle.table.specs.Entries.{look_up, enter_of, replace_of, records_below, records_of}
 use Rattle.table.specs.Order.{placed_at, all_placed, in_order_of}
 use Rattle.table.specs.Slots.{slot_width, slots_in, free_at, record_at, slot_at, record_bytes, put_slot, free_below}
-use Rattle.table.specs.declared.entries.Looked.TheVariants.{Held}
 use Rattle.mesh.specs.Subdivide.{torn, renewed_to, entered_to, subdivided, subdivide_of, onwards}
 use Rattle.bring.specs.Bring.{sixty_at, no_sixty, places_below, places_of, each_of, near_vertex, bring_of, lower_of, bring_vertex, request_of}
 
@@ -46,7 +45,7 @@ made = (request_of (seven 49) (pos 0) (pos 0) 0).bytes
 -- Seven: the centre has degree 3, its three parents degree 6 at level 0: three subdivisions, 18 records more, and the centre has degree 6 at level 1
 of-seven :
     ((request_of (seven 49) (pos 0) (pos 0) 0).number ≡ 0)
-    × (look_up made (pt (pos 0) (pos 0) 0) ≡ Held (record { at = pt (pos 0) (pos 0) 0; d = 6; k = 1; n = record { 0 = 1 } }))
+    × (look_up made (pt (pos 0) (pos 0) 0) ≡ Some (record { at = pt (pos 0) (pos 0) 0; d = 6; k = 1; n = record { 0 = 1 } }))
     × (length (records_of (seven 49)) ≡ 31)
     × (length (records_of made) ≡ 49)
 unfolding seven request_of bring_vertex lower_of bring_of near_vertex each_of onwards places_of places_below no_sixty sixty_at subdivide_of subdivided torn

@@ -4,7 +4,7 @@
 -- before (`Keeps`). Why no 4: it is subdivided only where it has degree 6.
 -- `ChainNumber` the numbers from within · `Fine` a step of the chain · `bring-fine` · `vertex-told`, `request-order` the request.
 -- Assumes nothing.
-use Rattle.std.specs.Prelude.{◌≡◌, refl, ◌≢◌, Bool, true, false, cond, ◌&&◌, ℕ, zero, suc, ◌+◌, ◌%◌, ◌≤◌, ◌<◌, eqb, ℤ}
+use Rattle.std.specs.Prelude.{◌≡◌, refl, ◌≢◌, Bool, true, false, cond, ◌&&◌, ℕ, zero, suc, ◌+◌, ◌%◌, ◌≤◌, ◌<◌, eqb, ℤ, Option, Some, None}
 use Rattle.std.proofs.Common.{sym, ◌∙◌, ap, subst, arith, ne_eqb, eqb-true}
 use mathlib.Core.List.{List, [], ◌∷◌}
 use Rattle.std.proofs.Math.Decide.{ℕ_discrete, dec_lt}
@@ -23,8 +23,6 @@ use Rattle.table.specs.Entries.{look_up}
 use Rattle.table.specs.Order.{InOrder, in_order_of}
 use Rattle.table.specs.Slots.{free_slots}
 use Rattle.table.specs.MapLaws.{lookup-valid, order-test}
-use Rattle.table.specs.declared.entries.Looked.{Looked}
-use Rattle.table.specs.declared.entries.Looked.TheVariants.{Absent, Held}
 use Rattle.mesh.specs.Subdivide.{adjacent_fits, new_fits, MeshAfter, mesh_after, subdivided, subdivide_vertex}
 use Rattle.mesh.specs.SubdivideLaws.{Ready, Intact, old, subdivided-order, subdivided-centre, subdivided-old, subdivided-rest}
 use Rattle.mesh.specs.WriteLaws.{Standing}
@@ -46,7 +44,7 @@ pub data ChainNumber (x : ℕ) : Type 0 where
 
 -- what stood in t stands in t', and its level is what it was at most, or i + 1 at most
 abbrev pub Keeps : ℕ → List ℕ → List ℕ → Type 0
-Keeps i t t' = (p : Point) (u : Record) → look_up t p ≡ Held u → (w : Record) × (look_up t' p ≡ Held w) × ((m : ℕ) → u.n.0 ≤ m → suc i ≤ m → w.n.0 ≤ m)
+Keeps i t t' = (p : Point) (u : Record) → look_up t p ≡ Some u → (w : Record) × (look_up t' p ≡ Some w) × ((m : ℕ) → u.n.0 ≤ m → suc i ≤ m → w.n.0 ≤ m)
 
 keeps-refl : (i : ℕ) (t : List ℕ) → Keeps i t t
 keeps-refl i t p u e = (u, e, λ m a b. a)
@@ -87,11 +85,11 @@ accepted-level k n u h d =
     sym (ap (λ (b : Bool). cond b true (eqb u.n.0 n && has_rule k u.d u.k)) (ne_eqb u.d 0 d)) ∙ h in
     eqb-true u.n.0 n (is_true (eqb u.n.0 n) (and_left (eqb u.n.0 n) (has_rule k u.d u.k) (of-true z)))
 
-gone : {A : Type 0} (r : Record) → Held r ≡ Absent → A
+gone : {A : Type 0} (r : Record) → Some r ≡ None → A
 gone r e = absurd (let z : ◌≡◌ {A = ℕ} 0 1 = cc in omega arith)
 
 abbrev Kept : List ℕ → Record → Point → Record → Type 0
-Kept t v p u = (x : Record) × (look_up (subdivided t v) p ≡ Held x) × ((m : ℕ) → u.n.0 ≤ m → suc v.n.0 ≤ m → x.n.0 ≤ m)
+Kept t v p u = (x : Record) × (look_up (subdivided t v) p ≡ Some x) × ((m : ℕ) → u.n.0 ≤ m → suc v.n.0 ≤ m → x.n.0 ≤ m)
 
 module _ (t : List ℕ) (v : Record) (w : Intact t v) where
   divided-keeps : Keeps v.n.0 t (subdivided t v)
@@ -102,7 +100,7 @@ module _ (t : List ℕ) (v : Record) (w : Intact t v) where
       at_old c n (yes (j, h, z)) =
           (update_of (back_of v.k j) u, ap (look_up (subdivided t v)) z ∙ subdivided-old t v w j h u l, λ m x y. bound m x y (ℕ_discrete u.d 0))
         where
-          l : look_up t (adjacent_at v j) ≡ Held u
+          l : look_up t (adjacent_at v j) ≡ Some u
           l = ap (look_up t) (sym z) ∙ e
 
           fits : accepts_of (back_of v.k j) v.n.0 u ≡ true
@@ -168,11 +166,11 @@ abbrev pub Bring : ℕ → Type 0
 Bring i =
     (t : List ℕ) → InOrder t → (v : Record) → Fine i t (bring_of i t v) × ((bring_of i t v).number ≡ 0 → is_six (look_up (bring_of i t v).bytes v.at) ≡ true)
 
-six-held : (l : Looked) (u : Record) → l ≡ Held u → is_six l ≡ true → u.d ≡ 6
+six-held : (l : Option Record) (u : Record) → l ≡ Some u → is_six l ≡ true → u.d ≡ 6
 six-held l u e h = eqb-true u.d 6 (ap is_six (sym e) ∙ h)
 
 module _ (n : ℕ) (low : n < 12) (ih : (i : ℕ) → n ≡ suc i → Bring i) (t : List ℕ) (o : InOrder t) (p : Point) where
-  near-vertex : (u : Record) → look_up t p ≡ Held u → Dec (u.d ≡ 0) → Dec (u.d ≡ 6) → Dec (u.n.0 ≡ n) → Dec (u.n.0 + 1 ≡ n) → Fine n t (near_of n t p)
+  near-vertex : (u : Record) → look_up t p ≡ Some u → Dec (u.d ≡ 0) → Dec (u.d ≡ 6) → Dec (u.n.0 ≡ n) → Dec (u.n.0 + 1 ≡ n) → Fine n t (near_of n t p)
   near-vertex u e (yes d) s l k = fine-same (near-rim n t p u e d) (fine-here n t o 16 (rim refl))
   near-vertex u e (no d) (yes s) (yes l) k =
       fine-same (near-six n t p u e d s l) (fine_up n (omega arith) (vertex-fine t u (looked-standing t o p u e) s (omega arith)))
@@ -187,7 +185,7 @@ module _ (n : ℕ) (low : n < 12) (ih : (i : ℕ) → n ≡ suc i → Bring i) (
       raised : (x : MeshAfter) → Fine u.n.0 t x → is_six (look_up x.bytes u.at) ≡ true
           → Fine n x.bytes (raised_at x.bytes (look_up x.bytes u.at))
       raised x f six =
-          let own : look_up t u.at ≡ Held u = (looked-standing t o p u e).held in
+          let own : look_up t u.at ≡ Some u = (looked-standing t o p u e).held in
           let (w, g, h) = f.keeps u.at u own in
           let lv : w.n.0 ≤ n = h n (omega arith) (omega arith) in
           let d6 : w.d ≡ 6 = six-held (look_up x.bytes u.at) w g six in
@@ -197,9 +195,9 @@ module _ (n : ℕ) (low : n < 12) (ih : (i : ℕ) → n ≡ suc i → Bring i) (
   near-fine : Fine n t (near_of n t p)
   near-fine = go (look_up t p) refl
     where
-      go : (l : Looked) → look_up t p ≡ l → Fine n t (near_of n t p)
-      go Absent e = fine-same (near-absent n t p e) (fine-here n t o 7 (torn refl))
-      go (Held u) e = near-vertex u e (ℕ_discrete u.d 0) (ℕ_discrete u.d 6) (ℕ_discrete u.n.0 n) (ℕ_discrete (u.n.0 + 1) n)
+      go : (l : Option Record) → look_up t p ≡ l → Fine n t (near_of n t p)
+      go None e = fine-same (near-absent n t p e) (fine-here n t o 7 (torn refl))
+      go (Some u) e = near-vertex u e (ℕ_discrete u.d 0) (ℕ_discrete u.d 6) (ℕ_discrete u.n.0 n) (ℕ_discrete (u.n.0 + 1) n)
 
 module _ (n : ℕ) (low : n < 12) (ih : (i : ℕ) → n ≡ suc i → Bring i) where
   each-fine : (v : Record) (js : List ℕ) (t : List ℕ) → InOrder t → Fine n t (each_of (near_of n) v t js)
@@ -250,10 +248,10 @@ bring-fine (suc n) low = bring-step (suc n) low (lower (bring-fine n (omega arit
 
 -- ---- the request
 -- a vertex of a table in order that is neither on the rim nor of degree 6 nor at level 12
-pub vertex-told : (t : List ℕ) → InOrder t → (v : Record) → look_up t v.at ≡ Held v → (v.n.0 ≡ 12 → ⊥) → Fine v.n.0 t (bring_of v.n.0 t v)
+pub vertex-told : (t : List ℕ) → InOrder t → (v : Record) → look_up t v.at ≡ Some v → (v.n.0 ≡ 12 → ⊥) → Fine v.n.0 t (bring_of v.n.0 t v)
 vertex-told t o v e top = let l = valid-level v (of-true (lookup-valid t o v.at v e)) in (bring-fine v.n.0 (omega arith) t o v).0
 
-module _ (t : List ℕ) (o : InOrder t) (v : Record) (e : look_up t v.at ≡ Held v) where
+module _ (t : List ℕ) (o : InOrder t) (v : Record) (e : look_up t v.at ≡ Some v) where
   vertex-order : Dec (v.d ≡ 0) → Dec (v.d ≡ 6) → Dec (v.n.0 ≡ 12) → InOrder (bring_vertex t v).bytes
   vertex-order (yes d) s n = subst InOrder (ap (λ (x : MeshAfter). x.bytes) (vertex-14 t v d)) o
   vertex-order (no d) (yes s) n = subst InOrder (ap (λ (x : MeshAfter). x.bytes) (call.vertex-0 t v d s)) o
@@ -272,9 +270,9 @@ request-order t o a b m = looked (look_up t (normal_of a b m)) refl
     test : in_order_of t ≡ true
     test = order-test t o
 
-    looked : (l : Looked) → look_up t (normal_of a b m) ≡ l → InOrder (request_of t a b m).bytes
-    looked Absent e = subst InOrder (ap (λ (x : MeshAfter). x.bytes) (request-3 t a b m test e)) o
-    looked (Held v) e =
+    looked : (l : Option Record) → look_up t (normal_of a b m) ≡ l → InOrder (request_of t a b m).bytes
+    looked None e = subst InOrder (ap (λ (x : MeshAfter). x.bytes) (request-3 t a b m test e)) o
+    looked (Some v) e =
         let own = (looked-standing t o (normal_of a b m) v e).held in
         subst InOrder (ap (λ (x : MeshAfter). x.bytes) (request-on t a b m test v e))
         (vertex-order t o v own (ℕ_discrete v.d 0) (ℕ_discrete v.d 6) (ℕ_discrete v.n.0 12))

@@ -3,10 +3,9 @@
 -- `Mesh` a table whose sheet is the mesh of H and c · `mesh-step` one subdivision · `run-mesh` the mesh after a sequence · `run-has`, `run_in` the
 -- pairs of a sequence are those between the counts.
 -- Assumes nothing.
-use Rattle.std.specs.Prelude.{◌≡◌, refl, ◌⊎◌, Bool, ℕ, suc, ◌+◌, ◌*◌, ◌≤◌, ◌<◌, length}
+use Rattle.std.specs.Prelude.{◌≡◌, refl, ◌⊎◌, Bool, ℕ, suc, ◌+◌, ◌*◌, ◌≤◌, ◌<◌, length, Some}
 use Rattle.std.proofs.Common.{sym, ◌∙◌, ap, subst, inl, inr, arith}
 use Rattle.std.proofs.Math.Path.{fun_ext}
-use Rattle.std.proofs.Math.Option.{some}
 use mathlib.Core.List.Memᴰ
 use mathlib.Core.List.{List, [], ◌∷◌, ◌++◌, Memᴰ}
 use Rattle.std.proofs.Math.Decide.{dec_lt}
@@ -22,7 +21,6 @@ use Rattle.growth.specs.Growth.{grow-step, step-unique}
 use Rattle.table.specs.Entries.{look_up}
 use Rattle.table.specs.Order.{InOrder}
 use Rattle.table.specs.Slots.{free_slots}
-use Rattle.table.specs.declared.entries.Looked.TheVariants.{Held}
 use Rattle.mesh.specs.Subdivide.{subdivide_of}
 use Rattle.local.specs.Sheet.{as_option, sheet_of}
 use Rattle.grown.specs.Steps.{accepted}
@@ -39,7 +37,7 @@ divide_at t v = (subdivide_of t v.at.a v.at.b v.at.m.0).bytes
 -- "a sequence of accepted subdivisions": from t to the table it ends in; the last first
 pub data Run (t : List ℕ) : List Division → List ℕ → Type 0 where
   here : Run t [] t
-  next : (l : List Division) (s : List ℕ) → Run t l s → (v : Record) → look_up s v.at ≡ Held v → (subdivide_of s v.at.a v.at.b v.at.m.0).number ≡ 0
+  next : (l : List Division) (s : List ℕ) → Run t l s → (v : Record) → look_up s v.at ≡ Some v → (subdivide_of s v.at.a v.at.b v.at.m.0).number ≡ 0
       → Run t ((v.at, v.n.0) ∷ l) (divide_at s v)
 
 pub run_on : (t s u : List ℕ) (k l : List Division) → Run t k s → Run s l u → Run t (l ++ k) u
@@ -84,13 +82,13 @@ pub record Mesh (H : Point → Bool) (c : Counts) (t : List ℕ) : Type 0 where
   pub good : Good H c
 
 module _ (H : Point → Bool) where
-  pub mesh-step : (c : Counts) (t : List ℕ) → Mesh H c t → (v : Record) → look_up t v.at ≡ Held v
+  pub mesh-step : (c : Counts) (t : List ℕ) → Mesh H c t → (v : Record) → look_up t v.at ≡ Some v
       → (subdivide_of t v.at.a v.at.b v.at.m.0).number ≡ 0
       → Mesh H (more v.at c) (divide_at t v) × (v.d ≡ 6) × (v.n.0 ≡ rank_of v.at + c v.at) × (v.n.0 < 12)
   mesh-step c t m v e z =
       let a = accepted t v.at.a v.at.b v.at.m.0 z in
       let same : a.vertex ≡ v = held_same (sym a.looked ∙ own-looked t m.order v e) in
-      let x : mesh_of H c v.at ≡ some v = sym (m.is v.at) ∙ ap as_option e in
+      let x : mesh_of H c v.at ≡ Some v = sym (m.is v.at) ∙ ap as_option e in
       let six : v.d ≡ 6 = ap (λ (r : Record). r.d) (sym same) ∙ a.six in
       let low : v.n.0 < 12 = subst (λ (r : Record). r.n.0 < 12) same a.below in
       let (whole, step, good) = grow-step H c v m.good x six in

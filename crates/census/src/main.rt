@@ -7,6 +7,7 @@ ghost use Rattle.std.specs.Prelude.{◌≡◌, ◌++◌, ◌≤◌, length, drop
 ghost use Rattle.census.specs.Input.{Within};
 ghost use Rattle.census_text.specs.Census.{program_text};
 
+use std::io;
 use std::io::{Read, Stdin, Stdout, Write};
 
 const SLOTS: usize = 5461;
@@ -22,26 +23,20 @@ const INPUT_ROOM: usize = 65537;
 // No text is longer.
 const TEXT_ROOM: usize = 128;
 
-// How far standard input filled the space, to its end or to the space's; or a read failed.
-#[derive(Clone, Copy)]
-enum Filled {
-    To(usize),
-    Failed,
-}
-
-// Fills the space from standard input.
-fn fill(input: &mut Stdin, space: &mut [u8]) -> Filled
+// Fills the space from standard input, to its end or to the space's, and tells how far.
+fn fill(input: &mut Stdin, space: &mut [u8]) -> io::Result<usize>
     ensures { Within (length space.new) result }
 {
     let mut done = 0;
+    // bytes that a read gave are counted, and no index
     while done < space.len() {
-        match input.read(&mut space[done..]) {
-            Err(_) => return Filled::Failed,
-            Ok(0) => return Filled::To(done),
-            Ok(more) => done += more,
+        let more = input.read(&mut space[done..])?;
+        if more == 0 {
+            break;
         }
+        done += more;
     }
-    Filled::To(done)
+    Ok(done)
 }
 
 // The program's text for an input, at the beginning of `text`; gives back how many bytes it has.
@@ -57,16 +52,16 @@ fn answer(input: &[u8], text: &mut [u8; TEXT_ROOM]) -> usize
 
 // Writes the first n bytes of a text. Whether they arrive no one asks: the status is 0 in every case.
 fn print(output: &mut Stdout, text: &[u8], n: usize) {
-    if n <= text.len() {
-        let _ = output.write_all(&text[..n]);
+    if let Some(written) = text.get(..n) {
+        let _ = output.write_all(written);
     }
 }
 
 // Writes the text for the first n bytes of the space.
 fn report(output: &mut Stdout, space: &[u8], n: usize) {
-    if n <= space.len() {
+    if let Some(input) = space.get(..n) {
         let mut text = [0u8; TEXT_ROOM];
-        let written = answer(&space[..n], &mut text);
+        let written = answer(input, &mut text);
         print(output, &text, written);
     }
 }
@@ -74,8 +69,7 @@ fn report(output: &mut Stdout, space: &[u8], n: usize) {
 fn main(rt: HostRuntime) {
     let mut room = [0u8; INPUT_ROOM];
     let space: &mut [u8] = &mut room;
-    match fill(&mut rt.stdin(), space) {
-        Filled::Failed => {}
-        Filled::To(n) => report(&mut rt.stdout(), space, n),
+    if let Ok(n) = fill(&mut rt.stdin(), space) {
+        report(&mut rt.stdout(), space, n);
     }
 }

@@ -2,12 +2,11 @@
 -- bytes · `counted-grown`, `input-grown` what is read is grown · `census-refused`, `census-counted` the text that follows, `refused-most`, `counted-most` of
 -- at most 128 bytes.
 -- Assumes nothing.
-use Rattle.std.specs.Prelude.{◌≡◌, ℕ, zero, suc, ◌+◌, ◌≤◌, ◌<◌, length}
+use Rattle.std.specs.Prelude.{◌≡◌, ℕ, zero, suc, ◌+◌, ◌≤◌, ◌<◌, length, Option, Some, None}
 use Rattle.std.proofs.Math.Path.{refl, ap}
 use Rattle.std.proofs.Common.{sym, ◌∙◌, subst, ltb-false, lt-ltb, le-ltb, eq-eqb, ne_eqb}
 use Rattle.std.proofs.Math.Bool.{Bool, true, false, cond}
 use mathlib.Core.List.{List}
-use Rattle.std.proofs.Math.Option.{Option, none, some}
 use native.Mathlib.Omega.{arith}
 use Rattle.std.proofs.Math.Dec.{ltb}
 use Rattle.lattice.specs.declared.records.Record.{Record}
@@ -69,10 +68,10 @@ LineBelow m (Fault number line) = line < m
 line-below : (f : List ℕ) (left p i : ℕ) (q : Option Record) (t : List ℕ) → LineBelow (i + left) (lines_from f left p i q t)
 unfolding lines_from
 line-below f zero p i q t = tt
-line-below f (suc left) p i q t = go (line_at f p) (λ r next. line-below f left next (i + 1) (some r) (enter_of t r))
+line-below f (suc left) p i q t = go (line_at f p) (λ r next. line-below f left next (i + 1) (Some r) (enter_of t r))
   where
     rest : Record → ℕ → Lines
-    rest r next = lines_from f left next (i + 1) (some r) (enter_of t r)
+    rest r next = lines_from f left next (i + 1) (Some r) (enter_of t r)
 
     later : (r : Record) (x : Lines) → LineBelow (i + 1 + left) x → LineBelow (i + suc left) (after r x)
     later r (Read rs u) h = tt
@@ -91,7 +90,7 @@ line-below f (suc left) p i q t = go (line_at f p) (λ r next. line-below f left
 module _ (t s input : List ℕ) where
   ended-low : length input ≤ most_input → (x : Lines) → read_lines input (cleared_of t) ≡ x → (end_full t s x).line ≤ most_input
   ended-low short (Fault number line) e =
-      let l : line < 1 + length input = subst (LineBelow (1 + length input)) e (line-below input (length input) 0 1 none (cleared_of t)) in
+      let l : line < 1 + length input = subst (LineBelow (1 + length input)) e (line-below input (length input) 0 1 None (cleared_of t)) in
       omega arith
   ended-low short (Read rs u) e = go (is_grown u)
     where

@@ -6,6 +6,7 @@
 #![tactic(auto)]
 
 ghost use Rattle.std.specs.Prelude.{◌≡◌, ◌≤◌, length};
+ghost use Rattle.lattice.specs.Refusals.{number_of, number_told, fault_number, fault_line};
 ghost use Rattle.readers.specs.Readers.{tables_after};
 ghost use Rattle.census_text.specs.Census as spec;
 ghost use Rattle.census_text.specs.Census.{text_of, read_input_of, put, census_of};
@@ -14,8 +15,8 @@ ghost use Rattle.census_text.specs.InputLaws.{long_of};
 mod texts;
 
 use crate::texts::{put_counts, put_refused};
-use lattice::{DONE, NO_ROOM, NOT_IN_ORDER};
-use readers::{ReadBack, prepare, read_full};
+use lattice::{Fault, Refusal};
+use readers::{prepare, read_full};
 use table::slots_of;
 use tally::tally;
 pub use texts::Census;
@@ -23,40 +24,41 @@ pub use texts::Census;
 // The longest input that is read.
 const MOST_INPUT: usize = 65536;
 
-// Refuses an input that is too long.
-fn refuse_long(table: &mut [u8], scratch: &mut [u8]) -> ReadBack
-    ensures { tables_after result.number result.line table.new scratch.new ≡ long_of table.old scratch.old }
+// Why an input that is too long is refused. The tables are cleared, where their lengths fit.
+fn refuse_long(table: &mut [u8], scratch: &mut [u8]) -> Refusal
+    ensures { tables_after (number_of result) 0 table.new scratch.new ≡ long_of table.old scratch.old }
 {
-    let n = prepare(table, scratch);
-    let number = if n == 0 { NOT_IN_ORDER } else { NO_ROOM };
-    ReadBack { number, line: 0 }
+    match prepare(table, scratch) {
+        None => Refusal::NotInOrder,
+        Some(_) => Refusal::NoRoom,
+    }
 }
 
 // Reads the input into the table.
-fn read_input(input: &[u8], table: &mut [u8], scratch: &mut [u8]) -> ReadBack
-    ensures { tables_after result.number result.line table.new scratch.new
+fn read_input(input: &[u8], table: &mut [u8], scratch: &mut [u8]) -> Result<(), Fault>
+    ensures { tables_after (fault_number result) (fault_line result) table.new scratch.new
         ≡ read_input_of table.old scratch.old input.now }
 {
     if MOST_INPUT < input.len() {
-        return refuse_long(table, scratch);
+        let why = refuse_long(table, scratch);
+        return Err(Fault { why, line: 0 });
     }
     read_full(table, scratch, input)
 }
 
 // The census of an input: what document 01's program writes for it goes to `out`, the table and the scratch table being lent as `read_full` wants them
 // and left as it leaves them.
-// Gives back the number in the text, 0 where it counts, and the bytes written. 13 where `out` is shorter than the text, with nothing written; 128 bytes
-// always suffice.
+// Gives back whether it counts or why it is refused, as the text says, and the bytes written. 13 where `out` is shorter than the text, with nothing
+// written; 128 bytes always suffice.
 pub fn census(input: &[u8], table: &mut [u8], scratch: &mut [u8], out: &mut [u8]) -> Census
-    ensures answer { spec.result (put result.number result.written out.new) table.new scratch.new
+    ensures answer { spec.result (put (number_told result.outcome) result.written out.new) table.new scratch.new
         ≡ census_of input.now table.old scratch.old out.old }
     ensures text_bound { length (text_of (read_input_of table.old scratch.old input.now)) ≤ 128 }
 {
-    let read = read_input(input, table, scratch);
-    let number = read.number;
-    if number != DONE {
-        return put_refused(out, number, read.line);
+    if let Err(fault) = read_input(input, table, scratch) {
+        return put_refused(out, fault.why, fault.line);
     }
     let n = slots_of(table);
-    put_counts(out, tally(table, n))
+    let counted = tally(table, n);
+    put_counts(out, counted)
 }

@@ -60,10 +60,7 @@ pub fn is_marked(marks: &[u8; MARK_BYTES], p: Point) -> bool
     requires { p.m.0 ≡ 0 }
     ensures { result ≡ in_marks marks.now p }
 {
-    if is_good(p) {
-        return marked(marks, number(p));
-    }
-    false
+    is_good(p) && marked(marks, number(p))
 }
 
 // Marks centre i where it is good and stands nowhere before: false where it is bad.
@@ -85,18 +82,15 @@ fn admit(centres: &[i32], i: usize, marks: &mut [u8; MARK_BYTES]) -> bool
     true
 }
 
-// The place of the first bad centre, or their count where there is none: then all are marked.
+// The place of the first bad centre, or their count where there is none: then all are marked. No Option: so `first_bad` says it, which other promises cite.
 pub fn first_bad(centres: &[i32], count: usize, marks: &mut [u8; MARK_BYTES]) -> usize
     requires count_in_bounds { 2 * count ≤ length centres.now }
     requires marked { Marked marks.old centres.now 0 }
     ensures value { result ≡ first_bad centres.now 0 count }
     ensures marked_2 { count ≤ result → Marked marks.new centres.now count }
 {
-    let mut i = 0;
-    while i < count {
-        if admit(centres, i, marks) {
-            i += 1;
-        } else {
+    for i in 0..count {
+        if !admit(centres, i, marks) {
             return i;
         }
     }

@@ -1,6 +1,6 @@
 -- Coordinates, computed: document 02's form, with zero, a sign, four decimals that are told apart, the nearest ten-thousandth either way, and the greatest.
 -- Assumes nothing.
-use Rattle.std.specs.Prelude.{◌≡◌, refl, List, [], ◌∷◌, ℕ, pos, negsuc}
+use Rattle.std.specs.Prelude.{◌≡◌, refl, [], ◌∷◌, pos, negsuc}
 use Rattle.lattice.specs.Points.{pt}
 use Rattle.text.specs.Decimal.{digits_by, digits}
 use Rattle.coordinates.specs.Coordinates.{root_from, root_of, near_x, near_y, four, decimals, coordinate, position_text}

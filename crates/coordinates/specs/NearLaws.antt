@@ -4,12 +4,12 @@
 -- `x-zero`, `y-zero` down to depth 6 what is written as zero is zero.
 -- Assumes nothing.
 use Rattle.std.specs.Prelude.{◌≡◌, refl, ℕ, zero, suc, ◌+◌, ◌*◌, ◌/◌, ◌%◌, ◌^◌, ◌-◌, ◌≤◌, ◌<◌}
-use Rattle.std.proofs.Common.{sym, ap, ◌∙◌, subst, arith, mul-le-mul, mul-le-mul_left, mul-le-mul_right, mul_assoc, mul_comm, mul-suc, one-mul, add-mul, mod-lt, div-le_self, lit<, lit≤}
-use Rattle.std.proofs.Math.Decide.{dec_lt, ℕ_discrete}
+use Rattle.std.proofs.Common.{sym, ap, ◌∙◌, arith, mul-le-mul, mul-le-mul_left, mul-le-mul_right, mul_assoc, mul_comm, mul-suc, one-mul, add-mul, mod-lt, div-le_self, lit<}
+use Rattle.std.proofs.Math.Decide.{dec_lt}
 use Rattle.std.proofs.Math.Nat.{one-le-pow, one-le-mul, pow-le-pow_right, pow-succ', div-add-mod}
 use Rattle.text.specs.Near.{widest}
 use Rattle.coordinates.specs.Coordinates.{near_x, near_y, root_of}
-use Rattle.coordinates.specs.RootLaws.{Root, root_is, root-one}
+use Rattle.coordinates.specs.RootLaws.{Root, root_is}
 
 -- n ten-thousandths are less than half of one away from s over 2 × 3^m
 pub record InsideX (s m n : ℕ) : Type 0 where
@@ -59,22 +59,6 @@ module _ (s m : ℕ) where
       let c = mul_assoc 2 P (near_x s m) in
       let o = odd_power m in
       record { low = omega arith; high = omega arith }
-
-  pub x_below : (n : ℕ) → InsideX s m n → 2 * n < 10000 * s + 2
-  x_below n i =
-      let h = power-some m in
-      let k = mul-le-mul_right n h in
-      let e = one-mul n in
-      go n refl i
-    where
-      go : (k : ℕ) → k ≡ n → InsideX s m k → 2 * n < 10000 * s + 2
-      go zero e i = omega arith
-      go (suc k) e i =
-          let h = power-some m in
-          let a : P * suc k ≡ P * k + P = mul-suc P k in
-          let b = mul-le-mul_right k h in
-          let c = one-mul k in
-          omega (arith, i.low)
 
   pub x-one : (n n' : ℕ) → InsideX s m n → InsideX s m n' → n ≡ n'
   x-one n n' i j = go (dec_lt n n') (dec_lt n' n)

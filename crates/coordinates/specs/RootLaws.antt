@@ -1,7 +1,7 @@
 -- The whole part of a square root: `root_is` its square is at most the number and the next one's is above it · `root-one` no other number is so.
 -- Assumes nothing.
 use Rattle.std.specs.Prelude.{◌≡◌, refl, Bool, true, false, cond, ℕ, zero, suc, ◌+◌, ◌*◌, ◌^◌, ◌≤◌, ◌<◌, leb}
-use Rattle.std.proofs.Common.{ap, subst, arith, mul-le-mul, leb-true, leb-false}
+use Rattle.std.proofs.Common.{subst, arith, mul-le-mul, leb-true, leb-false}
 use Rattle.std.proofs.Math.Decide.{dec_lt}
 use Rattle.std.proofs.Math.Nat.{pow-succ'}
 use Rattle.coordinates.specs.Coordinates.{root_from, root_of}

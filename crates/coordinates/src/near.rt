@@ -32,24 +32,7 @@ fn power(m: u8) -> u64
     }
 }
 
-// The whole part of a square root, by halving.
-fn root(q: u64) -> u64
-    ensures { (result * result ≤ q) × ((q < (result + 1) * (result + 1)) × (result < 4294967296)) }
-{
-    let mut low: u64 = 0;
-    let mut high: u64 = 4294967296;
-    while 1 < high - low {
-        let middle = low + (high - low) / 2;
-        if middle * middle <= q {
-            low = middle;
-        } else {
-            high = middle;
-        }
-    }
-    low
-}
-
-// The same where a guess is the root, or one below it, as it nearly always is: then nothing is halved. It is right whatever is guessed.
+// The whole part of a square root where a guess is it, or one below it, as it nearly always is: then nothing is halved. It is right whatever is guessed.
 fn root_near(q: u64, guess: u64) -> u64
     requires { guess < 4294967294 }
     ensures { (result * result ≤ q) × ((q < (result + 1) * (result + 1)) × (result < 4294967296)) }
@@ -57,7 +40,7 @@ fn root_near(q: u64, guess: u64) -> u64
     let next = guess + 1;
     let after = guess + 2;
     if q < guess * guess {
-        return root(q);
+        return q.isqrt();
     }
     if q < next * next {
         return guess;
@@ -65,7 +48,7 @@ fn root_near(q: u64, guess: u64) -> u64
     if q < after * after {
         return next;
     }
-    root(q)
+    q.isqrt()
 }
 
 // Twice the ten-thousandths of y, or one fewer.

@@ -4,7 +4,7 @@
 -- The adjacent point p = v + A and the opposite q = v + O of a corner, before or after it, have v = p + f(q - p) for one of the eight factors f: that
 -- is f(O - A) = -A, one test over the pattern table, computed at each degree and orientation. A level only scales it, and v drops out of q - p.
 -- Assumes nothing.
-use Rattle.std.specs.Prelude.{◌≡◌, true, ◌&&◌, ◌||◌, List, T, leb, ℤ, pos, negsuc, neg_ℤ, ◌+ℤ◌, ◌-ℤ◌, ◌*ℤ◌}
+use Rattle.std.specs.Prelude.{◌≡◌, true, ◌&&◌, ◌||◌, List, T, leb, ℤ, pos, negsuc, neg_ℤ, ◌+ℤ◌, ◌-ℤ◌, ◌*ℤ◌, Option, Some, None}
 use Rattle.std.proofs.Common.{sym, ap, ◌∙◌, subst, arith, mul_comm, le→leb, lit≤}
 use Rattle.std.proofs.Math.Bool.{Bool, not}
 use Prim.Native.Nat.{ℕ, suc, ◌+◌, ◌/◌, ◌-◌, ◌^◌, ◌≤◌, ◌<◌}
@@ -24,10 +24,8 @@ use Rattle.lattice.specs.RecordLaws.{Inner, valid-turn}
 use Rattle.lattice.specs.declared.points.Point.{Point}
 use Rattle.lattice.specs.declared.records.Level.{Level}
 use Rattle.lattice.specs.declared.records.Record.{Record}
-use Rattle.lattice.specs.declared.patterns.Spot.{Spot}
-use Rattle.lattice.specs.declared.patterns.Spot.TheVariants.{At, Nothing}
 use Rattle.geometry.specs.GeometryLaws.{Same, step-told, sum_same, scale-lift, low-normal}
-use Rattle.queries.specs.Queries.{there, chosen_at}
+use Rattle.queries.specs.Queries.{chosen_at}
 use Rattle.across.specs.Across.{Factor, factor_of, across_of}
 use Rattle.across.specs.OppositeLaws.{opposite_of, Opposite, chosen-opposite, adjacent-depth, opposite-depth, adjacent-bound, opposite-bound}
 use Rattle.firsts.specs.Faces.{next_place}
@@ -37,13 +35,13 @@ use Rattle.firsts.specs.Faces.{next_place}
 abbrev unlike : Point → Point → Test
 unlike p q = wide 2 p ≡ᶻ? wide 2 q & high 2 p ≡ᶻ? high 2 q ⇒ 1 ≡? 0
 
-abbrev unlike_spot : Point → Spot → Test
-unlike_spot p (At q) = unlike p q
-unlike_spot p Nothing = 0 ≡? 0
+abbrev unlike_spot : Point → Option Point → Test
+unlike_spot p (Some q) = unlike p q
+unlike_spot p None = 0 ≡? 0
 
-abbrev spots_unlike : Spot → Spot → Test
-spots_unlike (At p) s = unlike_spot p s
-spots_unlike Nothing s = 0 ≡? 0
+abbrev spots_unlike : Option Point → Option Point → Test
+spots_unlike (Some p) s = unlike_spot p s
+spots_unlike None s = 0 ≡? 0
 
 -- f(O - A) = -A
 abbrev crosses : Factor → Point → Point → Bool
@@ -51,12 +49,12 @@ crosses f a o =
     eq_z (f.x *ℤ (wide 2 o -ℤ wide 2 a) -ℤ f.y *ℤ (high 2 o -ℤ high 2 a)) (neg_ℤ (wide 3 a))
     && eq_z (f.y *ℤ (wide 2 o -ℤ wide 2 a) +ℤ (f.x +ℤ f.y) *ℤ (high 2 o -ℤ high 2 a)) (neg_ℤ (high 3 a))
 
-abbrev crossed : Point → Spot → Bool
-crossed a (At o) = among 8 (λ c. crosses (factor_of c) a o)
-crossed a Nothing = true
+abbrev crossed : Point → Option Point → Bool
+crossed a (Some o) = among 8 (λ c. crosses (factor_of c) a o)
+crossed a None = true
 
 -- a point of a row, at orientation k
-abbrev opposite_at : ℕ → ℕ → ℕ → ℕ → Spot
+abbrev opposite_at : ℕ → ℕ → ℕ → ℕ → Option Point
 opposite_at d k j w = on_spot (orient k) (opposite_of d j w)
 
 module _ (d k : ℕ) (l : 3 ≤ d) (h : d ≤ 6) (m : k < 12) where
@@ -285,19 +283,19 @@ module _ (t : List ℕ) (v : Record) (ok : valid_of v ≡ true) (i : Inner v) wh
   turn = valid-turn v (of-true ok)
 
   -- no adjacent point is an opposite
-  pub adjacent-opposite : (a b : ℕ) (o : Point) → a < v.d → b < v.d → chosen_at t v b ≡ At o → adjacent_at v a ≡ o → ⊥
+  pub adjacent-opposite : (a b : ℕ) (o : Point) → a < v.d → b < v.d → chosen_at t v b ≡ Some o → adjacent_at v a ≡ o → ⊥
   adjacent-opposite a b o ha hb c e =
       let x = chosen-opposite t v b o c in
       let s = step-told v.at (adjacent_of v.d v.k a) (orient v.k x.pattern) v.n 2 (adjacent-depth v i a ha) (opposite-depth v i b o hb x)
       (e ∙ sym x.is) in
-      let m : Means (unlike_spot (adjacent_of v.d v.k a) (At (orient v.k x.pattern))) =
-      subst (λ (z : Spot). Means (unlike_spot (adjacent_of v.d v.k a) (on_spot (orient v.k) z))) x.row
+      let m : Means (unlike_spot (adjacent_of v.d v.k a) (Some (orient v.k x.pattern))) =
+      subst (λ (z : Option Point). Means (unlike_spot (adjacent_of v.d v.k a) (on_spot (orient v.k) z))) x.row
       (row_other v.d v.k i.low i.top turn a b x.which ha hb x.two) in
       let z = m (s.across, s.up) in
       omega (arith, z)
 
   -- two corners have different opposites
-  pub opposite-apart : (a b : ℕ) (o : Point) → a < b → b < v.d → chosen_at t v a ≡ At o → chosen_at t v b ≡ At o → ⊥
+  pub opposite-apart : (a b : ℕ) (o : Point) → a < b → b < v.d → chosen_at t v a ≡ Some o → chosen_at t v b ≡ Some o → ⊥
   opposite-apart a b o ha hb c e =
       let la : a < v.d = omega arith in
       let x = chosen-opposite t v a o c in
@@ -305,10 +303,10 @@ module _ (t : List ℕ) (v : Record) (ok : valid_of v ≡ true) (i : Inner v) wh
       let s = step-told v.at (orient v.k x.pattern) (orient v.k y.pattern) v.n 2 (opposite-depth v i a o la x)
       (opposite-depth v i b o hb y) (x.is ∙ sym y.is) in
       let m₁ = row_apart v.d v.k i.low i.top turn a b x.which y.which ha hb x.two y.two in
-      let m₂ : Means (spots_unlike (At (orient v.k x.pattern)) (opposite_at v.d v.k b y.which)) =
-      subst (λ (z : Spot). Means (spots_unlike (on_spot (orient v.k) z) (opposite_at v.d v.k b y.which))) x.row m₁ in
-      let m₃ : Means (unlike_spot (orient v.k x.pattern) (At (orient v.k y.pattern))) =
-      subst (λ (z : Spot). Means (unlike_spot (orient v.k x.pattern) (on_spot (orient v.k) z))) y.row m₂ in
+      let m₂ : Means (spots_unlike (Some (orient v.k x.pattern)) (opposite_at v.d v.k b y.which)) =
+      subst (λ (z : Option Point). Means (spots_unlike (on_spot (orient v.k) z) (opposite_at v.d v.k b y.which))) x.row m₁ in
+      let m₃ : Means (unlike_spot (orient v.k x.pattern) (Some (orient v.k y.pattern))) =
+      subst (λ (z : Option Point). Means (unlike_spot (orient v.k x.pattern) (on_spot (orient v.k) z))) y.row m₂ in
       let z = m₃ (s.across, s.up) in
       omega (arith, z)
 
@@ -319,7 +317,7 @@ module _ (t : List ℕ) (v : Record) (ok : valid_of v ≡ true) (i : Inner v) wh
   across-one a b o ha hb x g =
       let A = adjacent_of v.d v.k a in
       let O = orient v.k x.pattern in
-      let g₁ : T (among 8 (λ c. crosses (factor_of c) A O)) = subst (λ (z : Spot). T (crossed A (on_spot (orient v.k) z))) x.row g in
+      let g₁ : T (among 8 (λ c. crosses (factor_of c) A O)) = subst (λ (z : Option Point). T (crossed A (on_spot (orient v.k) z))) x.row g in
       let y = among-at (λ c. crosses (factor_of c) A O) 8 (is_true _ g₁) in (
         y.0,
         y.1,
@@ -329,14 +327,14 @@ module _ (t : List ℕ) (v : Record) (ok : valid_of v ≡ true) (i : Inner v) wh
             (opposite-bound v i b o hb x).depth (of-true y.2)),
       )
 
-  pub across-before : (j : ℕ) (o : Point) → j < v.d → chosen_at t v j ≡ At o → IsAcross (adjacent_at v j) o v.at
+  pub across-before : (j : ℕ) (o : Point) → j < v.d → chosen_at t v j ≡ Some o → IsAcross (adjacent_at v j) o v.at
   across-before j o h c =
       let x = chosen-opposite t v j o c in
       across-one j j o h h x (and_left (crossed (adjacent_of v.d v.k j) (opposite_at v.d v.k j x.which))
       (crossed (adjacent_of v.d v.k (next_place v.d j)) (opposite_at v.d v.k j x.which))
       (row-crossed v.d v.k i.low i.top turn j x.which h x.two))
 
-  pub across-after : (j : ℕ) (o : Point) → j < v.d → next_place v.d j < v.d → chosen_at t v j ≡ At o → IsAcross (adjacent_at v (next_place v.d j)) o v.at
+  pub across-after : (j : ℕ) (o : Point) → j < v.d → next_place v.d j < v.d → chosen_at t v j ≡ Some o → IsAcross (adjacent_at v (next_place v.d j)) o v.at
   across-after j o h m c =
       let x = chosen-opposite t v j o c in
       across-one (next_place v.d j) j o m h x

@@ -4,7 +4,7 @@
 -- in another order: as many different ones (SetLaws of `firsts`). The records of a degree are the different ones among these, no point standing twice
 -- (`degree-different`).
 -- Assumes nothing.
-use Rattle.std.specs.Prelude.{◌≡◌, Bool, true, false, List, [], ◌∷◌, ℕ, ◌<◌, eqb}
+use Rattle.std.specs.Prelude.{◌≡◌, Bool, true, false, List, [], ◌∷◌, ℕ, ◌<◌, eqb, Option, Some, None}
 use Rattle.std.proofs.Math.Path.{refl, ap}
 use Rattle.std.proofs.Common.{sym, ◌∙◌, arith, ne_eqb, lit<}
 use Rattle.std.proofs.Math.Bool.{cond}
@@ -13,15 +13,11 @@ use Rattle.laws.specs.Some.{some_of, some_at, at_some}
 use Rattle.lattice.specs.Stars.{first_at, second_at}
 use Rattle.lattice.specs.declared.points.Point.{Point}
 use Rattle.lattice.specs.declared.records.Record.{Record}
-use Rattle.lattice.specs.declared.patterns.Spot.{Spot}
-use Rattle.lattice.specs.declared.patterns.Spot.TheVariants.{At, Nothing}
 use Rattle.table.specs.Slots.{slots_of, slot_at}
 use Rattle.table.specs.Search.{same_point}
 use Rattle.table.specs.Order.{InOrder}
 use Rattle.table.specs.Entries.{look_up, is_held, records_below, records_of}
 use Rattle.table.specs.MapLaws.{same_refl, same_true, records-looked, looked-records, records-same}
-use Rattle.table.specs.declared.slots.Slot.{Slot}
-use Rattle.table.specs.declared.slots.Slot.TheVariants.{Free, Holds}
 use Rattle.queries.specs.Queries.{there, chosen_at}
 use Rattle.firsts.specs.Faces.{bit, different_after, different, gather, each, face_with, faces_at, same_face, sides_of, same_side, faces_in}
 use Rattle.firsts.specs.Earlier.{slot_sum}
@@ -60,12 +56,12 @@ degree-different t o d h =
     ∙ sum-each (λ k. slot_sum (λ v. bit (eqb v.d d)) (slot_at t k)) (slot_degree t d) (slots_of t) (λ k l. one (slot_at t k))
     ∙ degree-counted t d h
   where
-    one : (s : Slot) → slot_sum (λ v. bit (eqb v.d d)) s ≡ bit (eqb (degree_at s) d)
-    one Free = sym (ap bit (ne_eqb no_degree d (λ e. omega arith)))
-    one (Holds v) = refl
+    one : (s : Option Record) → slot_sum (λ v. bit (eqb v.d d)) s ≡ bit (eqb (degree_at s) d)
+    one None = sym (ap bit (ne_eqb no_degree d (λ e. omega arith)))
+    one (Some v) = refl
 
     -- no earlier record has its point
-    new : (k : ℕ) (v : Record) → k < slots_of t → slot_at t k ≡ Holds v → some_of (same_at v) (each (having d) (records_below t k)) ≡ false
+    new : (k : ℕ) (v : Record) → k < slots_of t → slot_at t k ≡ Some v → some_of (same_at v) (each (having d) (records_below t k)) ≡ false
     new k v l e = go (some_of (same_at v) (each (having d) (records_below t k))) refl
       where
         given : (u : Record) (b : Bool) → some_of (same_at v) (cond b (u ∷ []) []) ≡ true → same_at v u ≡ true
@@ -78,7 +74,7 @@ degree-different t o d h =
             let x = slots-pass t k (λ u. some_of (same_at v) (having d u)) (sym (some-each (same_at v) (having d) t k) ∙ g) in
             absurd (other-point t o k v l e x (sym (same_true v.at x.rec.at (given x.rec (eqb x.rec.d d) x.passes))))
 
-    first : (k : ℕ) (v : Record) → k < slots_of t → slot_at t k ≡ Holds v
+    first : (k : ℕ) (v : Record) → k < slots_of t → slot_at t k ≡ Some v
         → different_after same_at (each (having d) (records_below t k)) (having d v) ≡ bit (eqb v.d d)
     first k v l e = go (eqb v.d d)
       where
@@ -91,11 +87,11 @@ degree-different t o d h =
 module _ (t u : List ℕ) (o : InOrder t) (w : InOrder u) (same : (p : Point) → look_up t p ≡ look_up u p) where
   chosen-same : (v : Record) (j : ℕ) → chosen_at t v j ≡ chosen_at u v j
   unfolding chosen_at
-  chosen-same v j = λ i. cond (is_held (same (first_at v j) i)) (At (first_at v j)) (second (second_at v j) i)
+  chosen-same v j = λ i. cond (is_held (same (first_at v j) i)) (Some (first_at v j)) (second (second_at v j) i)
     where
-      second : (s : Spot) → there t s ≡ there u s
-      second Nothing = refl
-      second (At p) = ap (λ b. cond b (At p) Nothing) (ap is_held (same p))
+      second : (s : Option Point) → there t s ≡ there u s
+      second None = refl
+      second (Some p) = ap (λ b. cond b (Some p) None) (ap is_held (same p))
 
   faces-same : (v : Record) → faces_at t v ≡ faces_at u v
   faces-same v = λ i. gather v.d (λ j. face_with v j (chosen-same v j i))

@@ -1,20 +1,20 @@
--- The ways through the functions. Loops that sum: `Summed`, `summed-start`, `summed-more`. A side at a vertex: `faced-first`, `faced-second`,
+-- The ways through the functions. Loops that sum: `Summed`, `summed-start`, `summed-more`. The places of a star: `wrapped`,
+-- `wrapped-first`, `wrapped-below`. A bool's number: `bit-from`, `from-most`. A side at a vertex: `faced-first`, `faced-second`,
 -- `near_none`, `near-counted`. One across from it: `far-first`, `far-second`, `far-neither`, `narrow-first` .. `narrow_rest`, `across-left` ..
 -- `across-narrow`, `far-ended`, `far-across`, `far_none`, `far-counted`. A corner: `corner-none`, `corner-counted`; all are plain: `all_more`.
 -- A slot: `sides-free`, `sides-holds`, `faces-free`, `faces-holds`, `degree-counts`.
 -- Assumes nothing.
-use Rattle.std.specs.Prelude.{◌≡◌, true, false, ◌&&◌, ◌||◌, List, ℕ, suc, ◌+◌, ◌*◌, ◌≤◌, eqb}
-use Rattle.std.proofs.Math.Path.{sym, ap}
-use Rattle.std.proofs.Common.{◌∙◌, mul-add, arith}
-use Rattle.std.proofs.Math.Bool.{Bool, cond, not}
+use Rattle.std.specs.Prelude.{◌≡◌, true, false, ◌&&◌, ◌||◌, List, ℕ, suc, ◌+◌, ◌*◌, ◌≤◌, ◌<◌, eqb, Some, None}
+use Rattle.std.specs.Int.{from_bool}
+use Rattle.std.proofs.Math.Path.{sym, ap, refl}
+use Rattle.std.proofs.Common.{◌∙◌, mul-add, arith, lit≤, ne_eqb}
+use Rattle.std.proofs.Math.Bool.{Bool, cond, not, and_comm}
 use Rattle.laws.specs.Rules.{upto}
 use Rattle.lattice.specs.Stars.{adjacent_at}
 use Rattle.lattice.specs.declared.points.Point.{Point}
 use Rattle.lattice.specs.declared.records.Record.{Record}
-use Rattle.lattice.specs.declared.patterns.Spot.TheVariants.{At, Nothing}
 use Rattle.table.specs.Slots.{slots_of, slot_at}
 use Rattle.table.specs.Search.{same_point}
-use Rattle.table.specs.declared.slots.Slot.TheVariants.{Free, Holds}
 use Rattle.queries.specs.Queries.{chosen_at, is_point}
 use Rattle.across.specs.Across.{apex_of}
 use Rattle.firsts.specs.Faces.{bit, next_place}
@@ -38,6 +38,31 @@ pub summed-more : (f : ℕ → ℕ) (w i sum x : ℕ) → Summed f w i sum → x
 summed-more f w i sum x s e h =
     let d = mul-add w i 1 in
     record { is = omega (arith, s.is, sum_more f i, e); most = omega (arith, s.most, d) }
+
+-- ---- the places of a star: past the last comes the first
+
+abbrev pub wrapped : ℕ → ℕ → ℕ
+wrapped d j = cond (eqb j d) 0 j
+
+pub wrapped-first : (d : ℕ) → 0 ≡ wrapped d 0
+wrapped-first d = go (eqb 0 d)
+  where
+    go : (b : Bool) → ◌≡◌ {A = ℕ} 0 (cond b 0 0)
+    go true = refl
+    go false = refl
+
+pub wrapped-below : (d j : ℕ) → j < d → wrapped d j ≡ j
+wrapped-below d j h = ap (λ (b : Bool). cond b 0 j) (ne_eqb j d (λ e. omega arith))
+
+-- ---- a bool's number, as the code has it
+
+pub bit-from : (b : Bool) → from_bool b ≡ bit b
+bit-from true = refl
+bit-from false = refl
+
+pub from-most : (b : Bool) → from_bool b ≤ 1
+from-most true = lit≤ tt
+from-most false = lit≤ tt
 
 -- ---- sides
 
@@ -116,45 +141,45 @@ module _ (t : List ℕ) (k : ℕ) (v p q : Point) where
   far-across e b h = λ i. bit (not (sym e i || sym h i))
 
 module _ (t : List ℕ) (k : ℕ) (v : Record) (j : ℕ) where
-  pub far_none : chosen_at t v j ≡ Nothing → 0 ≡ far_count t k v j
+  pub far_none : chosen_at t v j ≡ None → 0 ≡ far_count t k v j
   unfolding far_count
   far_none e = ap (far_at t k v j) (sym e)
 
-  pub far-counted : (o : Point) → chosen_at t v j ≡ At o → far_at t k v j (At o) ≡ far_count t k v j
+  pub far-counted : (o : Point) → chosen_at t v j ≡ Some o → far_at t k v j (Some o) ≡ far_count t k v j
   unfolding far_count
   far-counted o e = ap (far_at t k v j) (sym e)
 
 -- ---- corners
 
 module _ (t : List ℕ) (k : ℕ) (v : Record) (j : ℕ) where
-  pub corner-none : chosen_at t v j ≡ Nothing → 0 ≡ corner_count t k v j
+  pub corner-none : chosen_at t v j ≡ None → 0 ≡ corner_count t k v j
   unfolding corner_count
   corner-none e = ap (face_count t k v j) (sym e)
 
-  pub corner-counted : (o : Point) → chosen_at t v j ≡ At o → (f : Face) → f ≡ face_on v j o → (b : Bool) → face_before t k f ≡ b
+  pub corner-counted : (o : Point) → chosen_at t v j ≡ Some o → (f : Face) → f ≡ face_on v j o → (b : Bool) → face_before t k f ≡ b
       → bit (not b) ≡ corner_count t k v j
   unfolding corner_count
   corner-counted o e f g b h = ap (λ (x : Bool). bit (not x)) (sym h ∙ ap (face_before t k) g) ∙ ap (face_count t k v j) (sym e)
 
-pub all_more : (f : ℕ → Bool) (i : ℕ) (p b : Bool) → p ≡ upto i f → b ≡ f i → b && p ≡ upto (i + 1) f
-all_more f i p b e h = let z : i + 1 ≡ suc i = omega arith in (λ i. h i && e i) ∙ ap (λ (n : ℕ). upto n f) (sym z)
+pub all_more : (f : ℕ → Bool) (i : ℕ) (p b : Bool) → p ≡ upto i f → b ≡ f i → p && b ≡ upto (i + 1) f
+all_more f i p b e h = let z : i + 1 ≡ suc i = omega arith in and_comm p b ∙ (λ i. h i && e i) ∙ ap (λ (n : ℕ). upto n f) (sym z)
 
 -- ---- slots
 
 module _ (t : List ℕ) (k : ℕ) where
-  pub sides-free : slot_at t k ≡ Free → 0 ≡ slot_sides t k
+  pub sides-free : slot_at t k ≡ None → 0 ≡ slot_sides t k
   unfolding slot_sides
   sides-free e = ap (slot_sum (star_sides t k)) (sym e)
 
-  pub sides-holds : (v : Record) → slot_at t k ≡ Holds v → star_sides t k v ≡ slot_sides t k
+  pub sides-holds : (v : Record) → slot_at t k ≡ Some v → star_sides t k v ≡ slot_sides t k
   unfolding slot_sides
   sides-holds v e = ap (slot_sum (star_sides t k)) (sym e)
 
-  pub faces-free : slot_at t k ≡ Free → 0 ≡ slot_faces t k
+  pub faces-free : slot_at t k ≡ None → 0 ≡ slot_faces t k
   unfolding slot_faces
   faces-free e = ap (slot_sum (star_faces t k)) (sym e)
 
-  pub faces-holds : (v : Record) → slot_at t k ≡ Holds v → star_faces t k v ≡ slot_faces t k
+  pub faces-holds : (v : Record) → slot_at t k ≡ Some v → star_faces t k v ≡ slot_faces t k
   unfolding slot_faces
   faces-holds v e = ap (slot_sum (star_faces t k)) (sym e)
 

@@ -2,17 +2,13 @@
 -- at their ends, then those that no end has. `near_count` the sides at a vertex · `far_before`, `across_else`, `far_count` those across · `slot_sides`,
 -- `slot_degree` what a slot adds · `degrees_of` records by degree · `faces_and_sides` what is counted of corners.
 -- Assumes nothing.
-use Rattle.std.specs.Prelude.{◌≡◌, Bool, true, false, cond, not, ◌&&◌, ◌||◌, List, ℕ, ◌+◌, eqb}
+use Rattle.std.specs.Prelude.{◌≡◌, Bool, true, false, cond, not, ◌&&◌, ◌||◌, List, ℕ, ◌+◌, eqb, Option, Some, None}
 use Rattle.laws.specs.Rules.{among}
 use Rattle.lattice.specs.Stars.{adjacent_at}
 use Rattle.lattice.specs.declared.points.Point.{Point}
 use Rattle.lattice.specs.declared.records.Record.{Record}
-use Rattle.lattice.specs.declared.patterns.Spot.{Spot}
-use Rattle.lattice.specs.declared.patterns.Spot.TheVariants.{At, Nothing}
 use Rattle.table.specs.Slots.{slots_of, slot_at}
 use Rattle.table.specs.Search.{same_point}
-use Rattle.table.specs.declared.slots.Slot.{Slot}
-use Rattle.table.specs.declared.slots.Slot.TheVariants.{Free, Holds}
 use Rattle.queries.specs.Queries.{chosen_at}
 use Rattle.across.specs.Across.{factor_of, across_of, apex_of}
 use Rattle.firsts.specs.Faces.{bit, next_place}
@@ -67,9 +63,9 @@ Spared t k v p q seen = seen ≡ true → is_wide v p q ≡ false → end_has t 
 abbrev pub SparedAcross : List ℕ → ℕ → Point → Point → Point → Bool → Type 0
 SparedAcross t k v p q seen = seen ≡ true → is_wide v p q ≡ false → narrow_else t k p q ≡ true
 
-abbrev pub far_at : List ℕ → ℕ → Record → ℕ → Spot → ℕ
-far_at t k v j (At o) = far_one t k v.at (adjacent_at v j) o + far_one t k v.at (adjacent_at v (next_place v.d j)) o
-far_at t k v j Nothing = 0
+abbrev pub far_at : List ℕ → ℕ → Record → ℕ → Option Point → ℕ
+far_at t k v j (Some o) = far_one t k v.at (adjacent_at v j) o + far_one t k v.at (adjacent_at v (next_place v.d j)) o
+far_at t k v j None = 0
 
 -- how many of the two sides across corner j of v, in slot k, are counted there
 unfoldable pub far_count : List ℕ → ℕ → Record → ℕ → ℕ
@@ -91,9 +87,9 @@ abbrev pub no_degree : ℕ
 no_degree = 255
 
 -- the degree of a slot's record, if there is one
-abbrev pub degree_at : Slot → ℕ
-degree_at Free = no_degree
-degree_at (Holds v) = v.d
+abbrev pub degree_at : Option Record → ℕ
+degree_at None = no_degree
+degree_at (Some v) = v.d
 
 -- 1 where slot k holds a record of degree d
 unfoldable pub slot_degree : List ℕ → ℕ → ℕ → ℕ

@@ -7,7 +7,7 @@
 -- whatever slot, or a vertex across from it stands earlier and has it (`fars-told`), which can stand at sixteen places only (AcrossLaws). In one star the near
 -- sides are different, and so are the far ones. Where the apexes lie does not matter here: any place that p and q determine would do, with that of q and p.
 -- Assumes nothing.
-use Rattle.std.specs.Prelude.{◌≡◌, ◌⊎◌, cond, ◌&&◌, ◌||◌}
+use Rattle.std.specs.Prelude.{◌≡◌, ◌⊎◌, cond, ◌&&◌, ◌||◌, Option, Some, None}
 use Rattle.std.proofs.Math.Path.{refl, ap}
 use Rattle.std.proofs.Common.{sym, ◌∙◌, subst, inl, inr, arith, eq-eqb, ne_eqb}
 use Rattle.std.proofs.Math.Bool.{Bool, true, false, not, or_comm, or_assoc, or-false}
@@ -22,16 +22,12 @@ use Rattle.lattice.specs.Records.{valid_of}
 use Rattle.lattice.specs.RecordLaws.{Inner}
 use Rattle.lattice.specs.declared.points.Point.{Point}
 use Rattle.lattice.specs.declared.records.Record.{Record}
-use Rattle.lattice.specs.declared.patterns.Spot.{Spot}
-use Rattle.lattice.specs.declared.patterns.Spot.TheVariants.{At, Nothing}
 use Rattle.geometry.specs.GeometryLaws.{star-distinct}
 use Rattle.table.specs.Slots.{slots_of, slot_at}
 use Rattle.table.specs.Order.{InOrder}
 use Rattle.table.specs.Search.{same_point}
 use Rattle.table.specs.Entries.{records_below, records_of}
 use Rattle.table.specs.MapLaws.{same_refl, same_true}
-use Rattle.table.specs.declared.slots.Slot.{Slot}
-use Rattle.table.specs.declared.slots.Slot.TheVariants.{Free, Holds}
 use Rattle.queries.specs.Queries.{chosen_at}
 use Rattle.across.specs.Across.{factor_of, across_of, apex_of}
 use Rattle.firsts.specs.Faces.{bit, different_after, gather, each, next_place, faces_at, same_face, Side, side, sides_of, same_side}
@@ -229,16 +225,16 @@ module _ (t : List ℕ) (o : InOrder t) where
   else_of k v p q = end_has t p q || across_else t k v.at p q
 
   -- how many of the far sides of a corner, of one kind, are counted there
-  abbrev kind_at : Kind → ℕ → Record → ℕ → Spot → ℕ
-  kind_at c k v j Nothing = 0
-  kind_at c k v j (At q) =
+  abbrev kind_at : Kind → ℕ → Record → ℕ → Option Point → ℕ
+  kind_at c k v j None = 0
+  kind_at c k v j (Some q) =
       bit (c v.at (adjacent_at v j) q && not (else_of k v (adjacent_at v j) q))
       + bit (c v.at (adjacent_at v (next_place v.d j)) q && not (else_of k v (adjacent_at v (next_place v.d j)) q))
 
   abbrev kind_count : Kind → ℕ → Record → ℕ → ℕ
   kind_count c k v j = kind_at c k v j (chosen_at t v j)
 
-  module _ (k : ℕ) (v : Record) (l : k < slots_of t) (here : slot_at t k ≡ Holds v) where
+  module _ (k : ℕ) (v : Record) (l : k < slots_of t) (here : slot_at t k ≡ Some v) where
     top : k ≤ slots_of t
     top = omega arith
 
@@ -372,7 +368,7 @@ module _ (t : List ℕ) (o : InOrder t) where
         go false false h = refl
 
     -- the far sides of a star are different: from place a to the opposite of corner i, and from place b to that of corner j
-    far-differ : (a b i j : ℕ) (p q : Point) → a < v.d → b < v.d → i < v.d → j < v.d → chosen_at t v i ≡ At p → chosen_at t v j ≡ At q
+    far-differ : (a b i j : ℕ) (p q : Point) → a < v.d → b < v.d → i < v.d → j < v.d → chosen_at t v i ≡ Some p → chosen_at t v j ≡ Some q
         → ((adjacent_at v b ≡ adjacent_at v a) → q ≡ p → ⊥)
         → same_side (side (adjacent_at v b) q) (side (adjacent_at v a) p) ≡ false
     far-differ a b i j p q ha hb hi hj ci cj n =
@@ -382,7 +378,7 @@ module _ (t : List ℕ) (o : InOrder t) where
         go (inl e) = n (ap (λ (z : Side). z.one) e) (ap (λ (z : Side). z.other) e)
         go (inr e) = adjacent-opposite t v ok (star-inner t o k v l here a ha) b i p hb hi ci (ap (λ (z : Side). z.one) e)
 
-    far_apart : (c : Kind) (b j : ℕ) (q : Point) → b < v.d → j < v.d → chosen_at t v j ≡ At q → (i : ℕ) → i < j
+    far_apart : (c : Kind) (b j : ℕ) (q : Point) → b < v.d → j < v.d → chosen_at t v j ≡ Some q → (i : ℕ) → i < j
         → some_of (same_side (side (adjacent_at v b) q)) (far_place t c v i) ≡ false
     far_apart c b j q hb hj cj i h = go (chosen_at t v i) refl
       where
@@ -392,15 +388,15 @@ module _ (t : List ℕ) (o : InOrder t) where
         hi : i < v.d
         hi = omega arith
 
-        one : (a : ℕ) (p : Point) → a < v.d → chosen_at t v i ≡ At p → c v.at (adjacent_at v a) p && same_side s (side (adjacent_at v a) p) ≡ false
+        one : (a : ℕ) (p : Point) → a < v.d → chosen_at t v i ≡ Some p → c v.at (adjacent_at v a) p && same_side s (side (adjacent_at v a) p) ≡ false
         one a p ha e =
             ap (λ (x : Bool). c v.at (adjacent_at v a) p && x)
-            (far-differ a b i j p q ha hb hi hj e cj (λ x y. opposite-apart t v ok (star-inner t o k v l here j hj) i j p h hj e (cj ∙ ap At y)))
+            (far-differ a b i j p q ha hb hi hj e cj (λ x y. opposite-apart t v ok (star-inner t o k v l here j hj) i j p h hj e (cj ∙ ap Some y)))
             ∙ and-false (c v.at (adjacent_at v a) p)
 
-        go : (z : Spot) → chosen_at t v i ≡ z → some_of (same_side s) (far_with c v i z) ≡ false
-        go Nothing e = some-none (same_side s)
-        go (At p) e = far-two t c s v i p ∙ (λ z. one i p hi e z || one (next_place v.d i) p (next-below v.d i hi) e z)
+        go : (z : Option Point) → chosen_at t v i ≡ z → some_of (same_side s) (far_with c v i z) ≡ false
+        go None e = some-none (same_side s)
+        go (Some p) e = far-two t c s v i p ∙ (λ z. one i p hi e z || one (next_place v.d i) p (next-below v.d i hi) e z)
 
     -- what is counted of one kind, after these sides
     module _ (c : Kind) (first : List Side)
@@ -418,10 +414,10 @@ module _ (t : List ℕ) (o : InOrder t) where
       star-fars : different_after same_side before (fars_at t c v) ≡ sum_below (kind_count c k v) v.d
       star-fars = different-star same_side before (far_place t c v) (kind_count c k v) v.d (λ j m. go j m (chosen_at t v j) refl)
         where
-          go : (j : ℕ) → j < v.d → (z : Spot) → chosen_at t v j ≡ z → different_after same_side (before ++ gather j (far_place t c v)) (far_with c v j z)
+          go : (j : ℕ) → j < v.d → (z : Option Point) → chosen_at t v j ≡ z → different_after same_side (before ++ gather j (far_place t c v)) (far_with c v j z)
               ≡ kind_at c k v j z
-          go j m Nothing e = different-nothing same_side (before ++ gather j (far_place t c v))
-          go j m (At q) e =
+          go j m None e = different-nothing same_side (before ++ gather j (far_place t c v))
+          go j m (Some q) e =
               let a = different-append same_side seen (taken c v.at x q) (taken c v.at y q) in
               let f = one (c v.at x q) refl in
               let g = two (c v.at y q) refl in
@@ -510,7 +506,7 @@ module _ (t : List ℕ) (o : InOrder t) where
             (some-each (same_side s) (fars_at t every) t k ∙ pass-slots t k (λ u. some_of (same_side s) (fars_at t every u))
             (passes-too x (λ u. some_of (same_side s) (fars_at t every u)) q))
 
-    pub far-spared : (j : ℕ) (p : Point) (seen : Bool) → chosen_at t v j ≡ At p → seen ≡ face_before t k (face_on v j p)
+    pub far-spared : (j : ℕ) (p : Point) (seen : Bool) → chosen_at t v j ≡ Some p → seen ≡ face_before t k (face_on v j p)
         → Spared t k v.at (adjacent_at v j) p seen × Spared t k v.at (adjacent_at v (next_place v.d j)) p seen
     unfolding narrow_else
     far-spared j p seen c h = ((λ e w. spared x (sym h ∙ e) first), (λ e w. spared y (sym h ∙ e) second))
@@ -547,11 +543,11 @@ module _ (t : List ℕ) (o : InOrder t) where
             widen (end_has t q p) (apex_seen t (slots_of t) q p (apex_of q p)) (apex_seen t (slots_of t) q p (apex_of p q)) (far_before t k q p || far_before t k p q)
             (sym (far-before q p) ∙ far-face (face_on v j p) (side q p) refl g f)
 
-  star-wides : (k : ℕ) (v : Record) → k < slots_of t → slot_at t k ≡ Holds v
+  star-wides : (k : ℕ) (v : Record) → k < slots_of t → slot_at t k ≡ Some v
       → different_after same_side (all ++ each (fars_at t is_wide) (records_below t k)) (fars_at t is_wide v) ≡ sum_below (kind_count is_wide k v) v.d
   star-wides k v l here = star-fars k v l here is_wide all (wide-before k v l here)
 
-  star-narrows : (k : ℕ) (v : Record) → k < slots_of t → slot_at t k ≡ Holds v
+  star-narrows : (k : ℕ) (v : Record) → k < slots_of t → slot_at t k ≡ Some v
       → different_after same_side ((all ++ wides) ++ each (fars_at t (other is_wide)) (records_below t k)) (fars_at t (other is_wide) v)
       ≡ sum_below (kind_count (other is_wide) k v) v.d
   star-narrows k v l here = star-fars k v l here (other is_wide) (all ++ wides) (λ p q w. narrow-before k v l here p q (turned (is_wide v.at p q) w))
@@ -571,9 +567,9 @@ module _ (t : List ℕ) (o : InOrder t) where
       one false true = refl
       one false false = refl
 
-      go : (z : Spot) → kind_at is_wide k v j z + kind_at (other is_wide) k v j z ≡ far_at t k v j z
-      go Nothing = refl
-      go (At q) =
+      go : (z : Option Point) → kind_at is_wide k v j z + kind_at (other is_wide) k v j z ≡ far_at t k v j z
+      go None = refl
+      go (Some q) =
           let x = adjacent_at v j in
           let y = adjacent_at v (next_place v.d j) in
           let a = one (is_wide v.at x q) (else_of k v x q) in
@@ -581,11 +577,11 @@ module _ (t : List ℕ) (o : InOrder t) where
           omega (arith, a, b)
 
   -- what a slot adds
-  slot-all : (k : ℕ) (s : Slot) → slot_sum (λ v. sum_below (near_count t k v) v.d) s
+  slot-all : (k : ℕ) (s : Option Record) → slot_sum (λ v. sum_below (near_count t k v) v.d) s
       + (slot_sum (λ v. sum_below (kind_count is_wide k v) v.d) s + slot_sum (λ v. sum_below (kind_count (other is_wide) k v) v.d) s)
       ≡ slot_sum (star_sides t k) s
-  slot-all k Free = refl
-  slot-all k (Holds v) =
+  slot-all k None = refl
+  slot-all k (Some v) =
       let a = sum-plus (kind_count is_wide k v) (kind_count (other is_wide) k v) v.d in
       let b = sum-each (λ j. kind_count is_wide k v j + kind_count (other is_wide) k v j) (far_count t k v) v.d (λ j h. both-kinds k v j) in
       let c = sum-plus (near_count t k v) (far_count t k v) v.d in

@@ -16,7 +16,7 @@ mod degrees;
 mod sides;
 
 use crate::corners::count_corners;
-pub use degrees::{Degrees, count_degrees, one_if};
+pub use degrees::{Degrees, count_degrees};
 
 // The numbers of a census: V, E, F, and the records by degree.
 #[derive(Clone, Copy)]

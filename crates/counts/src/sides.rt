@@ -18,13 +18,12 @@ ghost use Rattle.counts.specs.Counted.{narrow_else, across_else, SparedAcross, S
 use across::{across, apex};
 use firsts::earlier::earlier;
 use firsts::{Fits, Placed, next_place, slot_of, spot_is};
-use lattice::{Point, Record, Spot, adjacent_of, same_point};
+use lattice::{Point, Record, adjacent_of, same_point};
 use queries::chosen;
-use table::Looked;
 
 // ---- sides at a vertex
 
-// The place before j in a star of degree d, the first after the last.
+// The place before j in a star of degree d, the first after the last. `checked_sub` with a default is no plainer.
 pub fn prev_place(d: u8, j: u8) -> u8
     requires { j < d }
     ensures { (result ≡ prev_place d j) × (result < d) }
@@ -39,8 +38,8 @@ pub fn has_face(t: &[u8], u: Record, j: u8, n: usize) -> bool
     ensures { result ≡ is_point (chosen_at t.now u j) }
 {
     match chosen(t, u, j, n) {
-        Spot::At(_) => true,
-        Spot::Nothing => false,
+        Some(_) => true,
+        None => false,
     }
 }
 
@@ -74,13 +73,10 @@ fn has_near(t: &[u8], u: Record, p: Point, n: usize) -> bool
     requires u_value { valid_of u ≡ true }
     ensures { result ≡ has_near t.now p u }
 {
-    let d = u.d;
-    let mut i = 0;
-    while i < d {
+    for i in 0..u.d {
         if near_is(t, u, p, i, n) {
             return true;
         }
-        i += 1;
     }
     false
 }
@@ -91,8 +87,8 @@ fn near_in(t: &[u8], p: Point, s: usize, k: usize, n: usize) -> bool
     ensures { result ≡ near_in t.now k p s }
 {
     match earlier(t, s, k, n) {
-        Looked::Absent => false,
-        Looked::Held(u) => has_near(t, u, p, n),
+        None => false,
+        Some(u) => has_near(t, u, p, n),
     }
 }
 
@@ -134,7 +130,7 @@ pub fn near_count(
         return 0;
     }
     let before = near_known(t, p, a.slot, known, k, n);
-    if before { 0 } else { 1 }
+    u32::from(!before)
 }
 
 // ---- sides across from a vertex
@@ -163,13 +159,10 @@ fn has_far(t: &[u8], u: Record, p: Point, q: Point, n: usize) -> bool
     requires u_value { valid_of u ≡ true }
     ensures { result ≡ has_far t.now p q u }
 {
-    let d = u.d;
-    let mut i = 0;
-    while i < d {
+    for i in 0..u.d {
         if far_is(t, u, p, q, i, n) {
             return true;
         }
-        i += 1;
     }
     false
 }
@@ -182,8 +175,8 @@ fn far_seen(t: &[u8], p: Point, q: Point, c: u8, k: usize, n: usize) -> bool
 {
     let s = slot_of(t, across(p, q, c), n);
     match earlier(t, s, k, n) {
-        Looked::Absent => false,
-        Looked::Held(u) => has_far(t, u, p, q, n),
+        None => false,
+        Some(u) => has_far(t, u, p, q, n),
     }
 }
 
@@ -193,12 +186,10 @@ fn far_before(t: &[u8], p: Point, q: Point, k: usize, n: usize) -> bool
     requires star_point { StarPoint p × StarPoint q }
     ensures { result ≡ far_before t.now k p q }
 {
-    let mut c = 0;
-    while c < PLACES {
+    for c in 0..PLACES {
         if far_seen(t, p, q, c, k, n) {
             return true;
         }
-        c += 1;
     }
     false
 }
@@ -222,8 +213,8 @@ fn apex_seen(t: &[u8], p: Point, q: Point, a: Point, k: usize, n: usize) -> bool
 {
     let s = slot_of(t, a, n);
     match earlier(t, s, k, n) {
-        Looked::Absent => false,
-        Looked::Held(u) => has_either(t, u, p, q, n),
+        None => false,
+        Some(u) => has_either(t, u, p, q, n),
     }
 }
 
@@ -307,7 +298,7 @@ fn far_one(
     let a = p.at;
     let b = q.at;
     let elsewhere = across_else(t, v, a, b, seen, k, n);
-    if elsewhere { 0 } else { 1 }
+    u32::from(!elsewhere)
 }
 
 // How many of the two sides across corner j of v, in slot k, are counted there: from a and from b, beside it, to its opposite o; fits tells what these

@@ -9,7 +9,7 @@ pub use Rattle.everywhere.specs.First.{Task, neighbour, places, all_places, Acce
 pub use Rattle.everywhere.specs.Filled.{Turns}
 pub use Rattle.everywhere.specs.OnGrown.{near_most}
 pub use Rattle.everywhere.specs.Everywhere.{At, Below, Answers}
-use Rattle.std.specs.Prelude.{◌≡◌, ◌≢◌, ◌⊎◌, ℕ, ◌+◌, ◌*◌, ◌≤◌, ◌<◌, ℤ, length}
+use Rattle.std.specs.Prelude.{◌≡◌, ◌≢◌, ◌⊎◌, ℕ, ◌+◌, ◌*◌, ◌≤◌, ◌<◌, ℤ, length, Option, Some}
 use Rattle.std.proofs.Common.{ap, subst, inl, inr, arith}
 use mathlib.Core.List.{List, Memᴰ}
 use Rattle.std.proofs.Math.Decide.{ℕ_discrete}
@@ -18,8 +18,6 @@ use Rattle.lattice.specs.declared.records.Record.{Record}
 use Rattle.table.specs.Slots.{free_slots}
 use Rattle.table.specs.Order.{InOrder}
 use Rattle.table.specs.Entries.{look_up}
-use Rattle.table.specs.declared.entries.Looked.{Looked}
-use Rattle.table.specs.declared.entries.Looked.TheVariants.{Held}
 use Rattle.mesh.specs.Grown.{Grown}
 use Rattle.bring.specs.Bring.{places_of, BringAfter, bring_to_six}
 use Rattle.everywhere.specs.Runs.{run-free}
@@ -29,7 +27,7 @@ use Rattle.everywhere.specs.Everywhere as call
 
 module _ (t s : List ℕ) (a b : ℤ) (m : ℕ) where
   -- what stands at the point, and what the request answers and leaves
-  abbrev there : Looked
+  abbrev there : Option Record
   there = look_up t (normal_of a b m)
 
   abbrev bring : BringAfter
@@ -41,18 +39,18 @@ module _ (t s : List ℕ) (a b : ℤ) (m : ℕ) where
   bring-goes v w z = call.bring-goes t s a b m v w z
 
   -- degree 6, at its own level and one more
-  pub bring-risen : (v : Record) → Below t s there v → bring.number ≡ 0 → look_up bring.table v.at ≡ Held (risen v.at v.n.0)
+  pub bring-risen : (v : Record) → Below t s there v → bring.number ≡ 0 → look_up bring.table v.at ≡ Some (risen v.at v.n.0)
   bring-risen v w z = call.bring-risen t s a b m v w z
 
   -- "The subdivisions made are exactly those that every sequence reaching the goal must contain."
-  pub bring-exactly : (v : Record) → there ≡ Held v → bring.number ≡ 0
+  pub bring-exactly : (v : Record) → there ≡ Some v → bring.number ≡ 0
       → (made : List Division) × Run t made bring.table
       × ((x : Division) → Memᴰ x made → (k : List Division) → Reaching t v.at k → Memᴰ x k)
       × ((x : Division) → ((k : List Division) → Reaching t v.at k → Memᴰ x k) → Memᴰ x made)
   bring-exactly v h z = let d = call.bring-done t s a b m v h z in (d.list, d.run, d.needed, d.exact)
 
   -- so none of them takes fewer slots
-  pub bring-least : (v : Record) → there ≡ Held v → bring.number ≡ 0 → (k : List Division) → Reaching t v.at k
+  pub bring-least : (v : Record) → there ≡ Some v → bring.number ≡ 0 → (k : List Division) → Reaching t v.at k
       → free_slots t ≤ free_slots bring.table + 6 * length k
   bring-least v h z k y =
       let d = call.bring-done t s a b m v h z in
@@ -139,6 +137,6 @@ module _ (t s : List ℕ) (a b : ℤ) (m : ℕ) where
   bring-short v w e = (call.bring-refuses t s a b m v w (λ z. omega arith)).1 e
 
 -- "or where the vertex ends below degree 6": it never does, on no table in order, once each neighbour in turn is finished
-pub ends-six : (t : List ℕ) → InOrder t → (v : Record) → look_up t v.at ≡ Held v → v.d ≢ 0 → v.d ≢ 6 → v.n.0 < 12
+pub ends-six : (t : List ℕ) → InOrder t → (v : Record) → look_up t v.at ≡ Some v → v.d ≢ 0 → v.d ≢ 6 → v.n.0 < 12
     → (u : List ℕ) → Turns v (places_of v.d) t u → Six u v.at
 ends-six t o v e z n low u x = filled.ends-six t o v e z n low u x

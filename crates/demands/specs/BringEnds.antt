@@ -14,7 +14,7 @@
 pub use Rattle.bring.specs.Boundary.{Turns, first, later, Chain, asked, lower, AtBoundary}
 pub use Rattle.bring.specs.Runs.{Division, Run, run-free}
 pub use Rattle.bring.specs.BringLaws.{Alike, Six, Reaching, risen, Finish, done, rim, short}
-use Rattle.std.specs.Prelude.{◌≡◌, ◌≢◌, ◌⊎◌, Bool, ◌&&◌, not, List, [], ◌∷◌, ℕ, ◌+◌, ◌*◌, ◌≤◌, ◌<◌, ℤ, length}
+use Rattle.std.specs.Prelude.{◌≡◌, ◌≢◌, ◌⊎◌, Bool, ◌&&◌, not, List, [], ◌∷◌, ℕ, ◌+◌, ◌*◌, ◌≤◌, ◌<◌, ℤ, length, Option, Some, None}
 use Rattle.std.proofs.Math.Path.{refl, ap}
 use Rattle.std.proofs.Common.{sym, ◌∙◌, subst, inl, inr, arith}
 use Rattle.std.proofs.Math.Bool.{true, false, cond}
@@ -28,8 +28,6 @@ use Rattle.table.specs.SlotLaws.{table-lengths}
 use Rattle.table.specs.Order.{InOrder, in_order_of}
 use Rattle.table.specs.Entries.{look_up, is_held}
 use Rattle.table.specs.MapLaws.{test-order, order-test, lookup-point}
-use Rattle.table.specs.declared.entries.Looked.{Looked}
-use Rattle.table.specs.declared.entries.Looked.TheVariants.{Absent, Held}
 use Rattle.mesh.specs.Grown.{Grown}
 use Rattle.mesh.specs.Subdivide.{MeshAfter, mesh_after, all_or}
 use Rattle.bring.specs.Bring.{bring_of, bring_vertex, bring_looked, request_of, BringAfter, bring_after, cleared, bring_to_six}
@@ -49,7 +47,7 @@ abbrev pub met : List ℕ → ℕ → Record → Bool
 met t x v = not (eqb v.d 6) && eqb (bring_of v.n.0 t v).number x
 
 -- "Refusals: 1 (scratch length included), 3, 14, 5 for a vertex of degree below 6 at level 12, then the first met, ..: 7 ..; 16 ..; 8"
-abbrev pub bring_rules : List ℕ → List ℕ → Looked → List Rule
+abbrev pub bring_rules : List ℕ → List ℕ → Option Record → List Rule
 bring_rules t s l =
     not (lengths_fit t s) ⇒ 1
     ∷ not (in_order_of t) ⇒ 1
@@ -89,7 +87,7 @@ module _ (t s : List ℕ) (a b : ℤ) (m : ℕ) where
       at v false false true e h = refl
       at v false false false e h = all-number t (bring_of v.n.0 t v) ∙ told-met (bring_of v.n.0 t v).number (h refl)
 
-      go : (f o : Bool) → in_order_of t ≡ o → (l : Looked) → look_up t (normal_of a b m) ≡ l
+      go : (f o : Bool) → in_order_of t ≡ o → (l : Option Record) → look_up t (normal_of a b m) ≡ l
           → (cond f (cleared (cond o (bring_looked t l) (mesh_after 1 t)) s) (bring_after 1 t s)).number
           ≡ first_of
           (not f ⇒ 1
@@ -103,14 +101,14 @@ module _ (t s : List ℕ) (a b : ℤ) (m : ℕ) where
           ∷ [])
       go false o h l e = refl
       go true false h l e = refl
-      go true true h Absent e = refl
-      go true true h (Held v) e =
+      go true true h None e = refl
+      go true true h (Some v) e =
           let order = test-order t h in
           let own = ap (look_up t) (lookup-point t order (normal_of a b m) v e) ∙ e in
           at v (eqb v.d 0) (eqb v.d 6) (eqb v.n.0 12) refl (λ z. (vertex-told t order v own (eqb-false v.n.0 12 z)).told)
 
   -- "unless the chain reaches a boundary vertex": 16 comes there and nowhere else
-  pub bring-boundary : (bring_to_six t s a b m).number ≡ 16 → (v : Record) × (look_up t (normal_of a b m) ≡ Held v) × AtBoundary t v
+  pub bring-boundary : (bring_to_six t s a b m).number ≡ 16 → (v : Record) × (look_up t (normal_of a b m) ≡ Some v) × AtBoundary t v
   unfolding bring_to_six request_of bring_vertex
   bring-boundary = go (lengths_fit t s) (in_order_of t) (look_up t (normal_of a b m)) refl
     where
@@ -121,15 +119,15 @@ module _ (t s : List ℕ) (a b : ℤ) (m : ℕ) where
       at v false false true e = absurd (omega arith)
       at v false false false e = sixteen-boundary t v (sym (all-number t (bring_of v.n.0 t v)) ∙ e)
 
-      go : (f o : Bool) (l : Looked) → look_up t (normal_of a b m) ≡ l
+      go : (f o : Bool) (l : Option Record) → look_up t (normal_of a b m) ≡ l
           → (cond f (cleared (cond o (bring_looked t l) (mesh_after 1 t)) s) (bring_after 1 t s)).number ≡ 16
-          → (v : Record) × (look_up t (normal_of a b m) ≡ Held v) × AtBoundary t v
+          → (v : Record) × (look_up t (normal_of a b m) ≡ Some v) × AtBoundary t v
       go false o l h e = absurd (omega arith)
       go true false l h e = absurd (omega arith)
-      go true true Absent h e = absurd (omega arith)
-      go true true (Held v) h e = (v, h, at v (eqb v.d 0) (eqb v.d 6) (eqb v.n.0 12) e)
+      go true true None h e = absurd (omega arith)
+      go true true (Some v) h e = (v, h, at v (eqb v.d 0) (eqb v.d 6) (eqb v.n.0 12) e)
 
-  pub boundary-bring : lengths_fit t s ≡ true → in_order_of t ≡ true → (v : Record) → look_up t (normal_of a b m) ≡ Held v
+  pub boundary-bring : lengths_fit t s ≡ true → in_order_of t ≡ true → (v : Record) → look_up t (normal_of a b m) ≡ Some v
       → v.d ≢ 0 → v.d ≢ 6 → v.n.0 ≢ 12 → AtBoundary t v → (bring_to_six t s a b m).number ≡ 16
   unfolding bring_to_six request_of bring_vertex
   boundary-bring f o v e z x l c =
@@ -165,12 +163,12 @@ module _ (t s : List ℕ) (a b : ℤ) (m : ℕ) where
       at v false false true n = refl
       at v false false false n = let o = bring_of v.n.0 t v in all o (eqb o.number 0) refl n
 
-      go : (f o : Bool) (l : Looked) → (cond f (cleared (cond o (bring_looked t l) (mesh_after 1 t)) s) (bring_after 1 t s)).number ≢ 0
+      go : (f o : Bool) (l : Option Record) → (cond f (cleared (cond o (bring_looked t l) (mesh_after 1 t)) s) (bring_after 1 t s)).number ≢ 0
           → (cond f (cleared (cond o (bring_looked t l) (mesh_after 1 t)) s) (bring_after 1 t s)).table ≡ t
       go false o l n = refl
       go true false l n = refl
-      go true true Absent n = refl
-      go true true (Held v) n = at v (eqb v.d 0) (eqb v.d 6) (eqb v.n.0 12) n
+      go true true None n = refl
+      go true true (Some v) n = at v (eqb v.d 0) (eqb v.d 6) (eqb v.n.0 12) n
 
   pub bring-order : InOrder t → InOrder (bring_to_six t s a b m).table
   bring-order o = go (lengths_fit t s) refl
@@ -180,14 +178,14 @@ module _ (t s : List ℕ) (a b : ℤ) (m : ℕ) where
       go false h = subst InOrder (sym (ap (λ (o : BringAfter). o.table) (bring-unfit h))) o
 
   -- "At degree 6 the answer is 0, nothing done."
-  pub bring-six : lengths_fit t s ≡ true → InOrder t → (v : Record) → look_up t (normal_of a b m) ≡ Held v → v.d ≡ 6
+  pub bring-six : lengths_fit t s ≡ true → InOrder t → (v : Record) → look_up t (normal_of a b m) ≡ Some v → v.d ≡ 6
       → bring_to_six t s a b m ≡ bring_after 0 t (cleared_of s)
   bring-six h o v e six =
       let rim-not : v.d ≢ 0 = λ z. omega arith in
       bring-fit h ∙ ap (λ (x : MeshAfter). cleared x s) (sym (vertex-0 t v rim-not six ∙ request-on t a b m (order-test t o) v e))
 
 -- ---- of a grown mesh
-absent-held : {A : Type 0} (v : Record) → Absent ≡ Held v → A
+absent-held : {A : Type 0} (v : Record) → None ≡ Some v → A
 absent-held v e = absurd (let z : ◌≡◌ {A = ℕ} 0 1 = cc in omega arith)
 
 module _ (t s : List ℕ) (fits : length s ≡ length t) (g : Grown t) (a b : ℤ) (m : ℕ) where
@@ -243,11 +241,11 @@ module _ (t s : List ℕ) (fits : length s ≡ length t) (g : Grown t) (a b : �
       go (ends.asked v e d x n f) = by v.at v.n.0 f
 
   -- the vertex at the point, below degree 6 and level 12
-  module _ (v : Record) (held : look_up t (normal_of a b m) ≡ Held v) (rim-not : v.d ≢ 0) (six-not : v.d ≢ 6) (low : v.n.0 < 12) where
+  module _ (v : Record) (held : look_up t (normal_of a b m) ≡ Some v) (rim-not : v.d ≢ 0) (six-not : v.d ≢ 6) (low : v.n.0 < 12) where
     pub bring-end : Finish t v.at v.n.0 left
     bring-end = subst (Finish t v.at v.n.0) is-left (go (request-end t g a b m))
       where
-        same : (w : Record) → look_up t (normal_of a b m) ≡ Held w → w ≡ v
+        same : (w : Record) → look_up t (normal_of a b m) ≡ Some w → w ≡ v
         same w e = held_same (sym e ∙ held)
 
         go : Request t a b m → Finish t v.at v.n.0 (request_of t a b m)

@@ -2,7 +2,7 @@
 -- subdivided. `counted` the counts · `count-row` as `count` gives them, `count-refused` · `census-row` as the census writes them · `inner-corner` an
 -- inner corner of the base.
 -- Assumes nothing.
-use Rattle.std.specs.Prelude.{◌≡◌, refl, true, List, [], ◌∷◌, ℕ, ◌*◌, ℤ, pos, negsuc, replicate}
+use Rattle.std.specs.Prelude.{◌≡◌, refl, true, List, [], ◌∷◌, ℕ, ◌*◌, ℤ, pos, negsuc, replicate, Some}
 use Rattle.std.proofs.Common.{ap, ◌∙◌}
 use Rattle.laws.specs.Choices.{unless}
 use Rattle.laws.specs.Words.{word_at}
@@ -14,7 +14,6 @@ use Rattle.table.specs.Slots.{slot_width, slot_at, free_at, record_at, put_slot,
 use Rattle.table.specs.Search.{home_of, same_point, search_from, find_of}
 use Rattle.table.specs.Order.{in_order_of, all_placed, placed_at}
 use Rattle.table.specs.Entries.{look_up, enter_of, replace_of, records_below}
-use Rattle.table.specs.declared.entries.Looked.TheVariants.{Held}
 use Rattle.base.specs.Base.{base_of, first_bad, laid_of, lay_all, lay_hexagon, hexagon_of, corner_record, internal, listed_in}
 use Rattle.mesh.specs.Subdivide.{subdivided, renewed_to, entered_to}
 use Rattle.queries.specs.Queries.{chosen_at}
@@ -37,7 +36,7 @@ based =
     (pos 0 ∷ pos 0 ∷ pos 1 ∷ pos 1 ∷ pos 2 ∷ negsuc 0 ∷ negsuc 0 ∷ pos 2 ∷ negsuc 1 ∷ pos 1 ∷ pos 0 ∷ pos 3 ∷ [])).bytes
 
 -- "leaving 2, d 3, k 2"
-pub inner-corner : look_up based (pt (pos 0) (pos 1) 0) ≡ Held (vertex (pos 0) (pos 1) 3 2)
+pub inner-corner : look_up based (pt (pos 0) (pos 1) 0) ≡ Some (vertex (pos 0) (pos 1) 3 2)
 unfolding based base_of first_bad laid_of lay_all lay_hexagon hexagon_of corner_record internal listed_in turns normal_of look_up enter_of find_of search_from slot_at
     free_at record_at put_slot record_bytes slots_in home_of same_point word_at
 inner-corner = refl

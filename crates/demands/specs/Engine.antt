@@ -14,11 +14,10 @@ pub use Rattle.engine.specs.Words.{Stands}
 pub use Rattle.agreed.specs.Tables.{Left, laid, divided, copied, slots_for}
 pub use Rattle.everywhere.specs.Runs.{Run}
 pub use Rattle.agreed.specs.Made.{asked_of, Done}
-use Rattle.std.specs.Prelude.{◌≡◌, ◌≢◌, Bool, cond, List, [], ◌∷◌, ◌++◌, ℕ, ◌*◌, ◌≤◌, ◌<◌, ℤ, pos, length, drop}
+use Rattle.std.specs.Prelude.{◌≡◌, ◌≢◌, Bool, cond, List, [], ◌∷◌, ◌++◌, ℕ, ◌*◌, ◌≤◌, ◌<◌, ℤ, pos, length, drop, Option, Some, None}
 use Rattle.std.proofs.Math.Path.{refl, ap}
 use Rattle.std.proofs.Common.{◌∙◌, arith, leb-true}
 use Rattle.std.proofs.Math.Bool.{true, false, not}
-use Rattle.std.proofs.Math.Option.{Option, none, some}
 use Rattle.std.proofs.Math.Dec.{leb}
 use Rattle.std.proofs.Math.ListN.{take}
 use Rattle.laws.specs.Choices.{unless}
@@ -31,8 +30,6 @@ use Rattle.growth.specs.Sheets.{Sheet}
 use Rattle.centres.specs.Centres.{is_listed, GoodList}
 use Rattle.table.specs.Entries.{look_up}
 use Rattle.table.specs.Slots.{fits_length}
-use Rattle.table.specs.declared.entries.Looked.{Looked}
-use Rattle.table.specs.declared.entries.Looked.TheVariants.{Absent, Held}
 use Rattle.base.specs.Base.{base_of}
 use Rattle.mesh.specs.Grown.{Grown}
 use Rattle.mesh.specs.Subdivide.{subdivide_all_of}
@@ -56,8 +53,8 @@ use Rattle.demands.specs.Numbers.{Rule, ◌⇒◌, first_of}
 
 -- ---- one vertex
 abbrev pub is_absent : Option Record → Bool
-is_absent none = true
-is_absent (some r) = false
+is_absent None = true
+is_absent (Some r) = false
 
 module _ (cs ps : List ℤ) (a b : ℤ) (m : ℕ) where
   abbrev answer : VertexAfter
@@ -69,14 +66,14 @@ module _ (cs ps : List ℤ) (a b : ℤ) (m : ℕ) where
   -- "for the list left by any sequence of accepted subdivisions"
   module _ (l : List Division) (t : List ℕ) (k : Left cs l t) (s : Spelled ps l) where
     -- "it gives the same record as the table"
-    pub same-vertex : (v : Record) → look_up t at ≡ Held v → answer ≡ vertex_after 0 v
-    same-vertex v e = same-record cs ps a b m l t k s ∙ ap (λ (x : Looked). tell_at (as_option x)) e
+    pub same-vertex : (v : Record) → look_up t at ≡ Some v → answer ≡ vertex_after 0 v
+    same-vertex v e = same-record cs ps a b m l t k s ∙ ap (λ (x : Option Record). tell_at (as_option x)) e
 
     -- "and says absent exactly where the table has none"; "the record is then all zeros"
-    pub absent-vertex : look_up t at ≡ Absent → answer ≡ refusal 3
+    pub absent-vertex : look_up t at ≡ None → answer ≡ refusal 3
     absent-vertex = (absent-exactly cs ps a b m l t k s).0
 
-    pub vertex-absent : answer.number ≡ 3 → look_up t at ≡ Absent
+    pub vertex-absent : answer.number ≡ 3 → look_up t at ≡ None
     vertex-absent = (absent-exactly cs ps a b m l t k s).1
 
   -- "21 for a list that no sequence of accepted subdivisions from that base leaves, room aside": only of such lists. No table is left with it, whatever its
@@ -115,8 +112,8 @@ module _ (cs ps : List ℤ) (a b : ℤ) (m : ℕ) where
       go : (x y : Bool) (o : Option Record) → (ending x y o).number ≡ first_of (x ⇒ 2 ∷ not y ⇒ 21 ∷ is_absent o ⇒ 3 ∷ [])
       go true y o = refl
       go false false o = refl
-      go false true none = refl
-      go false true (some r) = refl
+      go false true None = refl
+      go false true (Some r) = refl
 
   -- "the record is then all zeros"
   pub vertex-zeros : answer.number ≢ 0 → answer.vertex ≡ nobody
@@ -126,8 +123,8 @@ module _ (cs ps : List ℤ) (a b : ℤ) (m : ℕ) where
       go : (x y : Bool) (o : Option Record) → (ending x y o).number ≢ 0 → (ending x y o).vertex ≡ nobody
       go true y o n = refl
       go false false o n = refl
-      go false true none n = refl
-      go false true (some r) n = absurd (n refl)
+      go false true None n = refl
+      go false true (Some r) n = absurd (n refl)
 
   -- which no vertex's record is
   pub vertex-some : answer.number ≡ 0 → answer.vertex ≢ nobody
@@ -137,8 +134,8 @@ module _ (cs ps : List ℤ) (a b : ℤ) (m : ℕ) where
       go : (x y : Bool) (o : Option Record) → record_by (is_listed cs) ps (pairs_in ps) at ≡ o → (ending x y o).number ≡ 0 → (ending x y o).vertex ≢ nobody
       go true y o e n = absurd (omega (arith, n))
       go false false o e n = absurd (omega (arith, n))
-      go false true none e n = absurd (omega (arith, n))
-      go false true (some r) e n = λ z. somebody (is_listed cs) ps (pairs_in ps) at (e ∙ ap some z)
+      go false true None e n = absurd (omega (arith, n))
+      go false true (Some r) e n = λ z. somebody (is_listed cs) ps (pairs_in ps) at (e ∙ ap Some z)
 
   -- for all lists: a base list that is none, and 2; a list that no sequence leaves, and 21; else a sequence that leaves it, and 3 or the record
   pub vertex-ends : Ends cs ps a b m

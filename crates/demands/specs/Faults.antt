@@ -5,12 +5,11 @@
 -- `reduced-line` the line given back is that one, else 0 · `met_in` the points restored, in the order met · `FirstMet` the first of them that is
 -- refused · `restore-first`, `first-restore` restoring stops with a number exactly where there is one · `met-number` 8 or 11.
 -- Assumes nothing.
-use Rattle.std.specs.Prelude.{◌≡◌, ◌≢◌, ◌⊎◌, Bool, cond, not, ℕ, zero, suc, ◌+◌, ◌≤◌, ◌<◌, eqb, length}
+use Rattle.std.specs.Prelude.{◌≡◌, ◌≢◌, ◌⊎◌, Bool, cond, not, ℕ, zero, suc, ◌+◌, ◌≤◌, ◌<◌, eqb, length, Option, Some, None}
 use Rattle.std.proofs.Math.Path.{refl, ap}
 use Rattle.std.proofs.Common.{sym, ◌∙◌, subst, inl, inr, arith}
 use Rattle.std.proofs.Math.Bool.{true, false}
 use mathlib.Core.List.{List, [], ◌∷◌, ◌++◌}
-use Rattle.std.proofs.Math.Option.{Option, none, some}
 use Rattle.std.proofs.Math.Decide.{dec_lt}
 use Rattle.laws.specs.Each.{not-both}
 use Rattle.laws.specs.Some.{some_of}
@@ -44,11 +43,11 @@ pub record Stand : Type 0 where
 
 -- "first line 1"
 abbrev pub begin : List ℕ → Stand
-begin t = record { line = 1; position = 0; behind = none; table = t }
+begin t = record { line = 1; position = 0; behind = None; table = t }
 
 -- a line with record r passed, the next one begins at `next`
 abbrev pub onward : Stand → Record → ℕ → Stand
-onward x r next = record { line = x.line + 1; position = next; behind = some r; table = enter_of x.table r }
+onward x r next = record { line = x.line + 1; position = next; behind = Some r; table = enter_of x.table r }
 
 -- the number with which the line there is refused, 0 where it passes
 abbrev pub refusal : List ℕ → Stand → ℕ
@@ -82,7 +81,7 @@ module _ (f : List ℕ) where
   ended : (left : ℕ) (x : Stand) → line_at f x.position ≡ End → is_fault (lines_at (suc left) x) ≡ false
   unfolding lines_from
   ended left x e =
-      ap (λ (l : Line). is_fault (line_read x.line x.behind x.table (λ r next. lines_from f left next (x.line + 1) (some r) (enter_of x.table r)) l)) e
+      ap (λ (l : Line). is_fault (line_read x.line x.behind x.table (λ r next. lines_from f left next (x.line + 1) (Some r) (enter_of x.table r)) l)) e
 
   nothing : (x : Stand) → is_fault (lines_at 0 x) ≡ false
   unfolding lines_from

@@ -4,7 +4,7 @@
 -- `none-zero` 0 exactly where none does · `star-number`, `base-number`, `base-place`, `subdivide-number`, `neighbours-number`, `faces-number`,
 -- `write-number` the calls, by their conditions (`star_rules` .. `write_rules`); `bring`'s stands in Bring, `refine`'s in Refine.
 -- Assumes nothing.
-use Rattle.std.specs.Prelude.{◌≡◌, refl, Bool, true, false, cond, ◌&&◌, not, ◌≢◌, ℕ, eqb, ltb, ℤ, length, drop}
+use Rattle.std.specs.Prelude.{◌≡◌, refl, Bool, true, false, cond, ◌&&◌, not, ◌≢◌, ℕ, eqb, ltb, ℤ, length, drop, Option, Some, None}
 use Rattle.std.proofs.Common.{sym, ◌∙◌, ap}
 use mathlib.Core.List.{List, [], ◌∷◌, ◌++◌, Memᴰ}
 use Rattle.lattice.specs.Points.{normal_of}
@@ -15,8 +15,6 @@ use Rattle.lattice.specs.declared.stars.Answer.{Answer}
 use Rattle.table.specs.Slots.{fits_length, free_slots, cleared_of}
 use Rattle.table.specs.Order.{in_order_of}
 use Rattle.table.specs.Entries.{look_up, is_held}
-use Rattle.table.specs.declared.entries.Looked.{Looked}
-use Rattle.table.specs.declared.entries.Looked.TheVariants.{Absent, Held}
 use Rattle.base.specs.Base.{Laid, Room, NoRoom, base_of, unpaired, bad_place, centres_in, laid_of, from_laid}
 use Rattle.base.specs.Base as laid
 use Rattle.mesh.specs.Subdivide.{subdivide_of, subdivide_looked, subdivided, torn}
@@ -90,9 +88,9 @@ none-zero [] n = refl
 none-zero (r ∷ rs) n = rw n.0 (none-zero rs n.1)
 
 -- a condition on the record that was looked for, where there is one
-abbrev pub of_held : (Record → Bool) → Looked → Bool
-of_held f Absent = false
-of_held f (Held v) = f v
+abbrev pub of_held : (Record → Bool) → Option Record → Bool
+of_held f None = false
+of_held f (Some v) = f v
 
 -- ---- the calls
 -- "a record that isn't valid gets 9, and a valid one of degree 0 gets 14"
@@ -147,7 +145,7 @@ base-place t cs = go (fits_length (length t)) (unpaired cs) (ltb (bad_place cs) 
     go true false false NoRoom = refl
 
 -- Document 02, ticket 7: "The order of checks for subdivision becomes 1, 3, 4, 5, 7, 8", of what is looked up at the normalised point
-abbrev pub subdivide_rules : List ℕ → Looked → List Rule
+abbrev pub subdivide_rules : List ℕ → Option Record → List Rule
 subdivide_rules t l =
     not (in_order_of t) ⇒ 1
     ∷ not (is_held l) ⇒ 3
@@ -174,16 +172,16 @@ subdivide-number t a b m = go (in_order_of t) refl (look_up t (normal_of a b m))
     at v true false false true = refl
     at v true false false false = refl
 
-    go : (o : Bool) → in_order_of t ≡ o → (l : Looked) → (cond o (subdivide_looked t l) (divided.mesh_after 1 t)).number ≡ first_of (subdivide_rules t l)
+    go : (o : Bool) → in_order_of t ≡ o → (l : Option Record) → (cond o (subdivide_looked t l) (divided.mesh_after 1 t)).number ≡ first_of (subdivide_rules t l)
     go false h l = rw h refl
-    go true h Absent = rw h refl
-    go true h (Held v) = rw h (at v (eqb v.d 6) (eqb v.n.0 12) (torn t v) (ltb (free_slots t) 6))
+    go true h None = rw h refl
+    go true h (Some v) = rw h (at v (eqb v.d 6) (eqb v.n.0 12) (torn t v) (ltb (free_slots t) 6))
 
 -- "Queries 1, 3, 14, 7."
-abbrev pub query_rules : List ℕ → Looked → (Record → Bool) → List Rule
+abbrev pub query_rules : List ℕ → Option Record → (Record → Bool) → List Rule
 query_rules t l torn = not (in_order_of t) ⇒ 1 ∷ not (is_held l) ⇒ 3 ∷ of_held (λ v. eqb v.d 0) l ⇒ 14 ∷ of_held torn l ⇒ 7 ∷ []
 
-query-number : (t : List ℕ) (l : Looked) (whole : Record → Bool) (answer : Record → Answer) → ((v : Record) → (answer v).number ≡ 0)
+query-number : (t : List ℕ) (l : Option Record) (whole : Record → Bool) (answer : Record → Answer) → ((v : Record) → (answer v).number ≡ 0)
     → (cond (in_order_of t) (query_looked (λ v. cond (whole v) (answer v) (refused 7)) l) (refused 1)).number ≡ first_of (query_rules t l (λ v. not (whole v)))
 query-number t l whole answer zero = go (in_order_of t) l
   where
@@ -192,11 +190,11 @@ query-number t l whole answer zero = go (in_order_of t) l
     at v false true = zero v
     at v false false = refl
 
-    go : (o : Bool) (l : Looked) → (cond o (query_looked (λ v. cond (whole v) (answer v) (refused 7)) l) (refused 1)).number
+    go : (o : Bool) (l : Option Record) → (cond o (query_looked (λ v. cond (whole v) (answer v) (refused 7)) l) (refused 1)).number
         ≡ first_of (not o ⇒ 1 ∷ not (is_held l) ⇒ 3 ∷ of_held (λ v. eqb v.d 0) l ⇒ 14 ∷ of_held (λ v. not (whole v)) l ⇒ 7 ∷ [])
     go false l = refl
-    go true Absent = refl
-    go true (Held v) = at v (eqb v.d 0) (whole v)
+    go true None = refl
+    go true (Some v) = at v (eqb v.d 0) (whole v)
 
 -- "Torn, neighbours: an adjacent is absent."
 pub neighbours-number : (t : List ℕ) (a b : ℤ) (m : ℕ)

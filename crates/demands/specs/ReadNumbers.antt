@@ -3,11 +3,10 @@
 -- `full-number`, `reduced-number`, `census-number` the order · `line_refused`, `line-passed` the order at one line, and that the line given is its
 -- own · `restore-number` that at one point · `not-grown` 11 is said of records that are not grown · `full-empty`, `reduced-empty` an empty file is 11.
 -- Assumes nothing.
-use Rattle.std.specs.Prelude.{◌≡◌, ◌≢◌, Bool, not, List, [], ◌∷◌, ℕ, suc, ◌+◌, ltb, length}
+use Rattle.std.specs.Prelude.{◌≡◌, ◌≢◌, Bool, not, List, [], ◌∷◌, ℕ, suc, ◌+◌, ltb, length, Option, Some, None}
 use Rattle.std.proofs.Math.Path.{refl}
 use Rattle.std.proofs.Common.{sym, ◌∙◌, ap, arith}
 use Rattle.std.proofs.Math.Bool.{true, false, cond}
-use Rattle.std.proofs.Math.Option.{Option, some}
 use Rattle.laws.specs.Choices.{is_false, is_true}
 use Rattle.laws.specs.Each.{not-both}
 use Rattle.laws.specs.Some.{some_of}
@@ -18,8 +17,6 @@ use Rattle.table.specs.SlotLaws.{lengths-table}
 use Rattle.table.specs.Search.{find_of}
 use Rattle.table.specs.Entries.{enter_of, look_up}
 use Rattle.table.specs.MapLaws.{clear-absent}
-use Rattle.table.specs.declared.entries.Looked.{Looked}
-use Rattle.table.specs.declared.entries.Looked.TheVariants.{Absent, Held}
 use Rattle.table.specs.declared.probe.Found.{Found}
 use Rattle.table.specs.declared.probe.Found.TheVariants as found
 use Rattle.text.specs.Line.{line_at}
@@ -60,7 +57,7 @@ line_rules q t l = is_bad l ⇒ 9 ∷ of_good (λ r. not (above q r)) l ⇒ 10 �
 
 module _ (f : List ℕ) (left p i : ℕ) (q : Option Record) (t : List ℕ) where
   abbrev rest : Record → ℕ → Lines
-  rest r next = lines_from f left next (i + 1) (some r) (enter_of t r)
+  rest r next = lines_from f left next (i + 1) (Some r) (enter_of t r)
 
   -- a line that is refused ends the reading, with its number and its own line
   pub line_refused : first_of (line_rules q t (line_at f p)) ≢ 0 → lines_from f (suc left) p i q t ≡ Fault (first_of (line_rules q t (line_at f p))) i
@@ -80,7 +77,7 @@ module _ (f : List ℕ) (left p i : ℕ) (q : Option Record) (t : List ℕ) wher
 
   -- one that is not enters, and the next line has the next number
   pub line-passed : (r : Record) (next : ℕ) → line_at f p ≡ Good r next → first_of (line_rules q t (line_at f p)) ≡ 0
-      → lines_from f (suc left) p i q t ≡ after r (lines_from f left next (i + 1) (some r) (enter_of t r))
+      → lines_from f (suc left) p i q t ≡ after r (lines_from f left next (i + 1) (Some r) (enter_of t r))
   unfolding lines_from
   line-passed r next e = go (line_at f p) e
     where
@@ -212,9 +209,9 @@ reduced-number t s f = go (lengths_fit t s) (read_lines f (cleared_of t))
     go true (Read rs u) = ended rs u (restore_all rs (With u))
 
 -- a cleared table has no record, and a grown one has some
-none-held : (l : Looked) (r : Record) → l ≡ Absent → as_option l ≡ some r → ⊥
-none-held Absent r e x = let z : ◌≡◌ {A = ℕ} 0 1 = cc in omega arith
-none-held (Held q) r e x = let z : ◌≡◌ {A = ℕ} 0 1 = cc in omega arith
+none-held : (l : Option Record) (r : Record) → l ≡ None → as_option l ≡ Some r → ⊥
+none-held None r e x = let z : ◌≡◌ {A = ℕ} 0 1 = cc in omega arith
+none-held (Some q) r e x = let z : ◌≡◌ {A = ℕ} 0 1 = cc in omega arith
 
 empty-not : (t s : List ℕ) → lengths_fit t s ≡ true → is_grown (cleared_of t) ≡ false
 empty-not t s h =

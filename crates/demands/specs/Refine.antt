@@ -11,7 +11,7 @@ pub use Rattle.outlines.specs.Outlines.{is_finite, beyond}
 pub use Rattle.outlines.specs.TurnLaws.{FirstMet}
 pub use Rattle.outlines.specs.RefineLaws.{Stopped, PassesEnd, ended, stopped}
 pub use Rattle.outlines.specs.GrownLaws.{PassEnd, whole, full}
-use Rattle.std.specs.Prelude.{◌≡◌, ◌⊎◌, Bool, true, false, ◌&&◌, ◌||◌, not, ℕ, ◌<◌, ◌≤◌, eqb, ltb, leb, Float}
+use Rattle.std.specs.Prelude.{◌≡◌, ◌⊎◌, Bool, true, false, ◌&&◌, ◌||◌, not, ℕ, ◌<◌, ◌≤◌, eqb, ltb, leb, Float, Some}
 use Rattle.std.proofs.Math.Path.{refl, ap}
 use Rattle.std.proofs.Common.{sym, ◌∙◌, subst, inl, inr, arith, lt-ltb, le-ltb, le-leb}
 use Rattle.std.proofs.Math.Bool.{cond}
@@ -26,7 +26,6 @@ use Rattle.table.specs.Slots.{lengths_fit, cleared_of}
 use Rattle.table.specs.Order.{InOrder, in_order_of}
 use Rattle.table.specs.Entries.{look_up}
 use Rattle.table.specs.MapLaws.{test-order, order-test}
-use Rattle.table.specs.declared.entries.Looked.TheVariants.{Held}
 use Rattle.sorting.specs.SortLaws.{Rising}
 use Rattle.writers.specs.FileLaws.{Before}
 use Rattle.mesh.specs.Grown.{Grown}
@@ -208,10 +207,10 @@ module _ (t s : List ℕ) (o : Outline) (passes level : ℕ) where
 -- ---- a pass
 module _ (o : Outline) (level : ℕ) (t : List ℕ) (i : InOrder t) where
   -- "One pass lists .. the degree 6 vertices below a given level with a crossing edge": those, as they stand, and no others
-  pub refine-list : (v : Record) → Memᴰ v (list_of o level t) → (look_up t v.at ≡ Held v) × (wanted o level v ≡ true)
+  pub refine-list : (v : Record) → Memᴰ v (list_of o level t) → (look_up t v.at ≡ Some v) × (wanted o level v ≡ true)
   refine-list v m = listed-stands o level t i v m
 
-  pub list-refine : (v : Record) → look_up t v.at ≡ Held v → wanted o level v ≡ true → Memᴰ v (list_of o level t)
+  pub list-refine : (v : Record) → look_up t v.at ≡ Some v → wanted o level v ≡ true → Memᴰ v (list_of o level t)
   list-refine v h e = stands-listed o level t i v h e
 
   -- "in full-file order": each line stands before those after it, so none twice
@@ -221,12 +220,12 @@ module _ (o : Outline) (level : ℕ) (t : List ℕ) (i : InOrder t) where
   module _ (fits : level ≤ 12) where
     -- "and then subdivides them all": after a pass that was made, each listed vertex is what one subdivision makes of it
     pub refine-once : (pass_of o level t).number ≡ 0 → (v : Record) → Memᴰ v (list_of o level t)
-        → look_up (pass_of o level t).bytes v.at ≡ Held (centre_of v)
+        → look_up (pass_of o level t).bytes v.at ≡ Some (centre_of v)
     refine-once z v m = pass-once o level fits t i z v m
 
     -- and no other vertex of degree 6 is subdivided
-    pub refine-others : (pass_of o level t).number ≡ 0 → (v : Record) → look_up t v.at ≡ Held v → v.d ≡ 6 → (Memᴰ v (list_of o level t) → ⊥)
-        → look_up (pass_of o level t).bytes v.at ≡ Held v
+    pub refine-others : (pass_of o level t).number ≡ 0 → (v : Record) → look_up t v.at ≡ Some v → v.d ≡ 6 → (Memᴰ v (list_of o level t) → ⊥)
+        → look_up (pass_of o level t).bytes v.at ≡ Some v
     refine-others z v h six off = pass-others o level fits t i z v h six off
 
     -- "then 7, 8 as the subdivisions, in list order, meet them": the first that is refused, after those before it, gives the number

@@ -4,12 +4,11 @@
 -- ends, `read-untouched`, `read-cleared`, `scratch-cleared` · `census-put`, `census-read`, `census-long`, `program-is` the census.
 -- Queries and the star call are lent nothing to write: `star-refused`, `neighbours-refused`, `faces-refused` "Refused, count 0 and all zeros."
 -- Assumes nothing.
-use Rattle.std.specs.Prelude.{◌≡◌, ◌≢◌, ◌⊎◌, Bool, cond, ◌&&◌, ℕ, ◌≤◌, eqb, ltb, ℤ, length, drop}
+use Rattle.std.specs.Prelude.{◌≡◌, ◌≢◌, ◌⊎◌, Bool, cond, ◌&&◌, ℕ, ◌≤◌, eqb, ltb, ℤ, length, drop, Option, Some, None}
 use Rattle.std.proofs.Math.Path.{refl}
 use Rattle.std.proofs.Common.{sym, ◌∙◌, ap, inl, inr, arith}
 use Rattle.std.proofs.Math.Bool.{true, false}
 use mathlib.Core.List.{List, ◌++◌}
-use Rattle.std.proofs.Math.Option.{none}
 use Rattle.laws.specs.Some.{some_of}
 use Rattle.lattice.specs.Points.{normal_of}
 use Rattle.lattice.specs.Records.{valid_of}
@@ -18,8 +17,6 @@ use Rattle.lattice.specs.Stars as stars
 use Rattle.lattice.specs.declared.records.Record.{Record}
 use Rattle.lattice.specs.declared.stars.Answer.{Answer}
 use Rattle.table.specs.Entries.{look_up}
-use Rattle.table.specs.declared.entries.Looked.{Looked}
-use Rattle.table.specs.declared.entries.Looked.TheVariants.{Absent, Held}
 use Rattle.queries.specs.Queries.{neighbours_of, faces_of, faces_given, query_looked, adjacents_there, corners_there}
 use Rattle.table.specs.Slots.{fits_length, lengths_fit, cleared_of}
 use Rattle.table.specs.Order.{in_order_of}
@@ -66,7 +63,7 @@ star-refused r = go (valid_of r) (eqb r.d 0)
     go true false n = absurd (n refl)
     go false z n = refl
 
-query-refused : (t : List ℕ) (l : Looked) (whole : Record → Bool) (found : Record → Answer) → ((v : Record) → (found v).number ≡ 0)
+query-refused : (t : List ℕ) (l : Option Record) (whole : Record → Bool) (found : Record → Answer) → ((v : Record) → (found v).number ≡ 0)
     → (x : Answer) → x ≡ cond (in_order_of t) (query_looked (λ v. cond (whole v) (found v) (zeros 7)) l) (zeros 1) → x.number ≢ 0 → x ≡ zeros x.number
 query-refused t l whole found zero x e n = go (in_order_of t) l e
   where
@@ -78,10 +75,10 @@ query-refused t l whole found zero x e n = go (in_order_of t) l e
     at v false true h = absurd (n (ap (λ (y : Answer). y.number) h ∙ zero v))
     at v false false h = is 7 h
 
-    go : (o : Bool) (l : Looked) → x ≡ cond o (query_looked (λ v. cond (whole v) (found v) (zeros 7)) l) (zeros 1) → x ≡ zeros x.number
+    go : (o : Bool) (l : Option Record) → x ≡ cond o (query_looked (λ v. cond (whole v) (found v) (zeros 7)) l) (zeros 1) → x ≡ zeros x.number
     go false l h = is 1 h
-    go true Absent h = is 3 h
-    go true (Held v) h = at v (eqb v.d 0) (whole v) h
+    go true None h = is 3 h
+    go true (Some v) h = at v (eqb v.d 0) (whole v) h
 
 pub neighbours-refused : (t : List ℕ) (a b : ℤ) (m : ℕ) → (neighbours_of t a b m).number ≢ 0 → neighbours_of t a b m ≡ zeros (neighbours_of t a b m).number
 unfolding neighbours_of
@@ -158,7 +155,7 @@ module _ (t s f : List ℕ) where
 
   faulty : (n i : ℕ) → read_lines f (cleared_of t) ≡ Fault n i → Ending t s f (read.refused n i t s)
   faulty n i e =
-      let h = fault-number f (length f) 0 1 none (cleared_of t) n i e in
+      let h = fault-number f (length f) 0 1 None (cleared_of t) n i e in
       on_line n i h.0 h.1 (fault-line f (cleared_of t) n i e) refl
 
   pub full-ending : Ending t s f (read_full_of t s f)

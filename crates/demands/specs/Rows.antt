@@ -2,7 +2,7 @@
 -- `slot-bytes` a record in its slot · `line-written`, `line-parsed` its line · `star-rows` a count and six points, at every degree and refused. The rows
 -- of the queries: `queries/specs/Examples`; the C names' own: `flaskbloom/specs/Examples`.
 -- Assumes nothing.
-use Rattle.std.specs.Prelude.{◌≡◌, refl, List, [], ◌∷◌, ◌++◌, ℕ, ℤ, pos, negsuc, replicate}
+use Rattle.std.specs.Prelude.{◌≡◌, refl, List, [], ◌∷◌, ◌++◌, ℕ, ℤ, pos, negsuc, replicate, Some}
 use Rattle.laws.specs.Words.{word_at}
 use Rattle.lattice.specs.Points.{pt, normal_of}
 use Rattle.lattice.specs.Patterns.{orient, pattern_of, rows_of, three, four, five, six}
@@ -12,7 +12,6 @@ use Rattle.lattice.specs.declared.records.Record.{Record}
 use Rattle.table.specs.Slots.{slot_at, free_at, record_at, put_slot, record_bytes, slots_in}
 use Rattle.table.specs.Search.{home_of, same_point, search_from, find_of}
 use Rattle.table.specs.Entries.{enter_of}
-use Rattle.table.specs.declared.slots.Slot.TheVariants.{Holds}
 use Rattle.text.specs.Decimal.{digits, digits_by}
 use Rattle.text.specs.Reading.{run, value, number_at, signed_at}
 use Rattle.text.specs.Line.{point_text, star_text, line_of, place_at, star_at, spelled_at, line_at}
@@ -26,7 +25,7 @@ vertex a b m d k n = record { at = pt a b m; d = d; k = k; n = record { 0 = n } 
 abbrev table : List ℕ
 table = replicate 180 255 ++ (254 ∷ 255 ∷ 255 ∷ 255 ∷ 44 ∷ 1 ∷ 0 ∷ 0 ∷ 1 ∷ 4 ∷ 9 ∷ 3 ∷ [])
 
-pub slot-bytes : (enter_of (replicate 192 255) (vertex (negsuc 1) (pos 300) 1 4 9 3) ≡ table) × (slot_at table 15 ≡ Holds (vertex (negsuc 1) (pos 300) 1 4 9 3))
+pub slot-bytes : (enter_of (replicate 192 255) (vertex (negsuc 1) (pos 300) 1 4 9 3) ≡ table) × (slot_at table 15 ≡ Some (vertex (negsuc 1) (pos 300) 1 4 9 3))
 unfolding enter_of find_of search_from slot_at free_at record_at put_slot record_bytes slots_in home_of same_point word_at
 slot-bytes = (refl, refl)
 

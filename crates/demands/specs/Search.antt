@@ -5,7 +5,7 @@
 -- stands in a slot is found · `told-taken` a record entered takes the slot told · `told-replaced` a record found is written where it was found · `resumed`
 -- when more records have entered (`enter-fills`, `fills-on`), the search that goes on from the slot told ends where the search from home does.
 -- Assumes nothing.
-use Rattle.std.specs.Prelude.{◌≡◌, refl, List, ℕ, ◌<◌}
+use Rattle.std.specs.Prelude.{◌≡◌, refl, List, ℕ, ◌<◌, Option, None}
 use Rattle.std.proofs.Common.{sym, ap, ◌∙◌}
 use Rattle.lattice.specs.declared.points.Point.{Point}
 use Rattle.lattice.specs.declared.records.Record.{Record}
@@ -15,18 +15,16 @@ use Rattle.table.specs.Order.{steps}
 use Rattle.table.specs.Told.{Another}
 use Rattle.table.specs.MapLaws.{find-told}
 use Rattle.table.specs.SearchLaws.{free-holds}
-use Rattle.table.specs.declared.slots.Slot.{Slot}
-use Rattle.table.specs.declared.slots.Slot.TheVariants.{Free}
 use Rattle.table.specs.declared.probe.Found.TheVariants as found
 pub use Rattle.table.specs.Told.{Told, FoundAt, GoesTo, NoSlot, Reaches, Fills}
 pub use Rattle.table.specs.MapLaws.{put-enter as told-taken, put-replace as told-replaced, enter-fills, resumed}
 pub use Rattle.table.specs.MapLaws.{lookup-complete as stands-found}
 
-another-taken : {A : Type 0} (c : Slot) (p : Point) → Another c p → c ≡ Free → A
+another-taken : {A : Type 0} (c : Option Record) (p : Point) → Another c p → c ≡ None → A
 another-taken c p a e = free-holds a.rec e a.holds
 
 -- slots that fill, and fill again
-pub fills-on : (n : ℕ) (f g h : ℕ → Slot) → Fills n f g → Fills n g h → Fills n f h
+pub fills-on : (n : ℕ) (f g h : ℕ → Option Record) → Fills n f g → Fills n g h → Fills n f h
 fills-on n f g h a b s r l e =
     let x = a s r l e in
     let y = b s x.0 l x.1 in
@@ -39,8 +37,8 @@ module _ (t : List ℕ) (n : ℕ) (w : Table t n) (p : Point) where
   -- no slot before the one told, on the way from home, is free
   pub first-free : (i : ℕ) → find_of t p ≡ found.Free i → (s : ℕ) → s < slots_of t
       → steps (slots_of t) (home_of p (slots_of t)) s < steps (slots_of t) (home_of p (slots_of t)) i
-      → slot_at t s ≡ Free → ⊥
+      → slot_at t s ≡ None → ⊥
   first-free i e s h l f = another-taken (slot_at t s) p ((find-told t n w p (found.Free i) (sym e)).way.before s h l) f
 
-  pub no-slot-free : find_of t p ≡ found.Full → (s : ℕ) → s < slots_of t → slot_at t s ≡ Free → ⊥
+  pub no-slot-free : find_of t p ≡ found.Full → (s : ℕ) → s < slots_of t → slot_at t s ≡ None → ⊥
   no-slot-free e s h f = another-taken (slot_at t s) p (find-told t n w p found.Full (sym e) s h) f

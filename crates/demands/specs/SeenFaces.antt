@@ -4,7 +4,7 @@
 -- Which star that vertex has is worked out from the direction of its step (`first_star`, `second_star`); that it fits is one test over degree,
 -- orientation and place. A second opposite at level 0 belongs to no mesh: it is the far end of a kite, whose tip a subdivision made.
 -- Assumes nothing.
-use Rattle.std.specs.Prelude.{◌≡◌, refl, ◌⊎◌, [], ◌∷◌, cond, ℕ, zero, suc, ◌+◌, ◌%◌, ◌/◌, ◌-◌, ◌≤◌, ◌<◌, T, eqb, ℤ, ◌+ℤ◌, get_or}
+use Rattle.std.specs.Prelude.{◌≡◌, refl, ◌⊎◌, [], ◌∷◌, cond, ℕ, zero, suc, ◌+◌, ◌%◌, ◌/◌, ◌-◌, ◌≤◌, ◌<◌, T, eqb, ℤ, ◌+ℤ◌, get_or, Option, Some, None}
 use Rattle.std.proofs.Common.{sym, ◌∙◌, ap, subst, inl, inr, arith}
 use Rattle.laws.specs.Rules.{Test, ◌≤?◌, ◌≡ᶻ?◌, ◌&◌, ◌⇒◌, Means, run, upto, upto-at, rule2}
 use Rattle.lattice.specs.Points.{pt, is_normal, lift}
@@ -16,8 +16,6 @@ use Rattle.lattice.specs.Stars.{scale_of, step_of, adjacent_at, first_at, second
 use Rattle.lattice.specs.declared.points.Point.{Point}
 use Rattle.lattice.specs.declared.records.Level.{Level}
 use Rattle.lattice.specs.declared.records.Record.{Record}
-use Rattle.lattice.specs.declared.patterns.Spot.{Spot}
-use Rattle.lattice.specs.declared.patterns.Spot.TheVariants.{At, Nothing}
 use Rattle.geometry.specs.GeometryLaws.{low-normal, scale-lift, sum_same, sum-sum}
 use Rattle.geometry.specs.StarSteps.{turn_of, down_of}
 use Rattle.firsts.specs.Faces.{next_place}
@@ -28,7 +26,7 @@ pub record Seen (x a o w : Point) : Type 0 where
   pub place : ℕ
   pub at : vertex.at ≡ a
   pub adjacent : adjacent_at vertex place ≡ o
-  pub opposite : (first_at vertex place ≡ w) ⊎ (second_at vertex place ≡ At w)
+  pub opposite : (first_at vertex place ≡ w) ⊎ (second_at vertex place ≡ Some w)
   pub next : adjacent_at vertex (next_place vertex.d place) ≡ x
 
 -- ---- places of pattern points at depth 4, raised by h: what is left of two levels when their common half is taken off
@@ -47,13 +45,13 @@ adds p q r =
 abbrev backs : Point → Point → Test
 backs p q = wide 4 q ≡ᶻ? wide 4 (away p) & high 4 q ≡ᶻ? high 4 (away p) & shallow p & shallow q
 
-abbrev adds_spot : ℕ → Point → Spot → Point → Test
-adds_spot h p (At q) r = adds p (raised h q) r
-adds_spot h p Nothing r = 1 ≤? 0
+abbrev adds_spot : ℕ → Point → Option Point → Point → Test
+adds_spot h p (Some q) r = adds p (raised h q) r
+adds_spot h p None r = 1 ≤? 0
 
 -- one of the opposites of a corner: 0 the first, else the second
-abbrev one_of : ℕ → ℕ → ℕ → ℕ → Spot
-one_of zero d k j = At (first_opposite_of d k j)
+abbrev one_of : ℕ → ℕ → ℕ → ℕ → Option Point
+one_of zero d k j = Some (first_opposite_of d k j)
 one_of (suc c) d k j = second_opposite_of d k j
 
 -- the face of p, o and w, seen from p at place i of a star of degree d and orientation k by its opposite c; g and h raise the two stars
@@ -87,9 +85,9 @@ module _ (x : Point) (n n' : Level) (g g' h : ℕ) (e : n.0 / 2 ≡ g + h) (e' :
       })
       ∙ sum_away x (scale_of n p) (low-normal x t)
 
-  by-spot : (s : Spot) (w : Point) → Means (adds_spot g' (raised g p) s (raised g w)) → on_spot (step_of (step_of x n p) n') s ≡ At (step_of x n w)
-  by-spot (At q) w m = ap At (two_steps q w m)
-  by-spot Nothing w m = absurd (omega (arith, m))
+  by-spot : (s : Option Point) (w : Point) → Means (adds_spot g' (raised g p) s (raised g w)) → on_spot (step_of (step_of x n p) n') s ≡ Some (step_of x n w)
+  by-spot (Some q) w m = ap Some (two_steps q w m)
+  by-spot None w m = absurd (omega (arith, m))
 
   seen : T (is_normal x) → (o w : Point) (d k i c : ℕ) → Means (face_test g g' p o w d k i c) → Seen x (step_of x n p) (step_of x n o) (step_of x n w)
   seen t o w d k i c (a, (b, s)) =
@@ -102,13 +100,13 @@ module _ (x : Point) (n n' : Level) (g g' h : ℕ) (e : n.0 / 2 ≡ g + h) (e' :
         next = step_back (adjacent_of d k (next_place d i)) t b;
       }
     where
-      spot-inj : {y z : Point} → At y ≡ At z → y ≡ z
+      spot-inj : {y z : Point} → Some y ≡ Some z → y ≡ z
       spot-inj {y} {z} q = cc
 
       opp : (c : ℕ) → Means (adds_spot g' (raised g p) (one_of c d k i) (raised g w))
           → (step_of (step_of x n p) n' (first_opposite_of d k i) ≡ step_of x n w)
-          ⊎ (on_spot (step_of (step_of x n p) n') (second_opposite_of d k i) ≡ At (step_of x n w))
-      opp zero m = inl (spot-inj (by-spot (At (first_opposite_of d k i)) w m))
+          ⊎ (on_spot (step_of (step_of x n p) n') (second_opposite_of d k i) ≡ Some (step_of x n w))
+      opp zero m = inl (spot-inj (by-spot (Some (first_opposite_of d k i)) w m))
       opp (suc c) m = inr (by-spot (second_opposite_of d k i) w m)
 
 -- ---- the star that is seen from, by the direction e of the step to it
@@ -116,9 +114,9 @@ module _ (x : Point) (n n' : Level) (g g' h : ℕ) (e : n.0 / 2 ≡ g + h) (e' :
 unfoldable acute : ℕ → ℕ → ℕ
 acute d j = get_or (cond (eqb d 4) (0 ∷ 0 ∷ 1 ∷ 0 ∷ []) (cond (eqb d 5) (0 ∷ 1 ∷ 1 ∷ 1 ∷ 0 ∷ []) (cond (eqb d 6) (1 ∷ 1 ∷ 1 ∷ 1 ∷ 1 ∷ 1 ∷ []) []))) j 0
 
-abbrev has : Spot → ℕ
-has (At p) = 1
-has Nothing = 0
+abbrev has : Option Point → ℕ
+has (Some p) = 1
+has None = 0
 
 record Star : Type 0 where
   deg : ℕ
@@ -152,11 +150,11 @@ abbrev star_test : ℕ → ℕ → ℕ → ℕ → ℕ → Point → Star → Te
 star_test g h d k j o s = face_test g h (adjacent_of d k j) o (adjacent_of d k (next_place d j)) s.deg s.turn s.place s.which
 
 -- the second opposite, where there is one; an acute corner from its own level, any other from a level below
-abbrev second_test : ℕ → ℕ → ℕ → Spot → Test
-second_test d k j (At o) =
+abbrev second_test : ℕ → ℕ → ℕ → Option Point → Test
+second_test d k j (Some o) =
     (1 ≤? acute d j ⇒ star_test 0 ((k % 2 + down_of d j) / 2) d k j o (second_star d k j))
     & (acute d j ≤? 0 ⇒ star_test (((k + 1) % 2 + 1) / 2) 0 d k j o (second_star d k j))
-second_test d k j Nothing = 0 ≤? 0
+second_test d k j None = 0 ≤? 0
 
 abbrev both_tests : ℕ → ℕ → ℕ → Test
 both_tests d k j =
@@ -189,7 +187,7 @@ module _ (v : Record) (i : Inner v) (hk : v.k < 12) (j : ℕ) (hj : j < v.d) whe
       seen v.at v.n (level (v.n.0 + t)) 0 ((v.k % 2 + t) / 2) (v.n.0 / 2) same_half (further t) (adjacent_of v.d v.k j) i.normal
       (first_opposite_of v.d v.k j) (adjacent_of v.d v.k (next_place v.d j)) s.deg s.turn s.place s.which holds.0
 
-  pub second-seen : (o : Point) → second_at v j ≡ At o → 0 < v.n.0 → Seen v.at (adjacent_at v j) o (adjacent_at v (next_place v.d j))
+  pub second-seen : (o : Point) → second_at v j ≡ Some o → 0 < v.n.0 → Seen v.at (adjacent_at v j) o (adjacent_at v (next_place v.d j))
   second-seen o e up = go (second_opposite_of v.d v.k j) holds.1.0 e
     where
       s : Star
@@ -198,14 +196,14 @@ module _ (v : Record) (i : Inner v) (hk : v.k < 12) (j : ℕ) (hj : j < v.d) whe
       t : ℕ
       t = down_of v.d j
 
-      spot-inj : {y z : Point} → At y ≡ At z → y ≡ z
+      spot-inj : {y z : Point} → Some y ≡ Some z → y ≡ z
       spot-inj {y} {z} q = cc
 
-      spot-none : {y : Point} → Nothing ≡ At y → ⊥
+      spot-none : {y : Point} → None ≡ Some y → ⊥
       spot-none {y} q = let z : ◌≡◌ {A = ℕ} 0 1 = cc in omega arith
 
       -- from the level of the step, or from one below the star's
-      from : (q : Point) → Means (second_test v.d v.k j (At q)) → (a : ℕ) → acute v.d j ≡ a → a ≤ 1
+      from : (q : Point) → Means (second_test v.d v.k j (Some q)) → (a : ℕ) → acute v.d j ≡ a → a ≤ 1
           → Seen v.at (adjacent_at v j) (step_of v.at v.n q) (adjacent_at v (next_place v.d j))
       from q (x, y) (suc zero) f l =
           seen v.at v.n (level (v.n.0 + t)) 0 ((v.k % 2 + t) / 2) (v.n.0 / 2) same_half (further t) (adjacent_of v.d v.k j) i.normal
@@ -216,8 +214,8 @@ module _ (v : Record) (i : Inner v) (hk : v.k < 12) (j : ℕ) (hj : j < v.d) whe
           q (adjacent_of v.d v.k (next_place v.d j)) s.deg s.turn s.place s.which (y (omega arith))
       from q m (suc (suc a)) f l = absurd (omega arith)
 
-      go : (p : Spot) → Means (second_test v.d v.k j p) → on_spot (step_of v.at v.n) p ≡ At o
+      go : (p : Option Point) → Means (second_test v.d v.k j p) → on_spot (step_of v.at v.n) p ≡ Some o
           → Seen v.at (adjacent_at v j) o (adjacent_at v (next_place v.d j))
-      go (At q) m f =
+      go (Some q) m f =
           subst (λ (y : Point). Seen v.at (adjacent_at v j) y (adjacent_at v (next_place v.d j))) (spot-inj f) (from q m (acute v.d j) refl holds.1.1)
-      go Nothing m f = absurd (spot-none f)
+      go None m f = absurd (spot-none f)

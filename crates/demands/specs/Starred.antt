@@ -1,7 +1,7 @@
 -- Document 01's starred bench examples, its two censuses with document 02's E: one table, `starred`, and one statement, `starred-hold`: what the
 -- promises' definitions compute is what the documents say. They stand nowhere else.
 -- Assumes nothing.
-use Rattle.std.specs.Prelude.{◌≡◌, refl, Bool, true, false, cond, List, [], ◌∷◌, ◌++◌, map, ℕ, zero, suc, ◌*◌, eqb, ℤ, pos, negsuc, length, replicate}
+use Rattle.std.specs.Prelude.{◌≡◌, refl, Bool, true, false, cond, List, [], ◌∷◌, ◌++◌, map, ℕ, zero, suc, ◌*◌, eqb, ℤ, pos, negsuc, length, replicate, Option, Some, None}
 use Rattle.laws.specs.Words.{word_at}
 use Rattle.lattice.specs.Points.{pt, normal_of, turns}
 use Rattle.lattice.specs.Patterns.{adjacent_of, orient, pattern_of, rows_of, three, four, five, six}
@@ -12,8 +12,6 @@ use Rattle.table.specs.Slots.{slot_width, slot_at, free_at, record_at, put_slot,
 use Rattle.table.specs.Search.{home_of, same_point, search_from, find_of}
 use Rattle.table.specs.Order.{in_order_of, all_placed, placed_at}
 use Rattle.table.specs.Entries.{look_up, enter_of, replace_of, records_of, records_below}
-use Rattle.table.specs.declared.entries.Looked.{Looked}
-use Rattle.table.specs.declared.entries.Looked.TheVariants.{Absent, Held}
 use Rattle.base.specs.Base.{base_of, first_bad, laid_of, lay_all, lay_hexagon, hexagon_of, corner_record, internal, listed_in}
 use Rattle.mesh.specs.Subdivide.{subdivide_of, subdivided, torn, renewed_to, entered_to}
 use Rattle.queries.specs.Queries.{neighbours_of, adjacents_there, chosen_at}
@@ -43,9 +41,9 @@ of_point p = p.a ∷ p.b ∷ pos p.m.0 ∷ []
 abbrev of_star : Record → List ℤ
 of_star r = pos r.d ∷ pos r.k ∷ pos r.n.0 ∷ []
 
-abbrev of_looked : Looked → List ℤ
-of_looked Absent = []
-of_looked (Held r) = of_point r.at ++ of_star r
+abbrev of_looked : Option Record → List ℤ
+of_looked None = []
+of_looked (Some r) = of_point r.at ++ of_star r
 
 abbrev star_at : List ℕ → ℤ → ℤ → ℕ → List ℤ
 star_at t a b m = of_looked (look_up t (pt a b m))

@@ -6,7 +6,7 @@
 -- one test over degree, orientation and place.
 -- Assumes nothing.
 use Rattle.std.proofs.Math.Path.{◌≡◌, sym, ap}
-use Rattle.std.specs.Prelude.{refl, Bool, ℕ, suc, ◌+◌, ◌*◌, ◌/◌, ◌-◌, ◌^◌, ◌≤◌, ◌<◌, ℤ, nat_abs, ◌+ℤ◌, ◌-ℤ◌, ◌*ℤ◌}
+use Rattle.std.specs.Prelude.{refl, Bool, ℕ, suc, ◌+◌, ◌*◌, ◌/◌, ◌-◌, ◌^◌, ◌≤◌, ◌<◌, ℤ, nat_abs, ◌+ℤ◌, ◌-ℤ◌, ◌*ℤ◌, Option, Some, None}
 use Rattle.std.proofs.Common.{◌∙◌, subst, arith, mul-pos}
 use Rattle.std.proofs.Math.Bool.{true, false, cond}
 use mathlib.Core.List.Memᴰ
@@ -25,8 +25,6 @@ use Rattle.lattice.specs.Stars.{scale_of, step_of, adjacent_at, first_at, second
 use Rattle.lattice.specs.declared.points.Point.{Point}
 use Rattle.lattice.specs.declared.records.Level.{Level}
 use Rattle.lattice.specs.declared.records.Record.{Record}
-use Rattle.lattice.specs.declared.patterns.Spot.{Spot}
-use Rattle.lattice.specs.declared.patterns.Spot.TheVariants.{At, Nothing}
 use Rattle.geometry.specs.GeometryLaws.{scale-lift}
 use Rattle.table.specs.Order.{InOrder}
 use Rattle.table.specs.Entries.{records_of, holds}
@@ -148,12 +146,12 @@ module _ (x : Point) (n : Level) where
       record { at-q = left o P Q a; at-r = left P Q R b; at-s = left Q R o c; at_p = left R o P d }
 
 -- ---- the patterns
-abbrev spot_test : ℕ → ℕ → ℕ → Spot → Test
-spot_test d k j (At o) = round_test (adjacent_of d k j) o (adjacent_of d k (next_place d j))
-spot_test d k j Nothing = 0 ≤? 0
+abbrev spot_test : ℕ → ℕ → ℕ → Option Point → Test
+spot_test d k j (Some o) = round_test (adjacent_of d k j) o (adjacent_of d k (next_place d j))
+spot_test d k j None = 0 ≤? 0
 
 abbrev corner_test : ℕ → ℕ → ℕ → Test
-corner_test d k j = spot_test d k j (At (first_opposite_of d k j)) & spot_test d k j (second_opposite_of d k j)
+corner_test d k j = spot_test d k j (Some (first_opposite_of d k j)) & spot_test d k j (second_opposite_of d k j)
 
 corners-hold : (d k j : ℕ) → 3 ≤ d → d ≤ 6 → k < 12 → j < d → Means (corner_test d k j)
 unfolding orient pattern_of rows_of three four five six origin
@@ -170,16 +168,16 @@ module _ (v : Record) (i : Inner v) (hk : v.k < 12) (j : ℕ) (hj : j < v.d) whe
   first-left =
       round v.at v.n (adjacent_of v.d v.k j) (first_opposite_of v.d v.k j) (adjacent_of v.d v.k (next_place v.d j)) corner.0
 
-  pub second-left : (o : Point) → second_at v j ≡ At o → LeftRound v.at (adjacent_at v j) o (adjacent_at v (next_place v.d j))
+  pub second-left : (o : Point) → second_at v j ≡ Some o → LeftRound v.at (adjacent_at v j) o (adjacent_at v (next_place v.d j))
   second-left o e = go (second_opposite_of v.d v.k j) corner.1 e
     where
-      go : (s : Spot) → Means (spot_test v.d v.k j s) → on_spot (step_of v.at v.n) s ≡ At o
+      go : (s : Option Point) → Means (spot_test v.d v.k j s) → on_spot (step_of v.at v.n) s ≡ Some o
           → LeftRound v.at (adjacent_at v j) o (adjacent_at v (next_place v.d j))
-      go (At q) m f =
+      go (Some q) m f =
           let g : step_of v.at v.n q ≡ o = cc in
           subst (λ (y : Point). LeftRound v.at (adjacent_at v j) y (adjacent_at v (next_place v.d j))) g
           (round v.at v.n (adjacent_of v.d v.k j) q (adjacent_of v.d v.k (next_place v.d j)) m)
-      go Nothing m f = absurd (let z : ◌≡◌ {A = ℕ} 0 1 = cc in omega arith)
+      go None m f = absurd (let z : ◌≡◌ {A = ℕ} 0 1 = cc in omega arith)
 
 -- ---- the faces of a table
 abbrev pub LeftFace : Face → Type 0
@@ -203,19 +201,19 @@ module _ (t : List ℕ) (o : InOrder t) (v : Record) (m : Memᴰ v (records_of t
     i : Inner v
     i = inner v (of-true valid) (λ e. omega arith)
 
-    chosen-left : (q : Point) → chosen_at t v j ≡ At q → LeftFace (face v.at (adjacent_at v j) q (adjacent_at v (next_place v.d j)))
+    chosen-left : (q : Point) → chosen_at t v j ≡ Some q → LeftFace (face v.at (adjacent_at v j) q (adjacent_at v (next_place v.d j)))
     unfolding chosen_at
     chosen-left q = go (holds t (first_at v j))
       where
-        else-left : (s : Spot) → second_at v j ≡ s → there t s ≡ At q → LeftFace (face v.at (adjacent_at v j) q (adjacent_at v (next_place v.d j)))
-        else-left (At p) e f = second-left v i (valid-turn v (of-true valid)) j h q (e ∙ held (holds t p) f)
+        else-left : (s : Option Point) → second_at v j ≡ s → there t s ≡ Some q → LeftFace (face v.at (adjacent_at v j) q (adjacent_at v (next_place v.d j)))
+        else-left (Some p) e f = second-left v i (valid-turn v (of-true valid)) j h q (e ∙ held (holds t p) f)
           where
-            held : (b : Bool) → cond b (At p) Nothing ≡ At q → At p ≡ At q
+            held : (b : Bool) → cond b (Some p) None ≡ Some q → Some p ≡ Some q
             held true f = f
             held false f = absurd (let z : ◌≡◌ {A = ℕ} 0 1 = cc in omega arith)
-        else-left Nothing e f = absurd (let z : ◌≡◌ {A = ℕ} 0 1 = cc in omega arith)
+        else-left None e f = absurd (let z : ◌≡◌ {A = ℕ} 0 1 = cc in omega arith)
 
-        go : (b : Bool) → cond b (At (first_at v j)) (there t (second_at v j)) ≡ At q
+        go : (b : Bool) → cond b (Some (first_at v j)) (there t (second_at v j)) ≡ Some q
             → LeftFace (face v.at (adjacent_at v j) q (adjacent_at v (next_place v.d j)))
         go true e =
             let g : first_at v j ≡ q = cc in
@@ -223,9 +221,9 @@ module _ (t : List ℕ) (o : InOrder t) (v : Record) (m : Memᴰ v (records_of t
             (first-left v i (valid-turn v (of-true valid)) j h)
         go false e = else-left (second_at v j) refl e
 
-    spot-left : (s : Spot) → chosen_at t v j ≡ s → (f : Face) → Memᴰ f (face_with v j s) → LeftFace f
-    spot-left (At q) e f n = subst LeftFace (sym (Memᴰ.eq_of_singleton n)) (chosen-left q e)
-    spot-left Nothing e f n = absurd (Memᴰ.not-nil n)
+    spot-left : (s : Option Point) → chosen_at t v j ≡ s → (f : Face) → Memᴰ f (face_with v j s) → LeftFace f
+    spot-left (Some q) e f n = subst LeftFace (sym (Memᴰ.eq_of_singleton n)) (chosen-left q e)
+    spot-left None e f n = absurd (Memᴰ.not-nil n)
 
   pub face-left : (f : Face) → Memᴰ f (faces_at t v) → LeftFace f
   face-left f n =

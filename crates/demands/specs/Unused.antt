@@ -3,7 +3,7 @@
 -- `never-deeper` · `taken_out` is 6, `Answers`, `unused` no call answers it · `neighbours-unused`, `faces-unused` nor does one of many queries,
 -- `input-unused` nor is it the number in the census's `refused`.
 -- Assumes nothing.
-use Rattle.std.specs.Prelude.{◌≡◌, ◌≢◌, ◌⊎◌, Bool, true, false, cond, ◌&&◌, not, List, [], ◌∷◌, ℕ, zero, suc, ◌+◌, ◌*◌, ◌≤◌, ◌<◌, T, eqb, ltb, leb, ℤ, pos, length, get_or}
+use Rattle.std.specs.Prelude.{◌≡◌, ◌≢◌, ◌⊎◌, Bool, true, false, cond, ◌&&◌, not, List, [], ◌∷◌, ℕ, zero, suc, ◌+◌, ◌*◌, ◌≤◌, ◌<◌, T, eqb, ltb, leb, ℤ, pos, length, get_or, Some}
 use Rattle.std.proofs.Common.{sym, ◌∙◌, ap, subst, inl, inr, arith}
 use Rattle.laws.specs.Bools.{and_left, and_right}
 use Rattle.laws.specs.Choices.{of-true}
@@ -18,7 +18,6 @@ use Rattle.table.specs.Slots.{lengths_fit}
 use Rattle.table.specs.Order.{InOrder, in_order_of}
 use Rattle.table.specs.Entries.{look_up}
 use Rattle.table.specs.MapLaws.{lookup-valid}
-use Rattle.table.specs.declared.entries.Looked.TheVariants.{Held}
 use Rattle.mesh.specs.Subdivide.{MeshAfter, Many, subdivide_of, subdivide_triple, subdivide_from, subdivide_all_of}
 use Rattle.queries.specs.Queries.{neighbours_of, faces_of, adjacents_there, corners_there}
 use Rattle.queries.specs.Many.{triple_of, answer_width, AnswersAfter, all_of}
@@ -43,7 +42,7 @@ use Rattle.demands.specs.Viewer.{view_rules, view-number}
 use Rattle.demands.specs.Salvage.{salvage-least}
 use Rattle.demands.specs.Engine.{vertex_rules, vertex-number, rows_rules, rows-number}
 
-pub never-deeper : (t : List ℕ) → InOrder t → (p : Point) (v : Record) → look_up t p ≡ Held v → v.d ≡ 6 → v.n.0 < 12
+pub never-deeper : (t : List ℕ) → InOrder t → (p : Point) (v : Record) → look_up t p ≡ Some v → v.d ≡ 6 → v.n.0 < 12
     → (j : ℕ) → j < 6 → (new_of v j).at.m.0 ≤ 6
 never-deeper t o p v e six low j h = omega (arith, new-depth v (of-true (lookup-valid t o p v e)) six (omega arith) j h)
 

@@ -6,7 +6,7 @@
 -- ten-thousandth, and no other so near, and its digits are worth so many (`Worth`); `zero-plain` "zero has no sign" · `Head`, `off_head`, `obj-head` the
 -- counts are the census's V, F and E.
 -- Assumes nothing.
-use Rattle.std.specs.Prelude.{◌≡◌, ◌≢◌, Bool, cond, not, ℕ, eqb, ltb, ℤ, pos, negsuc, nat_abs}
+use Rattle.std.specs.Prelude.{◌≡◌, ◌≢◌, Bool, cond, not, ℕ, eqb, ltb, ℤ, pos, negsuc, nat_abs, Option, Some, None}
 use Rattle.std.proofs.Math.Path.{refl}
 use Rattle.std.proofs.Common.{sym, ap, ◌∙◌, subst, arith, eqb-true}
 use Rattle.std.proofs.Math.Bool.{true, false}
@@ -21,8 +21,6 @@ use Rattle.lattice.specs.declared.records.Record.{Record}
 use Rattle.table.specs.Order.{InOrder, in_order_of}
 use Rattle.table.specs.Entries.{look_up, records_of}
 use Rattle.table.specs.MapLaws.{test-order, order-test, records-looked, looked-records, lookup-valid}
-use Rattle.table.specs.declared.entries.Looked.{Looked}
-use Rattle.table.specs.declared.entries.Looked.TheVariants.{Absent, Held}
 use Rattle.queries.specs.Queries.{faces_of}
 use Rattle.firsts.specs.Faces.{faces_at, same_face}
 use Rattle.firsts.specs.FaceLaws.{SameRound}
@@ -237,7 +235,7 @@ module _ (s : Style) (t out : List ℕ) where
 
 module _ (t : List ℕ) (o : InOrder t) where
   -- the faces query of a vertex
-  asked : (a b : ℤ) (m : ℕ) (r : Record) → look_up t (normal_of a b m) ≡ Held r
+  asked : (a b : ℤ) (m : ℕ) (r : Record) → look_up t (normal_of a b m) ≡ Some r
       → (faces_of t a b m).number ≡ first_of (eqb r.d 0 ⇒ 14 ∷ torn_at t r ⇒ 7 ∷ [])
   asked a b m r e =
       faces-number t a b m
@@ -268,7 +266,7 @@ module _ (t : List ℕ) (o : InOrder t) where
   unfolding torn_of
   query-torn a b m n = go (look_up t (normal_of a b m)) refl
     where
-      held : (r : Record) → look_up t (normal_of a b m) ≡ Held r → (z w : Bool) → torn_at t r ≡ w → first_of (z ⇒ 14 ∷ w ⇒ 7 ∷ []) ≡ 7 → torn_of t ≡ true
+      held : (r : Record) → look_up t (normal_of a b m) ≡ Some r → (z w : Bool) → torn_at t r ≡ w → first_of (z ⇒ 14 ∷ w ⇒ 7 ∷ []) ≡ 7 → torn_of t ≡ true
       held r e true w h k = absurd (omega arith)
       held r e false false h k = absurd (omega arith)
       held r e false true h k = at_some (torn_at t) (records_of t) r (looked-records t o (normal_of a b m) r e) h
@@ -277,7 +275,7 @@ module _ (t : List ℕ) (o : InOrder t) where
       absent true k = omega arith
       absent false k = omega arith
 
-      go : (l : Looked) → look_up t (normal_of a b m) ≡ l → torn_of t ≡ true
-      go Absent e =
+      go : (l : Option Record) → look_up t (normal_of a b m) ≡ l → torn_of t ≡ true
+      go None e =
           absurd (absent (not (in_order_of t)) (sym (λ i. first_of (query_rules t (e i) (torn_at t))) ∙ sym (faces-number t a b m) ∙ n))
-      go (Held r) e = held r e (eqb r.d 0) (torn_at t r) refl (sym (asked a b m r e) ∙ n)
+      go (Some r) e = held r e (eqb r.d 0) (torn_at t r) refl (sym (asked a b m r e) ∙ n)

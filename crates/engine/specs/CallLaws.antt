@@ -1,5 +1,6 @@
 -- The calls by cases: the lists judged, and what is then told.
--- `judge-bad`, `judge-long`, `judge-unfit`, `judge-good` the number · `ready_by` what is then known · `call-refused`, `call-told` the answer.
+-- `judge-bad`, `judge-long`, `judge-unfit`, `judge-good` the number · `ready_by` what is then known ·
+-- `call-refused`, `call-told` the answer.
 -- Assumes nothing.
 use Rattle.std.specs.Prelude.{◌≡◌, ◌≢◌, Bool, ◌&&◌, List, ℕ, ◌%◌, ◌≤◌, ◌<◌, ltb, ℤ, length}
 use Rattle.std.proofs.Math.Path.{refl}
@@ -7,6 +8,9 @@ use Rattle.std.proofs.Common.{sym, ◌∙◌, subst, arith, eq-eqb, ne_eqb, lt-l
 use Rattle.std.proofs.Math.Bool.{true, false, cond}
 use Rattle.lattice.specs.Points.{normal_of}
 use Rattle.lattice.specs.Records.{nobody}
+use Rattle.lattice.specs.Refusals.{number_of}
+use Rattle.lattice.specs.declared.refusals.Refusal.{Refusal}
+use Rattle.lattice.specs.declared.refusals.Refusal.TheVariants.{NotInOrder, BadList, NoRecord, NotSix, LastLevel, Torn, NoRoom, NotValid, NotAbove, NotGrown, Redundant, Short, Boundary, BadFinding, AtTheRim, BadOutline, TwoRecords, NotLeft}
 use Rattle.growth.specs.Sheets.{CentreSet}
 use Rattle.centres.specs.Centres.{centres_in, is_listed, bad_place, unpaired}
 use Rattle.centres.specs.Marks.{in_marks}

@@ -2,11 +2,10 @@
 -- `Spelled` a list of numbers is a list of pairs, whole · `good-unbad`, `unbad-good` "2" exactly where the base list is refused · `traced-told` the record of
 -- the sheet that a sequence leaves · `Ends`, `how-it-ends` · `refused-21`, `untraced-21` the two directions · `somebody` no vertex's record is all zeros. That it is so of tables is crate agreed.
 -- Assumes nothing.
-use Rattle.std.specs.Prelude.{◌≡◌, ◌≢◌, Bool, true, false, ◌&&◌, List, ℕ, ◌+◌, ◌-◌, ◌%◌, eqb, ltb, ℤ, length}
+use Rattle.std.specs.Prelude.{◌≡◌, ◌≢◌, Bool, true, false, ◌&&◌, List, ℕ, ◌+◌, ◌-◌, ◌%◌, eqb, ltb, ℤ, length, Option, Some, None}
 use Rattle.std.proofs.Math.Path.{refl}
 use Rattle.std.proofs.Common.{sym, ◌∙◌, ap, arith, eq-eqb, ltb-false, le-ltb, eqb-true}
 use Rattle.std.proofs.Math.Bool.{cond}
-use Rattle.std.proofs.Math.Option.{Option, none, some}
 use Rattle.laws.specs.Each.{not-both, both_left, both_right}
 use Rattle.laws.specs.Choices.{of-true}
 use Rattle.lattice.specs.Points.{normal_of}
@@ -72,8 +71,8 @@ module _ (cs ps : List ℤ) (a b : ℤ) (m : ℕ) where
   pub data Ends : Type 0 where
     bad : (GoodList cs → ⊥) → vertex_of cs ps a b m ≡ refusal 2 → Ends
     unmade : GoodList cs → ((l : List Division) (R : Sheet) → Spelled ps l → Traced H l R → ⊥) → vertex_of cs ps a b m ≡ refusal 21 → Ends
-    absent : GoodList cs → (l : List Division) (R : Sheet) → Spelled ps l → Traced H l R → R p ≡ none → vertex_of cs ps a b m ≡ refusal 3 → Ends
-    given : GoodList cs → (l : List Division) (R : Sheet) → Spelled ps l → Traced H l R → (r : Record) → R p ≡ some r
+    absent : GoodList cs → (l : List Division) (R : Sheet) → Spelled ps l → Traced H l R → R p ≡ None → vertex_of cs ps a b m ≡ refusal 3 → Ends
+    given : GoodList cs → (l : List Division) (R : Sheet) → Spelled ps l → Traced H l R → (r : Record) → R p ≡ Some r
         → vertex_of cs ps a b m ≡ vertex_after 0 r → Ends
 
   -- what is judged good is left by a sequence
@@ -87,8 +86,8 @@ module _ (cs ps : List ℤ) (a b : ℤ) (m : ℕ) where
   how-it-ends = go (bad_base cs) refl (left_by H ps) refl
     where
       told-by : GoodList cs → (l : List Division) (R : Sheet) → Spelled ps l → Traced H l R → (o : Option Record) → R p ≡ o → Ends
-      told-by g l R s k none e = absent g l R s k e (traced-told g l R k s ∙ ap tell_at e)
-      told-by g l R s k (some r) e = given g l R s k r e (traced-told g l R k s ∙ ap tell_at e)
+      told-by g l R s k None e = absent g l R s k e (traced-told g l R k s ∙ ap tell_at e)
+      told-by g l R s k (Some r) e = given g l R s k r e (traced-told g l R k s ∙ ap tell_at e)
 
       go : (x : Bool) → bad_base cs ≡ x → (y : Bool) → left_by H ps ≡ y → Ends
       go true e y f = bad (λ g. not-both e (good-unbad cs g)) (answer-2 e)
@@ -131,7 +130,7 @@ star-some p false true false true i k b n e = omega arith
 star-some p false false true true i k b n e = omega arith
 star-some p false true true true i k b n e = omega arith
 
-pub somebody : (H : Point → Bool) (ps : List ℤ) (n : ℕ) (p : Point) → record_by H ps n p ≢ some nobody
+pub somebody : (H : Point → Bool) (ps : List ℤ) (n : ℕ) (p : Point) → record_by H ps n p ≢ Some nobody
 unfolding record_by
 somebody H ps n p = go (present_by H ps n p) refl (internal_of H p) refl
   where
@@ -141,14 +140,14 @@ somebody H ps n p = go (present_by H ps n p) refl (internal_of H p) refl
     told : Bool → Record
     told i = cond i (star_by ps n p level) (vertex p 0 0 0)
 
-    is : (a : Record) → some a ≡ some nobody → a ≡ nobody
+    is : (a : Record) → Some a ≡ Some nobody → a ≡ nobody
     is a e = cc
 
     -- the hexagon at [0, 0] is listed, or it is not
     centre : present_by H ps n nobody.at ≡ internal_of H nobody.at
     centre = unfold present_by internal_of in refl
 
-    go : (b : Bool) → present_by H ps n p ≡ b → (i : Bool) → internal_of H p ≡ i → cond b (some (told i)) none ≢ some nobody
+    go : (b : Bool) → present_by H ps n p ≡ b → (i : Bool) → internal_of H p ≡ i → cond b (Some (told i)) None ≢ Some nobody
     go false f i g e = let z : ◌≡◌ {A = ℕ} 0 1 = cc in omega arith
     go true f true g e =
         star-some p (eqb (rank_of p) 0) (made_at ps n (parent_of p 0) (rank_of p - 1)) (made_at ps n (parent_of p 1) (rank_of p - 1))

@@ -4,8 +4,7 @@
 -- `pair_point`, `pair_level` the pairs of a list · `made_at`, `times_of` which of the first n were made, how often · `record_by` the record at a point, by
 -- these · `fits_at`, `judged_to`, `left_by` the list judged · `VertexAfter`, `vertex_of` what the call answers.
 -- That 21 comes exactly where it should is Ends, that it is the tables' record crate agreed. Assumes nothing.
-use Rattle.std.specs.Prelude.{Bool, true, false, cond, ◌&&◌, List, ℕ, zero, suc, ◌+◌, ◌*◌, ◌-◌, ◌/◌, ◌%◌, eqb, ltb, ℤ, pos, nat_abs, length, get_or}
-use Rattle.std.proofs.Math.Option.{Option, none, some}
+use Rattle.std.specs.Prelude.{Bool, true, false, cond, ◌&&◌, List, ℕ, zero, suc, ◌+◌, ◌*◌, ◌-◌, ◌/◌, ◌%◌, eqb, ltb, ℤ, pos, nat_abs, length, get_or, Option, Some, None}
 use Rattle.laws.specs.Rules.{upto, among, eq_z}
 use Rattle.laws.specs.Choices.{unless}
 use Rattle.laws.specs.Triples.{is_byte}
@@ -62,13 +61,13 @@ star_by ps n p l =
 -- a boundary vertex has degree 0; the level of degree 6 is the rank and one more for each own subdivision
 unfoldable pub record_by : (Point → Bool) → List ℤ → ℕ → Point → Option Record
 record_by H ps n p =
-    cond (present_by H ps n p) (some (cond (internal_of H p) (star_by ps n p (rank_of p + times_of ps n p)) (vertex p 0 0 0))) none
+    cond (present_by H ps n p) (Some (cond (internal_of H p) (star_by ps n p (rank_of p + times_of ps n p)) (vertex p 0 0 0))) None
 
 -- ---- "21 for a list that no sequence of accepted subdivisions from that base leaves"
 -- of degree 6, at this level, and below level 12
 abbrev pub six_at : ℤ → Option Record → Bool
-six_at z none = false
-six_at z (some r) = eqb r.d 6 && (ltb r.n.0 12 && eq_z z (pos r.n.0))
+six_at z None = false
+six_at z (Some r) = eqb r.d 6 && (ltb r.n.0 12 && eq_z z (pos r.n.0))
 
 -- pair j, when its turn comes: its vertex, worked out by the pairs before it, can be subdivided, and stands at its level
 unfoldable pub fits_at : (Point → Bool) → List ℤ → ℕ → Bool
@@ -95,8 +94,8 @@ refusal n = vertex_after n nobody
 
 -- "3 for an absent vertex"
 abbrev pub tell_at : Option Record → VertexAfter
-tell_at none = refusal 3
-tell_at (some r) = vertex_after 0 r
+tell_at None = refusal 3
+tell_at (Some r) = vertex_after 0 r
 
 -- "2": as `base_of` judges the list
 abbrev pub bad_base : List ℤ → Bool

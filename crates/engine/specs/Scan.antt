@@ -1,12 +1,13 @@
 -- What one scan of the pairs sees, and the record by it: what the promises of the functions below the calls cite.
 -- `Depths` the pairs' depths are bytes · `unseen`, `see_of`, `seen_of` the scan · `wanted_of` what is looked for · `star_seen`, `tell_by` the record by what was
--- seen · `asked` the code's answer as an option.
+-- seen.
 -- Assumes nothing.
-use Rattle.std.specs.Prelude.{◌≡◌, Bool, true, false, cond, ◌&&◌, ◌||◌, List, ℕ, ◌+◌, ◌-◌, ◌%◌, ◌<◌, eqb, ℤ, pos}
-use Rattle.std.proofs.Math.Option.{Option, none, some}
+use Rattle.std.specs.Prelude.{◌≡◌, Bool, true, false, cond, ◌&&◌, ◌||◌, List, ℕ, ◌+◌, ◌-◌, ◌%◌, ◌<◌, eqb, ℤ, pos, Some, None, Result, Ok, Err, Option}
 use Rattle.laws.specs.Rules.{eq_z}
 use Rattle.laws.specs.Triples.{is_byte}
 use Rattle.lattice.specs.Points.{same_point}
+use Rattle.lattice.specs.Refusals.{number_of}
+use Rattle.lattice.specs.declared.refusals.Refusal.{Refusal}
 use Rattle.lattice.specs.Ranks.{level, rank_of, birth_of, parent_of, creator_of}
 use Rattle.lattice.specs.declared.points.Point.{Point}
 use Rattle.lattice.specs.declared.records.Record.{Record}
@@ -14,11 +15,9 @@ use Rattle.growth.specs.Sheets.{vertex, given_by, CentreSet}
 use Rattle.growth.specs.Model.{internal_of, by_splits}
 use Rattle.centres.specs.Centres.{is_listed}
 use Rattle.centres.specs.Marks.{in_marks}
-use Rattle.engine.specs.Engine.{pairs_in, pair_depth, made_at, times_of, six_at, judged_to, left_by, VertexAfter, tell_at, bad_base}
+use Rattle.engine.specs.Engine.{pairs_in, pair_depth, made_at, times_of, six_at, judged_to, left_by, VertexAfter, vertex_after, refusal, bad_base}
 use Rattle.engine.specs.declared.pairs.Wanted.{Wanted}
 use Rattle.engine.specs.declared.pairs.Seen.{Seen}
-use Rattle.engine.specs.declared.records.Vertex.{Vertex}
-use Rattle.engine.specs.declared.records.Vertex.TheVariants.{Absent, Is}
 
 -- the first n pairs have depths that are bytes
 abbrev pub Depths : List ℤ → ℕ → Type 0
@@ -64,16 +63,11 @@ unfoldable pub star_seen : Point → Seen → Record
 star_seen p s = star_level p s (rank_of p + s.times)
 
 unfoldable pub tell_by : (Point → Bool) → Point → Seen → Option Record
-tell_by H p s = cond (cond (eqb p.m.0 0) (given_by H p) s.maker) (some (cond (internal_of H p) (star_seen p s) (vertex p 0 0 0))) none
-
--- the code's answer
-abbrev pub asked : Vertex → Option Record
-asked Absent = none
-asked (Is r) = some r
+tell_by H p s = cond (cond (eqb p.m.0 0) (given_by H p) s.maker) (Some (cond (internal_of H p) (star_seen p s) (vertex p 0 0 0))) None
 
 -- ---- the lists judged
-abbrev pub six_by : ℤ → Vertex → Bool
-six_by z v = six_at z (asked v)
+abbrev pub six_by : ℤ → Option Record → Bool
+six_by z v = six_at z v
 
 -- 2, 21, or 0
 unfoldable pub judge_of : List ℤ → List ℤ → ℕ
@@ -86,5 +80,6 @@ pub record Ready (cs ps : List ℤ) (m : List ℕ) : Type 0 where
   pub judged : judged_to (in_marks m) ps (pairs_in ps) ≡ true
 
 -- ---- the answer
-abbrev pub tell_vertex : Vertex → VertexAfter
-tell_vertex v = tell_at (asked v)
+abbrev pub vertex_told : Result Record Refusal → VertexAfter
+vertex_told (Ok r) = vertex_after 0 r
+vertex_told (Err why) = refusal (number_of why)

@@ -11,5 +11,5 @@ mod many;
 mod pairs;
 mod records;
 
-pub use calls::{Answered, vertex};
+pub use calls::vertex;
 pub use many::vertices;

@@ -1,32 +1,23 @@
 // Many vertices with one judgement of the lists, ours: a row of six numbers each.
 ghost use Rattle.std.specs.Prelude.{◌≡◌, true, ◌+◌, ◌*◌, ◌≤◌, length};
 ghost use Rattle.std.proofs.lemmas.List.Edits.{sets};
+ghost use Rattle.lattice.specs.Refusals.{number_told};
 ghost use Rattle.growth.specs.Sheets.{CentreSet};
 ghost use Rattle.centres.specs.Marks.{in_marks};
 ghost use Rattle.engine.specs.Engine.{pairs_in, judged_to};
-ghost use Rattle.engine.specs.Scan.{tell_vertex};
 ghost use Rattle.engine.specs.Many.{record_row, row_width, rows_in, vertices_of};
 ghost use Rattle.engine.specs.ManyLaws.{row_record};
 
 use crate::judge::judge;
-use crate::records::{Vertex, record_at};
+use crate::pairs::is_byte;
+use crate::records::record_at;
 use centres::MARK_BYTES;
-use lattice::{DONE, Record, SHORT, blank, normalise};
+use lattice::{Record, Refusal, blank, normalise};
 
 // The numbers of a record's row.
 const ROW_WIDTH: usize = 6;
 
-// The record, all zeros where there is none.
-fn record_or(v: Vertex) -> Record
-    ensures { result ≡ (tell_vertex v).vertex }
-{
-    match v {
-        Vertex::Absent => blank(),
-        Vertex::Is(r) => r,
-    }
-}
-
-// The record at triple i of a list of points.
+// The record at triple i of a list of points, all zeros where there is none.
 fn triple_record(marks: &[u8; MARK_BYTES], pairs: &[i32], points: &[i32], i: usize) -> Record
     requires i_in_bounds { 3 * i + 3 ≤ length points.now }
     requires centre_set { CentreSet (in_marks marks.now) }
@@ -36,13 +27,10 @@ fn triple_record(marks: &[u8; MARK_BYTES], pairs: &[i32], points: &[i32], i: usi
     let a = points[3 * i];
     let b = points[3 * i + 1];
     let m = points[3 * i + 2];
-    if m < 0 {
+    if !is_byte(m) {
         return blank();
     }
-    if 255 < m {
-        return blank();
-    }
-    record_or(record_at(marks, pairs, pairs.len() / 4, normalise(a, b, m as u8)))
+    record_at(marks, pairs, pairs.len() / 4, normalise(a, b, m as u8)).unwrap_or(blank())
 }
 
 // Puts row i.
@@ -80,29 +68,29 @@ fn put_records(
     ensures { records.new
         ≡ rows_in (row_record (in_marks marks.now) pairs.now points.now) records.old count }
 {
-    let mut i = 0;
-    while i < count {
+    for i in 0..count {
         let r = triple_record(marks, pairs, points, i);
         put_record(records, i, r);
-        i += 1;
     }
 }
 
 // The records at the points a, b, m, a, b, m, .., six numbers each, all zeros where `vertex` would answer 3 or m is no byte: 2, 21, 13 where there is no
 // room for six numbers a triple. Refused, nothing is written; numbers past the last whole triple are not read.
-pub fn vertices(centres: &[i32], pairs: &[i32], points: &[i32], records: &mut [i32]) -> u8
-    ensures value { result ≡ (vertices_of centres.now pairs.now points.now records.old).number }
+pub fn vertices(
+    centres: &[i32],
+    pairs: &[i32],
+    points: &[i32],
+    records: &mut [i32],
+) -> Result<(), Refusal>
+    ensures value { number_told result ≡ (vertices_of centres.now pairs.now points.now records.old).number }
     ensures records_after { records.new ≡ (vertices_of centres.now pairs.now points.now records.old).rows }
 {
     let mut marks = [0; MARK_BYTES];
-    let number = judge(centres, pairs, &mut marks);
-    if number != DONE {
-        return number;
-    }
+    judge(centres, pairs, &mut marks)?;
     let count = points.len() / 3;
     if records.len() / ROW_WIDTH < count {
-        return SHORT;
+        return Err(Refusal::Short);
     }
     put_records(&marks, pairs, points, count, records);
-    DONE
+    Ok(())
 }

@@ -30,6 +30,13 @@ pub struct Seen {
     pub times: usize,
 }
 
+// A depth as written is a byte.
+pub fn is_byte(z: i32) -> bool
+    ensures { result ≡ is_byte z }
+{
+    (0 <= z) & (z <= 255)
+}
+
 // The point of pair j, whose m is a byte.
 pub fn pair_point(pairs: &[i32], j: usize) -> Point
     requires j_in_bounds { 4 * j + 4 ≤ length pairs.now }
@@ -61,7 +68,7 @@ fn counted(n: usize, so: bool) -> usize
     requires { n < 18446744073709551615 }
     ensures { result ≡ n + cond so 1 0 }
 {
-    if so { n + 1 } else { n }
+    n + usize::from(so)
 }
 
 // One pair more: its point and its level. Parents are looked at only where the level is theirs: levels come in runs.
@@ -112,12 +119,10 @@ pub fn scan(pairs: &[i32], n: usize, w: Wanted) -> Seen
     ensures { result ≡ seen_of pairs.now n w }
 {
     let mut s = nothing();
-    let mut j = 0;
-    while j < n {
+    for j in 0..n {
         let p = pair_point(pairs, j);
         let z = pairs[4 * j + 3];
         s = see(s, w, p, z);
-        j += 1;
     }
     s
 }

@@ -7,19 +7,12 @@ ghost use Rattle.growth.specs.Sheets.{vertex, CentreSet};
 ghost use Rattle.growth.specs.Model.{by_splits};
 ghost use Rattle.centres.specs.Marks.{in_marks};
 ghost use Rattle.engine.specs.Engine.{record_by, judged_to};
-ghost use Rattle.engine.specs.Scan.{wanted_of, star_seen, tell_by, asked};
+ghost use Rattle.engine.specs.Scan.{wanted_of, star_seen, tell_by};
 
 use crate::ground::{is_given, is_inside};
 use crate::pairs::{Seen, Wanted, scan};
 use centres::MARK_BYTES;
 use lattice::{Level, Point, Record, birth, parent, rank, valid};
-
-// The record at a point, or none.
-#[derive(Clone, Copy)]
-pub enum Vertex {
-    Absent,
-    Is(Record),
-}
 
 fn filled(p: Point, d: u8, k: u8, n: u8) -> Record
     ensures { result ≡ vertex p d k n }
@@ -37,35 +30,16 @@ fn by_splits(p: Point, x: bool, y: bool, z: bool, k: u8, b: u8, n: u8) -> Record
     requires { k < 4 }
     ensures { result ≡ by_splits p x y z k b n }
 {
-    if x {
-        if y {
-            if z {
-                return filled(p, 6, n % 2, n);
-            }
-            return filled(p, 5, k + 8, b);
-        }
-        if z {
-            return filled(p, 5, k + 4, b);
-        }
-        return filled(p, 4, k + 4, b);
+    match (x, y, z) {
+        (true, true, true) => filled(p, 6, n % 2, n),
+        (true, true, false) => filled(p, 5, k + 8, b),
+        (true, false, true) => filled(p, 5, k + 4, b),
+        (true, false, false) => filled(p, 4, k + 4, b),
+        (false, true, true) => filled(p, 5, k, b),
+        (false, true, false) => filled(p, 4, k + 8, b),
+        (false, false, true) => filled(p, 4, k, b),
+        (false, false, false) => filled(p, 3, k, b),
     }
-    if y {
-        if z {
-            return filled(p, 5, k, b);
-        }
-        return filled(p, 4, k + 8, b);
-    }
-    if z {
-        return filled(p, 4, k, b);
-    }
-    filled(p, 3, k, b)
-}
-
-// One less, if it can be.
-fn less(x: u8) -> u8
-    ensures { result ≡ x - 1 }
-{
-    if x == 0 { 0 } else { x - 1 }
 }
 
 // The parent that enters p: the first that could be subdivided a level earlier still.
@@ -105,7 +79,7 @@ fn looked_for(p: Point) -> Wanted
     let second = parent(p, 1);
     let third = parent(p, 2);
     let maker = creator(p, first, second, third);
-    let entry = less(n - 1);
+    let entry = (n - 1).saturating_sub(1);
     Wanted {
         at: p,
         first,
@@ -131,43 +105,43 @@ fn star(p: Point, s: Seen) -> Record
 }
 
 // The record at a point of depth 0, which the base has or not.
-fn ground_record(marks: &[u8; MARK_BYTES], p: Point, s: Seen) -> Vertex
+fn ground_record(marks: &[u8; MARK_BYTES], p: Point, s: Seen) -> Option<Record>
     requires { Small p × ((p.m.0 ≡ 0) × (rank_of p + s.times ≤ 13)) }
-    ensures { asked result ≡ tell_by (in_marks marks.now) p s }
+    ensures { result ≡ tell_by (in_marks marks.now) p s }
 {
     if !is_given(marks, p) {
-        return Vertex::Absent;
+        return None;
     }
     if !is_inside(marks, p) {
-        return Vertex::Is(filled(p, 0, 0, 0));
+        return Some(filled(p, 0, 0, 0));
     }
-    Vertex::Is(star(p, s))
+    Some(star(p, s))
 }
 
 // The record at a point, by what was seen.
-fn by_seen(marks: &[u8; MARK_BYTES], p: Point, s: Seen) -> Vertex
+fn by_seen(marks: &[u8; MARK_BYTES], p: Point, s: Seen) -> Option<Record>
     requires { Small p × ((p.m.0 ≤ 6) × (rank_of p + s.times ≤ 13)) }
-    ensures { asked result ≡ tell_by (in_marks marks.now) p s }
+    ensures { result ≡ tell_by (in_marks marks.now) p s }
 {
     if p.m.0 == 0 {
         return ground_record(marks, p, s);
     }
     if !s.maker {
-        return Vertex::Absent;
+        return None;
     }
-    Vertex::Is(star(p, s))
+    Some(star(p, s))
 }
 
 // The record at a normalised point after the first n pairs, which were judged good.
-pub fn record_at(marks: &[u8; MARK_BYTES], pairs: &[i32], n: usize, p: Point) -> Vertex
+pub fn record_at(marks: &[u8; MARK_BYTES], pairs: &[i32], n: usize, p: Point) -> Option<Record>
     requires n_in_bounds { 4 * n ≤ length pairs.now }
     requires centre_set { CentreSet (in_marks marks.now) }
     requires n_value { judged_to (in_marks marks.now) pairs.now n ≡ true }
     requires t { T (is_normal p) }
-    ensures { asked result ≡ record_by (in_marks marks.now) pairs.now n p }
+    ensures { result ≡ record_by (in_marks marks.now) pairs.now n p }
 {
     if !valid(filled(p, 0, 0, 0)) {
-        return Vertex::Absent;
+        return None;
     }
     let w = looked_for(p);
     let s = scan(pairs, n, w);

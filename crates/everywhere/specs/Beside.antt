@@ -6,11 +6,10 @@
 -- vertex's creator, which has been subdivided and so has degree 6 (`creator-split`); and then the creator is one of its own parents, so that it is not of
 -- degree 3.
 -- Assumes nothing.
-use Rattle.std.specs.Prelude.{◌≡◌, ◌≢◌, Bool, List, T}
+use Rattle.std.specs.Prelude.{◌≡◌, ◌≢◌, Bool, List, T, Some}
 use Rattle.std.proofs.Math.Path.{refl, sym, ap, subst}
 use Rattle.std.proofs.Common.{◌∙◌, true≢false}
 use Rattle.std.proofs.Math.Bool.{true, false}
-use Rattle.std.proofs.Math.Option.{some}
 use Prim.Native.Nat.{ℕ, zero, suc, ◌+◌, ◌*◌, ◌%◌, ◌/◌, ◌-◌, ◌≤◌, ◌<◌}
 use native.Mathlib.Omega.{arith}
 use Rattle.std.proofs.Math.Decide.{ℕ_discrete}
@@ -37,7 +36,6 @@ use Rattle.growth.specs.Bring.{creator-split, six-level}
 use Rattle.growth.specs.Closed as C
 use Rattle.table.specs.Entries.{look_up}
 use Rattle.table.specs.MapLaws.{lookup-valid}
-use Rattle.table.specs.declared.entries.Looked.TheVariants.{Held}
 use Rattle.mesh.specs.Grown.{Grown}
 use Rattle.local.specs.Sheet.{as_option, sheet_of}
 use Rattle.grown.specs.Steps.{sheet-held}
@@ -46,9 +44,9 @@ use Rattle.everywhere.specs.Missing.{missing, lacks, place-missing, missing-plac
 
 -- a neighbour at q, wanted at level n
 pub data Beside (s : List ℕ) (q : Point) (n : ℕ) : Type 0 where
-  rim : (u : Record) → look_up s q ≡ Held u → u.d ≡ 0 → Beside s q n
-  six : (u : Record) → look_up s q ≡ Held u → u.d ≡ 6 → u.n.0 ≡ n → Beside s q n
-  lower : (u : Record) → look_up s q ≡ Held u → u.d ≢ 0 → u.d ≢ 3 → u.d ≢ 6 → u.n.0 + 1 ≡ n → Beside s q n
+  rim : (u : Record) → look_up s q ≡ Some u → u.d ≡ 0 → Beside s q n
+  six : (u : Record) → look_up s q ≡ Some u → u.d ≡ 6 → u.n.0 ≡ n → Beside s q n
+  lower : (u : Record) → look_up s q ≡ Some u → u.d ≢ 0 → u.d ≢ 3 → u.d ≢ 6 → u.n.0 + 1 ≡ n → Beside s q n
 
 -- ---- the directions missing, in the model: s tells which parents have been subdivided
 module _ (p : Point) (s : ℕ → Bool) (k b n : ℕ) (low : k < 4) where
@@ -123,14 +121,14 @@ module _ (s : List ℕ) (g : Grown s) where
   good : (x : Pt) → 0 < c x → full_at H c x (rank x) ≡ true
   good = good-in closed.c H closed.good
 
-  held-rec : (q : Pt) (u : Record) → look_up s q.at ≡ Held u → rec H c q ≡ some u
+  held-rec : (q : Pt) (u : Record) → look_up s q.at ≡ Some u → rec H c q ≡ Some u
   held-rec q u e = sym (record_is closed.c H q) ∙ sym (closed.is q.at) ∙ ap as_option e
 
-  rec-held : (q : Pt) (u : Record) → rec H c q ≡ some u → look_up s q.at ≡ Held u
+  rec-held : (q : Pt) (u : Record) → rec H c q ≡ Some u → look_up s q.at ≡ Some u
   rec-held q u e = sheet-held (look_up s q.at) u (closed.is q.at ∙ record_is closed.c H q ∙ e)
 
   -- of degree 6
-  full-held : (q : Pt) → full_at H c q (rank q) ≡ true → look_up s q.at ≡ Held (vertex q.at 6 ((rank q + c q) % 2) (rank q + c q))
+  full-held : (q : Pt) → full_at H c q (rank q) ≡ true → look_up s q.at ≡ Some (vertex q.at 6 ((rank q + c q) % 2) (rank q + c q))
   full-held q full = rec-held q (vertex q.at 6 ((rank q + c q) % 2) (rank q + c q)) (rec-full H c q full)
 
   abbrev splits : Pt → ℕ → ℕ → Bool
@@ -146,7 +144,7 @@ module _ (s : List ℕ) (g : Grown s) where
         let (x, y, w) = splits-six q.at (splits q i 0) (splits q i 1) (splits q i 2) (birth q) i (rank q + c q) z in
         true≢false (sym (full-make H c q i (ap (int_at H q) (sym f) ∙ inside) x y w) ∙ ap (full_at H c q) (sym f) ∙ less)
 
-    lesser-held : pres_at H c q (rank q) ≡ true → look_up s q.at ≡ Held r
+    lesser-held : pres_at H c q (rank q) ≡ true → look_up s q.at ≡ Some r
     lesser-held here = rec-held q r (rec-at H c q (suc i) f ∙ (λ j. look (pres j) (int j) q.at (star_at c q (suc i))) ∙ star)
       where
         pres : pres_at H c q (suc i) ≡ true
@@ -155,7 +153,7 @@ module _ (s : List ℕ) (g : Grown s) where
         int : int_at H q (suc i) ≡ true
         int = ap (int_at H q) (sym f) ∙ inside
 
-        star : look true true q.at (star_at c q (suc i)) ≡ some r
+        star : look true true q.at (star_at c q (suc i)) ≡ Some r
         star = unfold look in unfold star_at in refl
 
   -- a parent of p that is no creator has p's creator for a parent, and that has been subdivided
@@ -171,7 +169,7 @@ module _ (s : List ℕ) (g : Grown s) where
       ((h + 6) % 12 / 4, below3 (h + 6), ap (λ (z : Pt). C.T c z i) y ∙ pr)
 
   -- ---- a vertex p of degree 3 to 5
-  module _ (v : Record) (held : look_up s v.at ≡ Held v) (rim-not : v.d ≢ 0) (six-not : v.d ≢ 6) where
+  module _ (v : Record) (held : look_up s v.at ≡ Some v) (rim-not : v.d ≢ 0) (six-not : v.d ≢ 6) where
     valid : T (valid_of v)
     valid = of-true (lookup-valid s g.order v.at v held)
 
@@ -218,7 +216,7 @@ module _ (s : List ℕ) (g : Grown s) where
       creator-full : b ≢ rank q → full_at H c q (rank q) ≡ true
       creator-full n = let (i, bi, o, l) = creator-split H c p b k ranked hk inside.0 n in let m = T-lo c q i o in good q (omega arith)
 
-      on-rim : int_at H q (rank q) ≡ false → look_up s q.at ≡ Held (vertex q.at 0 0 0)
+      on-rim : int_at H q (rank q) ≡ false → look_up s q.at ≡ Some (vertex q.at 0 0 0)
       on-rim e =
           rec-held q (vertex q.at 0 0 0)
           (rec-at H c q (rank q) refl ∙ (λ j. look (here j) (e j) q.at (star_at c q (rank q))) ∙ unfold look in refl)
@@ -270,7 +268,7 @@ module _ (s : List ℕ) (g : Grown s) where
         go : (t : ℕ) × (t < 3) × (e ≡ birth p + 4 * t) × (splits p b t ≡ false) → Beside s (move_of v.at e b) b
         go (t, h, q, off) = subst (λ (x : Point). Beside s x b) (parent-at t e q) (beside-parent t h off)
 
-    pub creator-six : v.d ≡ 3 → (i : ℕ) → b ≡ suc i → (j : ℕ) × (j < 3) × (u : Record) × (look_up s (adjacent_at v j) ≡ Held u) × (u.d ≡ 6)
+    pub creator-six : v.d ≡ 3 → (i : ℕ) → b ≡ suc i → (j : ℕ) × (j < 3) × (u : Record) × (look_up s (adjacent_at v j) ≡ Some u) × (u.d ≡ 6)
     creator-six d i e = go (creator-ex p i (ranked ∙ ap suc e))
       where
         k : v.k ≡ birth p
@@ -278,7 +276,7 @@ module _ (s : List ℕ) (g : Grown s) where
             ap (λ (r : Record). r.k)
             (is ∙ splits-three p.at (splits p b 0) (splits p b 1) (splits p b 2) (birth p) b (rank p + c p) (ap (λ (r : Record). r.d) (sym is) ∙ d))
 
-        go : (t : ℕ) × (t < 3) × (rank (par p t (suc i)) ≤ i) → (j : ℕ) × (j < 3) × (u : Record) × (look_up s (adjacent_at v j) ≡ Held u) × (u.d ≡ 6)
+        go : (t : ℕ) × (t < 3) × (rank (par p t (suc i)) ≤ i) → (j : ℕ) × (j < 3) × (u : Record) × (look_up s (adjacent_at v j) ≡ Some u) × (u.d ≡ 6)
         go (t, h, l) =
             let w : Record = vertex (par p t b).at 6 ((rank (par p t b) + c (par p t b)) % 2) (rank (par p t b) + c (par p t b)) in
             let low = birth-lt p in

@@ -3,7 +3,7 @@
 -- finished · `coming-beside` on a grown table the neighbour whose turn it is stands as Beside says.
 -- Why it lasts: at the vertex's own level only the neighbour whose turn it was is subdivided (`Within`), so the others' directions stay missing.
 -- Assumes nothing.
-use Rattle.std.specs.Prelude.{◌≡◌, refl, ◌≢◌, ◌⊎◌, ℕ, zero, suc, ◌+◌, ◌*◌, ◌%◌, ◌-◌, ◌<◌, T}
+use Rattle.std.specs.Prelude.{◌≡◌, refl, ◌≢◌, ◌⊎◌, ℕ, zero, suc, ◌+◌, ◌*◌, ◌%◌, ◌-◌, ◌<◌, T, Some}
 use Rattle.std.proofs.Common.{sym, ◌∙◌, ap, subst, inl, inr, arith}
 use mathlib.Core.List.Memᴰ
 use mathlib.Core.List.{List, [], ◌∷◌, Memᴰ}
@@ -17,7 +17,6 @@ use Rattle.lattice.specs.declared.records.Record.{Record}
 use Rattle.geometry.specs.GeometryLaws.{move-inj}
 use Rattle.table.specs.Entries.{look_up}
 use Rattle.table.specs.MapLaws.{lookup-valid, lookup-point}
-use Rattle.table.specs.declared.entries.Looked.TheVariants.{Held}
 use Rattle.mesh.specs.Grown.{Grown}
 use Rattle.mesh.specs.StepLaws.{held_same}
 use Rattle.bring.specs.Bring.{places_of}
@@ -30,10 +29,10 @@ use Rattle.everywhere.specs.Made.{Made, Within}
 use Rattle.everywhere.specs.Filled.{fills, Waits, in-run, run_in}
 use Rattle.everywhere.specs.Beside.{Beside, grown-beside}
 
-pub sound : (s : List ℕ) → Grown s → (p : Point) (u : Record) → look_up s p ≡ Held u → u.d ≢ 0 → Inner u
+pub sound : (s : List ℕ) → Grown s → (p : Point) (u : Record) → look_up s p ≡ Some u → u.d ≢ 0 → Inner u
 sound s g p u e z = inner u (of-true (lookup-valid s g.order p u e)) z
 
-pub own : (s : List ℕ) → Grown s → (p : Point) (u : Record) → look_up s p ≡ Held u → look_up s u.at ≡ Held u
+pub own : (s : List ℕ) → Grown s → (p : Point) (u : Record) → look_up s p ≡ Some u → look_up s u.at ≡ Some u
 own s g p u e = ap (look_up s) (lookup-point s g.order p u e) ∙ e
 
 -- ---- lists of places
@@ -60,7 +59,7 @@ turn_to v j = (v.k + 4 * j) % 12
 -- at v's point stands a vertex of v's level, which is still missing the direction of place j
 pub record Ahead (v : Record) (j : ℕ) (s : List ℕ) : Type 0 where
   pub now : Record
-  pub held : look_up s v.at ≡ Held now
+  pub held : look_up s v.at ≡ Some now
   pub inside : now.d ≢ 0
   pub less : now.d ≢ 6
   pub level : now.n.0 ≡ v.n.0
@@ -69,7 +68,7 @@ pub record Ahead (v : Record) (j : ℕ) (s : List ℕ) : Type 0 where
 -- it has degree 6, or is missing no other direction
 pub data Left (v : Record) (js s : List ℕ) : Type 0 where
   none : Six s v.at → Left v js s
-  some : (x : Record) → look_up s v.at ≡ Held x → x.d ≢ 0 → x.d ≢ 6
+  some : (x : Record) → look_up s v.at ≡ Some x → x.d ≢ 0 → x.d ≢ 6
       → ((e : ℕ) → e < 12 → T (lacks x e) → (j : ℕ) × Memᴰ j js × (e ≡ turn_to v j)) → Left v js s
 
 pub record Coming (v : Record) (js s : List ℕ) : Type 0 where
@@ -111,7 +110,7 @@ module _ (s : List ℕ) (g : Grown s) (v : Record) where
       (subst (λ (q : Point). Beside s (move_of q (turn_to v j) x.n.0) x.n.0) at b))
 
   -- at the start
-  pub coming-start : look_up s v.at ≡ Held v → v.d ≢ 0 → v.d ≢ 6 → Coming v (places_of v.d) s
+  pub coming-start : look_up s v.at ≡ Some v → v.d ≢ 0 → v.d ≢ 6 → Coming v (places_of v.d) s
   coming-start e z n =
       let i = sound s g v.at v e z in
       subst (λ (js : List ℕ). Coming v js s) (sym (places-first v.d i.low i.top))

@@ -5,7 +5,7 @@
 -- sequence reaching the goal must contain" · `bring-refuses` 16: no sequence reaches the goal; 8: every sequence that does wants more slots ·
 -- `bring-order` · `bring-never-7`, `bring-enough`, `bring-grown` of a grown mesh. The page of all this: `demands/specs/Bring`.
 -- Assumes nothing.
-use Rattle.std.specs.Prelude.{◌≡◌, refl, ◌≢◌, Bool, true, false, ℕ, ◌+◌, ◌*◌, ◌≤◌, ◌<◌, ℤ, length}
+use Rattle.std.specs.Prelude.{◌≡◌, refl, ◌≢◌, Bool, true, false, ℕ, ◌+◌, ◌*◌, ◌≤◌, ◌<◌, ℤ, length, Option, Some, None}
 use Rattle.std.proofs.Common.{sym, ◌∙◌, subst, arith}
 use Rattle.std.proofs.Math.Path.{ap}
 use Rattle.std.proofs.Math.Bool.{cond}
@@ -21,8 +21,6 @@ use Rattle.table.specs.Entries.{look_up}
 use Rattle.table.specs.Order.{InOrder, in_order_of}
 use Rattle.table.specs.Slots.{lengths_fit, free_slots, cleared_of}
 use Rattle.table.specs.MapLaws.{lookup-valid, lookup-point, test-order}
-use Rattle.table.specs.declared.entries.Looked.{Looked}
-use Rattle.table.specs.declared.entries.Looked.TheVariants.{Absent, Held}
 use Rattle.mesh.specs.Grown.{Grown}
 use Rattle.mesh.specs.Subdivide.{MeshAfter, mesh_after, all_or}
 use Rattle.mesh.specs.StepLaws.{held_same, all_made, all_back}
@@ -38,13 +36,13 @@ use Rattle.everywhere.specs.OnGrown.{near_most, goes-grown, grown-met}
 
 -- ---- what the call answers
 -- the vertex at the point is asked about: lengths that fit, a table in order
-pub record At (t s : List ℕ) (l : Looked) (v : Record) : Type 0 where
+pub record At (t s : List ℕ) (l : Option Record) (v : Record) : Type 0 where
   pub fits : lengths_fit t s ≡ true
   pub order : in_order_of t ≡ true
-  pub held : l ≡ Held v
+  pub held : l ≡ Some v
 
 -- and it is neither on the boundary nor of degree 6 nor at level 12
-pub record Below (t s : List ℕ) (l : Looked) (v : Record) : Type 0 where
+pub record Below (t s : List ℕ) (l : Option Record) (v : Record) : Type 0 where
   pub asked : At t s l v
   pub inner : v.d ≢ 0
   pub less : v.d ≢ 6
@@ -52,10 +50,10 @@ pub record Below (t s : List ℕ) (l : Looked) (v : Record) : Type 0 where
 
 -- "Refusals: 1 (scratch length included), 3, 14, 5 for a vertex of degree below 6 at level 12, then the first met, ..: 7 ..; 16 ..; 8." "At degree 6 the
 -- answer is 0, nothing done. All or nothing; a scratch table is lent as for the readers, on the same terms": l stands at the point
-pub data Answers (t s : List ℕ) (l : Looked) (o : BringAfter) : Type 0 where
+pub data Answers (t s : List ℕ) (l : Option Record) (o : BringAfter) : Type 0 where
   unfit : lengths_fit t s ≡ false → o ≡ bring_after 1 t s → Answers t s l o
   unordered : lengths_fit t s ≡ true → in_order_of t ≡ false → o ≡ bring_after 1 t (cleared_of s) → Answers t s l o
-  missing : lengths_fit t s ≡ true → in_order_of t ≡ true → l ≡ Absent → o ≡ bring_after 3 t (cleared_of s) → Answers t s l o
+  missing : lengths_fit t s ≡ true → in_order_of t ≡ true → l ≡ None → o ≡ bring_after 3 t (cleared_of s) → Answers t s l o
   boundary : (v : Record) → At t s l v → v.d ≡ 0 → o ≡ bring_after 14 t (cleared_of s) → Answers t s l o
   already : (v : Record) → At t s l v → v.d ≡ 6 → o ≡ bring_after 0 t (cleared_of s) → Answers t s l o
   top : (v : Record) → At t s l v → v.d ≢ 0 → v.d ≢ 6 → v.n.0 ≡ 12 → o ≡ bring_after 5 t (cleared_of s) → Answers t s l o
@@ -69,7 +67,7 @@ table : {x y : BringAfter} → x ≡ y → x.table ≡ y.table
 table e = ap (λ (o : BringAfter). o.table) e
 
 module _ (t s : List ℕ) (a b : ℤ) (m : ℕ) where
-  abbrev there : Looked
+  abbrev there : Option Record
   there = look_up t (normal_of a b m)
 
   abbrev call : BringAfter
@@ -87,7 +85,7 @@ module _ (t s : List ℕ) (a b : ℤ) (m : ℕ) where
     ordered : InOrder t
     ordered = test-order t w.order
 
-    own : look_up t v.at ≡ Held v
+    own : look_up t v.at ≡ Some v
     own = ap (look_up t) (lookup-point t ordered (normal_of a b m) v w.held) ∙ w.held
 
     at-14 : v.d ≡ 0 → call ≡ bring_after 14 t (cleared_of s)
@@ -104,7 +102,7 @@ module _ (t s : List ℕ) (a b : ℤ) (m : ℕ) where
     order : InOrder t
     order = ordered v w.asked
 
-    held : look_up t v.at ≡ Held v
+    held : look_up t v.at ≡ Some v
     held = own v w.asked
 
     level : v.n.0 < 12
@@ -144,7 +142,7 @@ module _ (t s : List ℕ) (a b : ℤ) (m : ℕ) where
         go (told.goes r g) = absurd (n (number (goes-bring r g)))
         go (told.meets x k) = subst (λ (y : ℕ). Meets y (all_places v) t) (sym (number (met-bring x k))) k
 
-    pub bring-risen : call.number ≡ 0 → look_up call.table v.at ≡ Held (risen v.at v.n.0)
+    pub bring-risen : call.number ≡ 0 → look_up call.table v.at ≡ Some (risen v.at v.n.0)
     bring-risen z = goes-risen t order v held w.inner w.less level call.table (bring-goes z)
 
   -- ---- both ways
@@ -159,11 +157,11 @@ module _ (t s : List ℕ) (a b : ℤ) (m : ℕ) where
           let u : Below t s there v = record { asked = w; inner = d; less = x; low = n } in
           either v u (brought-told t (order v u) v (level v u))
 
-      go : (f : Bool) → lengths_fit t s ≡ f → (o : Bool) → in_order_of t ≡ o → (l : Looked) → there ≡ l → Answers t s there call
+      go : (f : Bool) → lengths_fit t s ≡ f → (o : Bool) → in_order_of t ≡ o → (l : Option Record) → there ≡ l → Answers t s there call
       go false f o g l e = unfit f (not-fit f)
       go true f false g l e = unordered f g (by f (request-1 t a b m g))
-      go true f true g Absent e = missing f g e (by f (request-3 t a b m g e))
-      go true f true g (Held v) e =
+      go true f true g None e = missing f g e (by f (request-3 t a b m g e))
+      go true f true g (Some v) e =
           at-vertex v (record { fits = f; order = g; held = e }) (ℕ_discrete v.d 0) (ℕ_discrete v.d 6) (ℕ_discrete v.n.0 12)
 
   pub answers-bring : (o : BringAfter) → Answers t s there o → call ≡ o
@@ -243,13 +241,13 @@ module _ (t s : List ℕ) (a b : ℤ) (m : ℕ) where
         least = λ k y. omega arith;
       }
 
-  pub bring-done : (v : Record) → there ≡ Held v → call.number ≡ 0 → Done v
+  pub bring-done : (v : Record) → there ≡ Some v → call.number ≡ 0 → Done v
   bring-done v h z = go bring-answers
     where
       other : {y : BringAfter} → call ≡ y → y.number ≡ 0
       other e = sym (number e) ∙ z
 
-      same : (u : Record) → there ≡ Held u → Done u → Done v
+      same : (u : Record) → there ≡ Some u → Done u → Done v
       same u e d = subst Done (held_same (sym e ∙ h)) d
 
       go : Answers t s there call → Done v

@@ -4,7 +4,7 @@
 -- are made, the vertex has degree 6 · `Turns` each neighbour in turn is finished · `ends-six` then the
 -- vertex has degree 6.
 -- Assumes nothing.
-use Rattle.std.specs.Prelude.{◌≡◌, ◌≢◌, ◌⊎◌, true, ℕ, zero, suc, ◌+◌, ◌*◌, ◌%◌, ◌-◌, ◌≤◌, ◌<◌, T}
+use Rattle.std.specs.Prelude.{◌≡◌, ◌≢◌, ◌⊎◌, true, ℕ, zero, suc, ◌+◌, ◌*◌, ◌%◌, ◌-◌, ◌≤◌, ◌<◌, T, Some}
 use Rattle.std.proofs.Common.{sym, ◌∙◌, ap, subst, inl, inr, arith}
 use mathlib.Core.List.{List, [], ◌∷◌, ◌++◌, Memᴰ}
 use Rattle.std.proofs.Math.Decide.{ℕ_discrete}
@@ -20,7 +20,6 @@ use Rattle.lattice.specs.declared.records.Record.{Record}
 use Rattle.table.specs.Entries.{look_up}
 use Rattle.table.specs.Order.{InOrder}
 use Rattle.table.specs.MapLaws.{lookup-valid, lookup-point}
-use Rattle.table.specs.declared.entries.Looked.TheVariants.{Held}
 use Rattle.mesh.specs.Subdivide.{subdivided}
 use Rattle.mesh.specs.SubdivideLaws.{Intact, old, subdivided-old}
 use Rattle.mesh.specs.StepLaws.{held_same}
@@ -41,8 +40,8 @@ pub record Waits (k : List Division) (p : Point) (r x : Record) : Type 0 where
   pub more : (e : ℕ) → e < 12 → T (lacks x e) → T (lacks r e)
   pub unmade : (e : ℕ) → e < 12 → T (lacks x e) → Memᴰ (move_of p e r.n.0, r.n.0) k → ⊥
 
-module _ (s : List ℕ) (v : Record) (w : Intact s v) (k : List Division) (p : Point) (r y x : Record) (f : look_up s p ≡ Held y) (at : y.at ≡ p)
-    (e : look_up (subdivided s v) p ≡ Held x) (n6 : x.d ≢ 6) (ih : Waits k p r y) where
+module _ (s : List ℕ) (v : Record) (w : Intact s v) (k : List Division) (p : Point) (r y x : Record) (f : look_up s p ≡ Some y) (at : y.at ≡ p)
+    (e : look_up (subdivided s v) p ≡ Some x) (n6 : x.d ≢ 6) (ih : Waits k p r y) where
   good : T (valid_of y)
   good = of-true (lookup-valid s w.ready.order p y f)
 
@@ -58,8 +57,8 @@ module _ (s : List ℕ) (v : Record) (w : Intact s v) (k : List Division) (p : P
       let pg = missing-parity y.d y.k g m in
       seen (adjacent-from v p g sound w.ready.six np h (omega arith) is)
     where
-      at_place : (j : ℕ) (hj : j < 6) → p ≡ adjacent_at v j → back_of v.k j ≡ g → look_up s (adjacent_at v j) ≡ Held y → (u : Record)
-          → look_up s (adjacent_at v j) ≡ Held u → accepts_of (back_of v.k j) v.n.0 u ≡ true → ⊥
+      at_place : (j : ℕ) (hj : j < 6) → p ≡ adjacent_at v j → back_of v.k j ≡ g → look_up s (adjacent_at v j) ≡ Some y → (u : Record)
+          → look_up s (adjacent_at v j) ≡ Some u → accepts_of (back_of v.k j) v.n.0 u ≡ true → ⊥
       at_place j hj q b l u i a =
           let acc : accepts_of (back_of v.k j) v.n.0 y ≡ true =
           subst (λ (c : Record). accepts_of (back_of v.k j) v.n.0 c ≡ true) (held_same (sym i ∙ l)) a in
@@ -105,12 +104,12 @@ module _ (s : List ℕ) (v : Record) (w : Intact s v) (k : List Division) (p : P
           let b : r.n.0 ≡ v.n.0 = ap (λ (d : Division). d.1) i in
           not_there g h n m (ap (move_of p g) (sym b) ∙ a) (ih.level ∙ b)
 
-rises-held : (k : List Division) (u : List ℕ) (p : Point) (r : Record) → Rises k u p r → (x : Record) × (look_up u p ≡ Held x)
+rises-held : (k : List Division) (u : List ℕ) (p : Point) (r : Record) → Rises k u p r → (x : Record) × (look_up u p ≡ Some x)
 rises-held k u p r (waits x e a b c d) = (x, e)
 rises-held k u p r (risen x e a b c) = (x, e)
 
-pub fills : (t u : List ℕ) (k : List Division) → Run t k u → (p : Point) (r : Record) → look_up t p ≡ Held r → r.d ≢ 0 → r.d ≢ 6
-    → (x : Record) → look_up u p ≡ Held x → x.d ≢ 6 → Waits k p r x
+pub fills : (t u : List ℕ) (k : List Division) → Run t k u → (p : Point) (r : Record) → look_up t p ≡ Some r → r.d ≢ 0 → r.d ≢ 6
+    → (x : Record) → look_up u p ≡ Some x → x.d ≢ 6 → Waits k p r x
 fills t _ _ here p r e z n x f n6 =
     let q : x ≡ r = held_same (sym f ∙ e) in
     record {
@@ -127,11 +126,11 @@ fills t _ _ (next k s q v l c) p r e z n x f n6 = go (came s v w p x f') (λ y g
     w : Intact s v
     w = st.whole
 
-    f' : look_up (subdivided s v) p ≡ Held x
+    f' : look_up (subdivided s v) p ≡ Some x
     f' = ap (λ (a : List ℕ). look_up a p) st.is ∙ f
 
-    go : ((y : Record) × (look_up s p ≡ Held y) × Change s v w p y) ⊎ ((j : ℕ) × (j < 6) × (p ≡ (new_of v j).at) × (x ≡ new_of v j))
-        → ((y : Record) → look_up s p ≡ Held y → y.d ≢ 6 → Waits k p r y) → Waits ((v.at, v.n.0) ∷ k) p r x
+    go : ((y : Record) × (look_up s p ≡ Some y) × Change s v w p y) ⊎ ((j : ℕ) × (j < 6) × (p ≡ (new_of v j).at) × (x ≡ new_of v j))
+        → ((y : Record) → look_up s p ≡ Some y → y.d ≢ 6 → Waits k p r y) → Waits ((v.at, v.n.0) ∷ k) p r x
     go (inr (j, h, a, b)) ih =
         let (y, g) = rises-held k s p r (rises-run t s k q p r e z n) in
         absent-held (sym (w.fresh j h) ∙ ap (look_up s) (sym a) ∙ g)
@@ -140,7 +139,7 @@ fills t _ _ (next k s q v l c) p r e z n x f n6 = go (came s v w p x f') (λ y g
         waits-step s v w k p r y x g (lookup-point s w.ready.order p y g) f' n6 (ih y g y6) ch
 
 -- all that r was missing has been made
-pub filled : (t u : List ℕ) (k : List Division) → InOrder t → Run t k u → (p : Point) (r : Record) → look_up t p ≡ Held r → r.d ≢ 0 → r.d ≢ 6
+pub filled : (t u : List ℕ) (k : List Division) → InOrder t → Run t k u → (p : Point) (r : Record) → look_up t p ≡ Some r → r.d ≢ 0 → r.d ≢ 6
     → ((e : ℕ) → e < 12 → T (lacks r e) → Memᴰ (move_of p e r.n.0, r.n.0) k) → Six u p
 filled t u k o q p r e z n made = go (rises-run t u k q p r e z n)
   where
@@ -186,7 +185,7 @@ run_in (suc n) j i m = go (mathlib.Core.List.Memᴰ.cases_cons m) (λ k. run_in 
     go (inr k) ih = let (a, b) = ih k in (omega arith, omega arith)
 
 -- "or where the vertex ends below degree 6": it has degree 6
-pub ends-six : (t : List ℕ) → InOrder t → (v : Record) → look_up t v.at ≡ Held v → v.d ≢ 0 → v.d ≢ 6 → v.n.0 < 12
+pub ends-six : (t : List ℕ) → InOrder t → (v : Record) → look_up t v.at ≡ Some v → v.d ≢ 0 → v.d ≢ 6 → v.n.0 < 12
     → (u : List ℕ) → Turns v (places_of v.d) t u → Six u v.at
 ends-six t o v e z n low u ts =
     let (k, q, m) = turns-made v (places_of v.d) t u ts low o in

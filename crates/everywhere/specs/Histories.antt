@@ -5,7 +5,7 @@
 -- least as much, or was made by a subdivision of the sequence · `divided-six` what was subdivided has degree 6 and a higher level · `run-order`,
 -- `level-run`, `six-run`, `rim-run`, `rim-origin` what stays.
 -- Assumes nothing.
-use Rattle.std.specs.Prelude.{◌≡◌, refl, ◌≢◌, ◌⊎◌, true, ℕ, suc, ◌+◌, ◌%◌, ◌-◌, ◌≤◌, ◌<◌, T}
+use Rattle.std.specs.Prelude.{◌≡◌, refl, ◌≢◌, ◌⊎◌, true, ℕ, suc, ◌+◌, ◌%◌, ◌-◌, ◌≤◌, ◌<◌, T, Option, Some, None}
 use Rattle.std.proofs.Common.{sym, ◌∙◌, ap, subst, inl, inr, arith}
 use mathlib.Core.List.Memᴰ
 use mathlib.Core.List.{List, [], ◌∷◌, Memᴰ}
@@ -25,8 +25,6 @@ use Rattle.growth.specs.GrownLaws.{among}
 use Rattle.table.specs.Entries.{look_up}
 use Rattle.table.specs.Order.{InOrder}
 use Rattle.table.specs.MapLaws.{lookup-valid, test-order}
-use Rattle.table.specs.declared.entries.Looked.{Looked}
-use Rattle.table.specs.declared.entries.Looked.TheVariants.{Absent, Held}
 use Rattle.mesh.specs.Subdivide.{MeshAfter, subdivided, subdivide_of}
 use Rattle.mesh.specs.SubdivideLaws.{Intact, old, subdivided-order, subdivided-centre, subdivided-new, subdivided-old, subdivided-rest}
 use Rattle.mesh.specs.CaseLaws.{Subdivision, refused, made, subdivision}
@@ -34,7 +32,7 @@ use Rattle.mesh.specs.StepLaws.{own-looked, held_same}
 use Rattle.everywhere.specs.Runs.{Division, divide_at, Run, here, next, Six}
 use Rattle.everywhere.specs.Missing.{lacks, Updated, less, last, updated, six-refused, divided-from}
 
-pub absent-held : {A : Type 0} {r : Record} → Absent ≡ Held r → A
+pub absent-held : {A : Type 0} {r : Record} → None ≡ Some r → A
 absent-held {A} {r} e = absurd (let z : ◌≡◌ {A = ℕ} 0 1 = cc in omega arith)
 
 -- ---- one subdivision
@@ -44,42 +42,42 @@ module _ (s : List ℕ) (v : Record) (w : Intact s v) where
 
   -- the record u at p
   pub data Change (p : Point) (u : Record) : Type 0 where
-    centre : p ≡ v.at → u ≡ v → look_up s' p ≡ Held (centre_of v) → Change p u
-    beside : (j : ℕ) → j < 6 → p ≡ adjacent_at v j → accepts_of (back_of v.k j) v.n.0 u ≡ true → look_up s' p ≡ Held (update_of (back_of v.k j) u)
+    centre : p ≡ v.at → u ≡ v → look_up s' p ≡ Some (centre_of v) → Change p u
+    beside : (j : ℕ) → j < 6 → p ≡ adjacent_at v j → accepts_of (back_of v.k j) v.n.0 u ≡ true → look_up s' p ≡ Some (update_of (back_of v.k j) u)
         → Change p u
-    same : look_up s' p ≡ Held u → Change p u
+    same : look_up s' p ≡ Some u → Change p u
 
-  pub change : (p : Point) (u : Record) → look_up s p ≡ Held u → Change p u
+  pub change : (p : Point) (u : Record) → look_up s p ≡ Some u → Change p u
   change p u e = go (point? p v.at) (among (λ j. (new_of v j).at) p 6) (among (adjacent_at v) p 6)
     where
       go : Dec (p ≡ v.at) → Dec ((j : ℕ) × (j < 6) × (p ≡ (new_of v j).at)) → Dec ((j : ℕ) × (j < 6) × (p ≡ adjacent_at v j)) → Change p u
       go (yes z) n a = centre z (held_same (sym e ∙ ap (look_up s) z ∙ w.ready.held)) (ap (look_up s') z ∙ subdivided-centre s v w)
       go (no c) (yes (j, h, z)) a = absent-held (sym (w.fresh j h) ∙ ap (look_up s) (sym z) ∙ e)
       go (no c) (no n) (yes (j, h, z)) =
-          let l : look_up s (adjacent_at v j) ≡ Held u = ap (look_up s) (sym z) ∙ e in
+          let l : look_up s (adjacent_at v j) ≡ Some u = ap (look_up s) (sym z) ∙ e in
           let (x, f, a) = old s v w j h in
           beside j h z (subst (λ (r : Record). accepts_of (back_of v.k j) v.n.0 r ≡ true) (held_same (sym f ∙ l)) a)
           (ap (look_up s') z ∙ subdivided-old s v w j h u l)
       go (no c) (no n) (no a) = same (subdivided-rest s v w p c (λ j h z. n (j, h, z)) (λ j h z. a (j, h, z)) ∙ e)
 
   -- a record that stands after it stood before, or is new
-  pub came : (p : Point) (x : Record) → look_up s' p ≡ Held x
-      → ((u : Record) × (look_up s p ≡ Held u) × Change p u) ⊎ ((j : ℕ) × (j < 6) × (p ≡ (new_of v j).at) × (x ≡ new_of v j))
+  pub came : (p : Point) (x : Record) → look_up s' p ≡ Some x
+      → ((u : Record) × (look_up s p ≡ Some u) × Change p u) ⊎ ((j : ℕ) × (j < 6) × (p ≡ (new_of v j).at) × (x ≡ new_of v j))
   came p x e = looked (look_up s p) refl
     where
-      new : look_up s p ≡ Absent → Dec (p ≡ v.at) → Dec ((j : ℕ) × (j < 6) × (p ≡ (new_of v j).at)) → Dec ((j : ℕ) × (j < 6) × (p ≡ adjacent_at v j))
+      new : look_up s p ≡ None → Dec (p ≡ v.at) → Dec ((j : ℕ) × (j < 6) × (p ≡ (new_of v j).at)) → Dec ((j : ℕ) × (j < 6) × (p ≡ adjacent_at v j))
           → (j : ℕ) × (j < 6) × (p ≡ (new_of v j).at) × (x ≡ new_of v j)
       new g (yes z) n a = absent-held (sym g ∙ ap (look_up s) z ∙ w.ready.held)
       new g (no c) (yes (j, h, z)) a = (j, h, z, held_same (sym e ∙ ap (look_up s') z ∙ subdivided-new s v w j h))
       new g (no c) (no n) (yes (j, h, z)) = let (u, f, a) = old s v w j h in absent-held (sym g ∙ ap (look_up s) z ∙ f)
       new g (no c) (no n) (no a) = absent-held (sym g ∙ sym (subdivided-rest s v w p c (λ j h z. n (j, h, z)) (λ j h z. a (j, h, z))) ∙ e)
 
-      looked : (l : Looked) → look_up s p ≡ l
-          → ((u : Record) × (look_up s p ≡ Held u) × Change p u) ⊎ ((j : ℕ) × (j < 6) × (p ≡ (new_of v j).at) × (x ≡ new_of v j))
-      looked Absent g = inr (new g (point? p v.at) (among (λ j. (new_of v j).at) p 6) (among (adjacent_at v) p 6))
-      looked (Held u) g = inl (u, g, change p u g)
+      looked : (l : Option Record) → look_up s p ≡ l
+          → ((u : Record) × (look_up s p ≡ Some u) × Change p u) ⊎ ((j : ℕ) × (j < 6) × (p ≡ (new_of v j).at) × (x ≡ new_of v j))
+      looked None g = inr (new g (point? p v.at) (among (λ j. (new_of v j).at) p 6) (among (adjacent_at v) p 6))
+      looked (Some u) g = inl (u, g, change p u g)
 
-  good : (p : Point) (u : Record) → look_up s p ≡ Held u → T (valid_of u)
+  good : (p : Point) (u : Record) → look_up s p ≡ Some u → T (valid_of u)
   good p u e = of-true (lookup-valid s w.ready.order p u e)
 
   centre-sound : T (valid_of v)
@@ -89,46 +87,46 @@ module _ (s : List ℕ) (v : Record) (w : Intact s v) where
   back_low j = omega arith
 
   -- ---- degree 6 stays, the rim stays
-  pub six-stays : (p : Point) (u : Record) → look_up s p ≡ Held u → u.d ≡ 6 → (x : Record) × (look_up s' p ≡ Held x) × (x.d ≡ 6) × (u.n.0 ≤ x.n.0)
+  pub six-stays : (p : Point) (u : Record) → look_up s p ≡ Some u → u.d ≡ 6 → (x : Record) × (look_up s' p ≡ Some x) × (x.d ≡ 6) × (u.n.0 ≤ x.n.0)
   six-stays p u e six = go (change p u e)
     where
-      go : Change p u → (x : Record) × (look_up s' p ≡ Held x) × (x.d ≡ 6) × (u.n.0 ≤ x.n.0)
+      go : Change p u → (x : Record) × (look_up s' p ≡ Some x) × (x.d ≡ 6) × (u.n.0 ≤ x.n.0)
       go (centre z y l) = let m = ap (λ (r : Record). r.n.0) y in (centre_of v, l, w.ready.six, omega arith)
       go (beside j h z a l) = absurd (six-refused (back_of v.k j) v.n.0 u a six)
       go (same l) = (u, l, six, omega arith)
 
-  pub rim-stays : (p : Point) (u : Record) → look_up s p ≡ Held u → u.d ≡ 0 → look_up s' p ≡ Held u
+  pub rim-stays : (p : Point) (u : Record) → look_up s p ≡ Some u → u.d ≡ 0 → look_up s' p ≡ Some u
   rim-stays p u e rim = go (change p u e)
     where
-      go : Change p u → look_up s' p ≡ Held u
+      go : Change p u → look_up s' p ≡ Some u
       go (centre z y l) = let m = ap (λ (r : Record). r.d) y in let n = w.ready.six in absurd (omega arith)
-      go (beside j h z a l) = l ∙ ap Held (update-boundary (back_of v.k j) u rim)
+      go (beside j h z a l) = l ∙ ap Some (update-boundary (back_of v.k j) u rim)
       go (same l) = l
 
   -- what stands on the rim after it stood there before
-  pub rim-came : (p : Point) (x : Record) → look_up s' p ≡ Held x → x.d ≡ 0 → look_up s p ≡ Held x
+  pub rim-came : (p : Point) (x : Record) → look_up s' p ≡ Some x → x.d ≡ 0 → look_up s p ≡ Some x
   rim-came p x e rim = go (came p x e)
     where
-      at : (u : Record) → look_up s p ≡ Held u → Change p u → Dec (u.d ≡ 0) → look_up s p ≡ Held x
-      at u f c (yes z) = f ∙ ap Held (held_same (sym (rim-stays p u f z) ∙ e))
+      at : (u : Record) → look_up s p ≡ Some u → Change p u → Dec (u.d ≡ 0) → look_up s p ≡ Some x
+      at u f c (yes z) = f ∙ ap Some (held_same (sym (rim-stays p u f z) ∙ e))
       at u f (centre z y l) (no n) = let m = ap (λ (r : Record). r.d) (held_same (sym l ∙ e)) in let k = w.ready.six in absurd (omega arith)
       at u f (same l) (no n) = absurd (n (ap (λ (r : Record). r.d) (held_same (sym l ∙ e)) ∙ rim))
       at u f (beside j h z a l) (no n) =
           by (updated (back_of v.k j) v.n.0 u (back_low j) (good p u f) a n).1 (ap (λ (r : Record). r.d) (held_same (sym l ∙ e)) ∙ rim)
         where
-          by : Updated (back_of v.k j) u → (update_of (back_of v.k j) u).d ≡ 0 → look_up s p ≡ Held x
+          by : Updated (back_of v.k j) u → (update_of (back_of v.k j) u).d ≡ 0 → look_up s p ≡ Some x
           by (less nz n6 lv f g) q = absurd (nz q)
           by (last d6 lv f) q = absurd (omega arith)
 
-      go : ((u : Record) × (look_up s p ≡ Held u) × Change p u) ⊎ ((j : ℕ) × (j < 6) × (p ≡ (new_of v j).at) × (x ≡ new_of v j)) → look_up s p ≡ Held x
+      go : ((u : Record) × (look_up s p ≡ Some u) × Change p u) ⊎ ((j : ℕ) × (j < 6) × (p ≡ (new_of v j).at) × (x ≡ new_of v j)) → look_up s p ≡ Some x
       go (inl (u, f, c)) = at u f c (ℕ_discrete u.d 0)
       go (inr (j, h, z, y)) = let m = ap (λ (r : Record). r.d) y in absurd (omega arith)
 
   -- a level not above m stays so, where the centre's is below m
-  level-stays : (m : ℕ) → v.n.0 < m → (p : Point) (u : Record) → look_up s p ≡ Held u → u.n.0 ≤ m → (x : Record) × (look_up s' p ≡ Held x) × (x.n.0 ≤ m)
+  level-stays : (m : ℕ) → v.n.0 < m → (p : Point) (u : Record) → look_up s p ≡ Some u → u.n.0 ≤ m → (x : Record) × (look_up s' p ≡ Some x) × (x.n.0 ≤ m)
   level-stays m b p u e a = go (change p u e)
     where
-      go : Change p u → (x : Record) × (look_up s' p ≡ Held x) × (x.n.0 ≤ m)
+      go : Change p u → (x : Record) × (look_up s' p ≡ Some x) × (x.n.0 ≤ m)
       go (centre z y l) = (centre_of v, l, omega arith)
       go (same l) = (u, l, a)
       go (beside j h z q l) = (update_of (back_of v.k j) u, l, at (ℕ_discrete u.d 0))
@@ -146,7 +144,7 @@ pub record Stepped (s : List ℕ) (v : Record) : Type 0 where
   pub whole : Intact s v
   pub is : subdivided s v ≡ divide_at s v
 
-pub stepped : (s : List ℕ) (v : Record) → look_up s v.at ≡ Held v → (subdivide_of s v.at.a v.at.b v.at.m.0).number ≡ 0 → Stepped s v
+pub stepped : (s : List ℕ) (v : Record) → look_up s v.at ≡ Some v → (subdivide_of s v.at.a v.at.b v.at.m.0).number ≡ 0 → Stepped s v
 stepped s v e z = go (subdivision s v.at.a v.at.b v.at.m.0)
   where
     go : Subdivision s v.at.a v.at.b v.at.m.0 → Stepped s v
@@ -170,12 +168,12 @@ six-is v t six =
 -- ---- a vertex that is missing directions, followed on
 -- r is what it was, k what has been made since, and u the table now
 pub data Rises (k : List Division) (u : List ℕ) (p : Point) (r : Record) : Type 0 where
-  waits : (x : Record) → look_up u p ≡ Held x → x.d ≢ 0 → x.d ≢ 6 → x.n.0 ≡ r.n.0
+  waits : (x : Record) → look_up u p ≡ Some x → x.d ≢ 0 → x.d ≢ 6 → x.n.0 ≡ r.n.0
       → ((e : ℕ) → e < 12 → T (lacks r e) → T (lacks x e) ⊎ Memᴰ (move_of p e r.n.0, r.n.0) k) → Rises k u p r
-  risen : (x : Record) → look_up u p ≡ Held x → x.d ≡ 6 → r.n.0 < x.n.0
+  risen : (x : Record) → look_up u p ≡ Some x → x.d ≡ 6 → r.n.0 < x.n.0
       → ((e : ℕ) → e < 12 → T (lacks r e) → Memᴰ (move_of p e r.n.0, r.n.0) k) → Rises k u p r
 
-pub rises-start : (k : List Division) (u : List ℕ) (p : Point) (r : Record) → look_up u p ≡ Held r → r.d ≢ 0 → r.d ≢ 6 → Rises k u p r
+pub rises-start : (k : List Division) (u : List ℕ) (p : Point) (r : Record) → look_up u p ≡ Some r → r.d ≢ 0 → r.d ≢ 6 → Rises k u p r
 rises-start k u p r e z n = waits r e z n refl (λ e h m. inl m)
 
 module _ (s : List ℕ) (v : Record) (w : Intact s v) (k : List Division) (p : Point) (r : Record) where
@@ -227,7 +225,7 @@ module _ (s : List ℕ) (v : Record) (w : Intact s v) (k : List Division) (p : P
                   each e h (inl m) = made-there e (ff e h m)
                   each e h (inr m) = Memᴰ.tail m
 
-pub rises-run : (t u : List ℕ) (k : List Division) → Run t k u → (p : Point) (r : Record) → look_up t p ≡ Held r → r.d ≢ 0 → r.d ≢ 6 → Rises k u p r
+pub rises-run : (t u : List ℕ) (k : List Division) → Run t k u → (p : Point) (r : Record) → look_up t p ≡ Some r → r.d ≢ 0 → r.d ≢ 6 → Rises k u p r
 rises-run t _ _ here p r e z n = rises-start [] t p r e z n
 rises-run t _ _ (next k s q v l x) p r e z n =
     let c = stepped s v l x in
@@ -256,13 +254,13 @@ rises-born t _ _ (next k s q v l x) c i m j h = go (Memᴰ.cases_cons m) (λ n. 
         (rises-step s v st.whole k (born_at c i j).at (born_at c i j) (ih n))
     go (inl e) ih =
         let n = new_is s v st.whole c i e j in
-        let b : look_up (divide_at s v) (born_at c i j).at ≡ Held (born_at c i j) =
-        sym (λ a. look_up (st.is a) (n a).at) ∙ subdivided-new s v st.whole j h ∙ ap Held n in
+        let b : look_up (divide_at s v) (born_at c i j).at ≡ Some (born_at c i j) =
+        sym (λ a. look_up (st.is a) (n a).at) ∙ subdivided-new s v st.whole j h ∙ ap Some n in
         rises-start ((v.at, v.n.0) ∷ k) (divide_at s v) (born_at c i j).at (born_at c i j) b (λ z. omega arith) (λ z. omega arith)
 
 -- ---- what was subdivided, and the rim, followed on
 pub divided-six : (t u : List ℕ) (k : List Division) → Run t k u → (q : Point) (i : ℕ) → Memᴰ (q, i) k
-    → (x : Record) × (look_up u q ≡ Held x) × (x.d ≡ 6) × (i < x.n.0)
+    → (x : Record) × (look_up u q ≡ Some x) × (x.d ≡ 6) × (i < x.n.0)
 divided-six t _ _ here q i m = absurd (Memᴰ.not-nil m)
 divided-six t _ _ (next k s r v l x) q i m = go (Memᴰ.cases_cons m) (λ n. divided-six t s k r q i n)
   where
@@ -270,8 +268,8 @@ divided-six t _ _ (next k s r v l x) q i m = go (Memᴰ.cases_cons m) (λ n. div
     st = stepped s v l x
 
     go : (◌≡◌ {A = Division} (q, i) (v.at, v.n.0)) ⊎ Memᴰ (q, i) k
-        → (Memᴰ (q, i) k → (x : Record) × (look_up s q ≡ Held x) × (x.d ≡ 6) × (i < x.n.0))
-        → (x : Record) × (look_up (divide_at s v) q ≡ Held x) × (x.d ≡ 6) × (i < x.n.0)
+        → (Memᴰ (q, i) k → (x : Record) × (look_up s q ≡ Some x) × (x.d ≡ 6) × (i < x.n.0))
+        → (x : Record) × (look_up (divide_at s v) q ≡ Some x) × (x.d ≡ 6) × (i < x.n.0)
     go (inr n) ih =
         let (y, e, six, lt) = ih n in
         let (z, f, d, le) = six-stays s v st.whole q y e six in
@@ -287,7 +285,7 @@ run-order t _ _ o (next l s r v e z) = let c = stepped s v e z in subst InOrder 
 
 -- no level rises above m, where all that is subdivided is below m
 pub level-run : (t u : List ℕ) (k : List Division) → Run t k u → (m : ℕ) → ((x : Division) → Memᴰ x k → x.1 < m) → (p : Point) (r : Record)
-    → look_up t p ≡ Held r → r.n.0 ≤ m → (x : Record) × (look_up u p ≡ Held x) × (x.n.0 ≤ m)
+    → look_up t p ≡ Some r → r.n.0 ≤ m → (x : Record) × (look_up u p ≡ Some x) × (x.n.0 ≤ m)
 level-run t _ _ here m f p r e a = (r, e, a)
 level-run t _ _ (next k s q v l z) m f p r e a =
     let c = stepped s v l z in
@@ -303,13 +301,13 @@ six-run t _ _ (next k s q v l x) p six =
     let (z, f, d6, le) = six-stays s v c.whole p y e d in
     (z, ap (λ (a : List ℕ). look_up a p) (sym c.is) ∙ f, d6)
 
-pub rim-run : (t u : List ℕ) (k : List Division) → Run t k u → (p : Point) (r : Record) → look_up t p ≡ Held r → r.d ≡ 0 → look_up u p ≡ Held r
+pub rim-run : (t u : List ℕ) (k : List Division) → Run t k u → (p : Point) (r : Record) → look_up t p ≡ Some r → r.d ≡ 0 → look_up u p ≡ Some r
 rim-run t _ _ here p r e z = e
 rim-run t _ _ (next k s q v l x) p r e z =
     let c = stepped s v l x in
     ap (λ (a : List ℕ). look_up a p) (sym c.is) ∙ rim-stays s v c.whole p r (rim-run t s k q p r e z) z
 
-pub rim-origin : (t u : List ℕ) (k : List Division) → Run t k u → (p : Point) (r : Record) → look_up u p ≡ Held r → r.d ≡ 0 → look_up t p ≡ Held r
+pub rim-origin : (t u : List ℕ) (k : List Division) → Run t k u → (p : Point) (r : Record) → look_up u p ≡ Some r → r.d ≡ 0 → look_up t p ≡ Some r
 rim-origin t _ _ here p r e z = e
 rim-origin t _ _ (next k s q v l x) p r e z =
     let c = stepped s v l x in
@@ -317,7 +315,7 @@ rim-origin t _ _ (next k s q v l x) p r e z =
 
 -- ---- where a vertex of degree 3 to 5 comes from
 pub data Origin (t : List ℕ) (l : List Division) (p : Point) (x : Record) : Type 0 where
-  stood : (r : Record) → look_up t p ≡ Held r → r.d ≢ 0 → r.d ≢ 6 → r.n.0 ≡ x.n.0 → ((e : ℕ) → e < 12 → T (lacks x e) → T (lacks r e)) → Origin t l p x
+  stood : (r : Record) → look_up t p ≡ Some r → r.d ≢ 0 → r.d ≢ 6 → r.n.0 ≡ x.n.0 → ((e : ℕ) → e < 12 → T (lacks x e) → T (lacks r e)) → Origin t l p x
   born : (c : Point) (i : ℕ) → Memᴰ (c, i) l → (j : ℕ) → j < 6 → p ≡ (born_at c i j).at → suc i ≡ x.n.0
       → ((e : ℕ) → e < 12 → T (lacks x e) → T (lacks (born_at c i j) e)) → Origin t l p x
 
@@ -327,7 +325,7 @@ origin_on : (t : List ℕ) (l : List Division) (y : Division) (p : Point) (u x :
 origin_on t l y p u x n f (stood r e z s m g) = stood r e z s (m ∙ n) (λ e h k. g e h (f e h k))
 origin_on t l y p u x n f (born c i m j h q lv g) = born c i (Memᴰ.tail m) j h q (lv ∙ n) (λ e h k. g e h (f e h k))
 
-pub origin : (t s : List ℕ) (l : List Division) → Run t l s → (p : Point) (x : Record) → look_up s p ≡ Held x → x.d ≢ 0 → x.d ≢ 6 → Origin t l p x
+pub origin : (t s : List ℕ) (l : List Division) → Run t l s → (p : Point) (x : Record) → look_up s p ≡ Some x → x.d ≢ 0 → x.d ≢ 6 → Origin t l p x
 origin t _ _ here p x e z n = stood x e z n refl (λ e h m. m)
 origin t _ _ (next l s r v a b) p x e z n = go (came s v w p x e') (λ u f y k. origin t s l r p u f y k)
   where
@@ -337,11 +335,11 @@ origin t _ _ (next l s r v a b) p x e z n = go (came s v w p x e') (λ u f y k. 
     w : Intact s v
     w = st.whole
 
-    e' : look_up (subdivided s v) p ≡ Held x
+    e' : look_up (subdivided s v) p ≡ Some x
     e' = ap (λ (c : List ℕ). look_up c p) st.is ∙ e
 
-    go : ((u : Record) × (look_up s p ≡ Held u) × Change s v w p u) ⊎ ((j : ℕ) × (j < 6) × (p ≡ (new_of v j).at) × (x ≡ new_of v j))
-        → ((u : Record) → look_up s p ≡ Held u → u.d ≢ 0 → u.d ≢ 6 → Origin t l p u) → Origin t ((v.at, v.n.0) ∷ l) p x
+    go : ((u : Record) × (look_up s p ≡ Some u) × Change s v w p u) ⊎ ((j : ℕ) × (j < 6) × (p ≡ (new_of v j).at) × (x ≡ new_of v j))
+        → ((u : Record) → look_up s p ≡ Some u → u.d ≢ 0 → u.d ≢ 6 → Origin t l p u) → Origin t ((v.at, v.n.0) ∷ l) p x
     go (inr (j, h, q, y)) ih =
         let i : new_of v j ≡ born_at v.at v.n.0 j = new_is s v w v.at v.n.0 refl j in
         let m : x.n.0 ≡ v.n.0 + 1 = ap (λ (r : Record). r.n.0) y in

@@ -3,7 +3,7 @@
 -- and at which levels · `goes_order` a table in order stays in order · `goes-risen` a vertex brought has degree 6, at its own level and one more.
 -- Why its level: what is missing is made at that level, so it rises; nothing is subdivided above that level, so it rises by one.
 -- Assumes nothing.
-use Rattle.std.specs.Prelude.{◌≡◌, refl, ◌≢◌, ◌⊎◌, Bool, true, false, cond, ℕ, suc, ◌+◌, ◌%◌, ◌≤◌, ◌<◌, ltb}
+use Rattle.std.specs.Prelude.{◌≡◌, refl, ◌≢◌, ◌⊎◌, Bool, true, false, cond, ℕ, suc, ◌+◌, ◌%◌, ◌≤◌, ◌<◌, ltb, Option, Some}
 use Rattle.std.proofs.Common.{sym, ◌∙◌, ap, subst, inl, inr, arith, eqb-true, lt-ltb, le-ltb, eq-eqb, ne_eqb}
 use mathlib.Core.List.Memᴰ
 use mathlib.Core.List.{List, [], ◌∷◌, ◌++◌, Memᴰ}
@@ -17,8 +17,6 @@ use Rattle.table.specs.Entries.{look_up}
 use Rattle.table.specs.Order.{InOrder}
 use Rattle.table.specs.Slots.{free_slots}
 use Rattle.table.specs.MapLaws.{lookup-valid, lookup-point, order-test}
-use Rattle.table.specs.declared.entries.Looked.{Looked}
-use Rattle.table.specs.declared.entries.Looked.TheVariants.{Held}
 use Rattle.mesh.specs.Subdivide.{MeshAfter, mesh_after, torn, subdivided, subdivide_vertex, subdivide_of}
 use Rattle.mesh.specs.CallLaws.{call-vertex}
 use Rattle.mesh.specs.StepLaws.{own-looked, held_same}
@@ -60,10 +58,10 @@ module _ (s : List ℕ) (u : Record) (six : u.d ≡ 6) (low : u.n.0 < 12) where
       go false e (yes h) = g 8 (few e h refl)
       go false e (no h) = f (record { whole = e; room = omega arith })
 
-pub divide-run : (s : List ℕ) → InOrder s → (p : Point) (u : Record) → look_up s p ≡ Held u → u.d ≡ 6 → u.n.0 < 12 → Accepts s u
+pub divide-run : (s : List ℕ) → InOrder s → (p : Point) (u : Record) → look_up s p ≡ Some u → u.d ≡ 6 → u.n.0 < 12 → Accepts s u
     → Run s ((u.at, u.n.0) ∷ []) (subdivided s u)
 divide-run s o p u e d l a =
-    let own : look_up s u.at ≡ Held u = ap (look_up s) (lookup-point s o p u e) ∙ e in
+    let own : look_up s u.at ≡ Some u = ap (look_up s) (lookup-point s o p u e) ∙ e in
     let c = call-vertex s u.at.a u.at.b u.at.m.0 (order-test s o) u (own-looked s o u own) in
     let h = sym c ∙ accepts-0 s u d l a in
     let z : (subdivide_of s u.at.a u.at.b u.at.m.0).number ≡ 0 = ap (λ (q : MeshAfter). q.number) h in
@@ -165,24 +163,24 @@ goes-six : (v : Record) (js s r : List ℕ) → Goes (places v js) s r → is_si
 goes-six v _ _ _ (each _ j js s r u a b) = goes-six v js r u b
 goes-six v _ _ _ (all _ s e) = e
 
-pub goes-risen : (s : List ℕ) → InOrder s → (v : Record) → look_up s v.at ≡ Held v → v.d ≢ 0 → v.d ≢ 6 → v.n.0 < 12
-    → (r : List ℕ) → Goes (all_places v) s r → look_up r v.at ≡ Held (risen v.at v.n.0)
+pub goes-risen : (s : List ℕ) → InOrder s → (v : Record) → look_up s v.at ≡ Some v → v.d ≢ 0 → v.d ≢ 6 → v.n.0 < 12
+    → (r : List ℕ) → Goes (all_places v) s r → look_up r v.at ≡ Some (risen v.at v.n.0)
 goes-risen s o v e nz n6 low r g = go (goes-made (all_places v) s r g low o)
   where
-    six-held : (l : Looked) (u : Record) → l ≡ Held u → is_six l ≡ true → u.d ≡ 6
+    six-held : (l : Option Record) (u : Record) → l ≡ Some u → is_six l ≡ true → u.d ≡ 6
     six-held l u e h = eqb-true u.d 6 (ap is_six (sym e) ∙ h)
 
-    by : (k : List Division) → Rises k r v.at v → (x : Record) × (look_up r v.at ≡ Held x) × (x.n.0 ≤ suc v.n.0)
-        → look_up r v.at ≡ Held (risen v.at v.n.0)
+    by : (k : List Division) → Rises k r v.at v → (x : Record) × (look_up r v.at ≡ Some x) × (x.n.0 ≤ suc v.n.0)
+        → look_up r v.at ≡ Some (risen v.at v.n.0)
     by k (waits x l a0 a6 lv f) top = absurd (a6 (six-held (look_up r v.at) x l (goes-six v _ s r g)))
     by k (hist.risen x l d lt f) (y, h, hi) =
         let q = ap (λ (z : Record). z.n.0) (held_same (sym h ∙ l)) in
         let lv : x.n.0 ≡ suc v.n.0 = omega arith in
         let o' = goes_order (all_places v) s r g low o in
         let at : x.at ≡ v.at = lookup-point r o' v.at x l in
-        l ∙ ap Held (six-is x (of-true (lookup-valid r o' v.at x l)) d ∙ (λ j. vertex (at j) 6 (lv j % 2) (lv j)))
+        l ∙ ap Some (six-is x (of-true (lookup-valid r o' v.at x l)) d ∙ (λ j. vertex (at j) 6 (lv j % 2) (lv j)))
 
-    go : (k : List Division) × Run s k r × Made (all_places v) k × Within (all_places v) k → look_up r v.at ≡ Held (risen v.at v.n.0)
+    go : (k : List Division) × Run s k r × Made (all_places v) k × Within (all_places v) k → look_up r v.at ≡ Some (risen v.at v.n.0)
     go (k, q, m, c) =
         by k (rises-run s r k q v.at v e nz n6)
         (level-run s r k q (suc v.n.0) (λ x i. (let b = c x i in omega arith)) v.at v e (omega arith))

@@ -2,7 +2,7 @@
 -- `comes_to` the definition, task by task · `meets-number` 7, 16 and 8 · `goes-comes`, `meets-comes` what First says is what it comes to · `Told`,
 -- `brought-told` of a table in order it is always one of the two · `goes-brought`, `meets-brought` a vertex brought to degree 6.
 -- Assumes nothing.
-use Rattle.std.specs.Prelude.{◌≡◌, refl, ◌≢◌, ◌⊎◌, Bool, true, false, cond, List, [], ◌∷◌, ℕ, zero, suc, ◌+◌, ◌<◌}
+use Rattle.std.specs.Prelude.{◌≡◌, refl, ◌≢◌, ◌⊎◌, Bool, true, false, cond, List, [], ◌∷◌, ℕ, zero, suc, ◌+◌, ◌<◌, Option, Some, None}
 use Rattle.std.proofs.Common.{sym, ◌∙◌, ap, subst, inl, inr, arith}
 use Rattle.std.proofs.Math.Decide.{ℕ_discrete}
 use Rattle.lattice.specs.Stars.{adjacent_at}
@@ -11,8 +11,6 @@ use Rattle.lattice.specs.declared.records.Record.{Record}
 use Rattle.table.specs.Entries.{look_up}
 use Rattle.table.specs.Order.{InOrder}
 use Rattle.table.specs.MapLaws.{lookup-point}
-use Rattle.table.specs.declared.entries.Looked.{Looked}
-use Rattle.table.specs.declared.entries.Looked.TheVariants.{Absent, Held}
 use Rattle.mesh.specs.Subdivide.{MeshAfter, mesh_after, subdivided, subdivide_vertex, and_then}
 use Rattle.mesh.specs.StepLaws.{then-on, then-stop}
 use Rattle.bring.specs.Bring.{places_of, each_of, raised_at, near_of, is_six, ends_at, bring_of}
@@ -74,8 +72,8 @@ unfolding each_of
 each-end v s b e = sym (then-on (mesh_after 0 s) (λ y. ends_at y (look_up y v.at)) refl) ∙ ap (λ (x : Bool). cond x (mesh_after 0 s) (mesh_after 7 s)) e
 
 -- a neighbour that was brought first
-raised_is : (n : ℕ) (p : Point) (s r : List ℕ) (u w : Record) → u.at ≡ p → look_up s p ≡ Held u → u.d ≢ 0 → u.d ≢ 6 → u.n.0 + 1 ≡ n
-    → comes_to (all_places u) s ≡ mesh_after 0 r → look_up r p ≡ Held w → near_of n s p ≡ subdivide_vertex r w
+raised_is : (n : ℕ) (p : Point) (s r : List ℕ) (u w : Record) → u.at ≡ p → look_up s p ≡ Some u → u.d ≢ 0 → u.d ≢ 6 → u.n.0 + 1 ≡ n
+    → comes_to (all_places u) s ≡ mesh_after 0 r → look_up r p ≡ Some w → near_of n s p ≡ subdivide_vertex r w
 raised_is n p s r u w a e z d l c f =
     let b : bring_of u.n.0 s u ≡ mesh_after 0 r = sym (places_is u s) ∙ c in
     sym (near-lower n s p u e z d l) ∙ ap (λ (o : MeshAfter). and_then o (λ y. raised_at y (look_up y u.at))) b
@@ -128,7 +126,7 @@ abbrev Brings : ℕ → Type 0
 Brings i = (v : Record) → v.n.0 ≡ i → (s : List ℕ) → InOrder s → Told (all_places v) s
 
 module _ (n : ℕ) (low : n < 12) (ih : (i : ℕ) → n ≡ suc i → Brings i) (s : List ℕ) (o : InOrder s) (p : Point) where
-  vertex-told : (u : Record) → look_up s p ≡ Held u → Dec (u.d ≡ 0) → Dec (u.d ≡ 6) → Dec (u.n.0 ≡ n) → Dec (u.n.0 + 1 ≡ n) → Told (neighbour n p) s
+  vertex-told : (u : Record) → look_up s p ≡ Some u → Dec (u.d ≡ 0) → Dec (u.d ≡ 6) → Dec (u.n.0 ≡ n) → Dec (u.n.0 + 1 ≡ n) → Told (neighbour n p) s
   vertex-told u e (yes d) x l k = meets 16 (first.boundary n p s u e d refl)
   vertex-told u e (no d) (yes x) (no l) k = meets 7 (first.other n p s u e x l refl)
   vertex-told u e (no d) (yes x) (yes l) k =
@@ -143,7 +141,7 @@ module _ (n : ℕ) (low : n < 12) (ih : (i : ℕ) → n ≡ suc i → Brings i) 
       brought (meets y m) = meets y (first.lower n p s u e d x k m)
       brought (goes r g) =
           let w = risen u.at u.n.0 in
-          let g' : look_up r p ≡ Held w = ap (look_up r) (sym at) ∙ goes-risen s o u (ap (look_up s) at ∙ e) d x (omega arith) r g in
+          let g' : look_up r p ≡ Some w = ap (look_up r) (sym at) ∙ goes-risen s o u (ap (look_up s) at ∙ e) d x (omega arith) r g in
           either r w refl (omega arith)
           (λ a. goes (subdivided r w) (raised n p s r u w e d x k g g' refl (omega arith) a))
           (λ y z. meets y (first.raised n p s r u w e d x k g g' refl (omega arith) z))
@@ -151,9 +149,9 @@ module _ (n : ℕ) (low : n < 12) (ih : (i : ℕ) → n ≡ suc i → Brings i) 
   near-told : Told (neighbour n p) s
   near-told = go (look_up s p) refl
     where
-      go : (l : Looked) → look_up s p ≡ l → Told (neighbour n p) s
-      go Absent e = meets 7 (first.absent n p s e refl)
-      go (Held u) e = vertex-told u e (ℕ_discrete u.d 0) (ℕ_discrete u.d 6) (ℕ_discrete u.n.0 n) (ℕ_discrete (u.n.0 + 1) n)
+      go : (l : Option Record) → look_up s p ≡ l → Told (neighbour n p) s
+      go None e = meets 7 (first.absent n p s e refl)
+      go (Some u) e = vertex-told u e (ℕ_discrete u.d 0) (ℕ_discrete u.d 6) (ℕ_discrete u.n.0 n) (ℕ_discrete (u.n.0 + 1) n)
 
 module _ (n : ℕ) (low : n < 12) (ih : (i : ℕ) → n ≡ suc i → Brings i) (v : Record) (lv : v.n.0 ≡ n) where
   each-told : (js s : List ℕ) → InOrder s → Told (places v js) s

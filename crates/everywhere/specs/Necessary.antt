@@ -9,7 +9,7 @@
 -- does no harm: a vertex that is missing a direction there was missing it at the beginning, or was made on the way, by a subdivision that is needed,
 -- and so it is made in every such sequence.
 -- Assumes nothing.
-use Rattle.std.specs.Prelude.{◌≡◌, refl, ◌≢◌, ◌⊎◌, ℕ, suc, ◌+◌, ◌*◌, ◌%◌, ◌-◌, ◌≤◌, ◌<◌, T, length}
+use Rattle.std.specs.Prelude.{◌≡◌, refl, ◌≢◌, ◌⊎◌, ℕ, suc, ◌+◌, ◌*◌, ◌%◌, ◌-◌, ◌≤◌, ◌<◌, T, length, Some}
 use Rattle.std.proofs.Common.{sym, ◌∙◌, ap, subst, inl, inr, arith}
 use mathlib.Core.List.Memᴰ
 use mathlib.Core.List.{List, [], ◌∷◌, ◌++◌, Memᴰ}
@@ -24,7 +24,6 @@ use Rattle.table.specs.Entries.{look_up}
 use Rattle.table.specs.Order.{InOrder}
 use Rattle.table.specs.Slots.{free_slots}
 use Rattle.table.specs.MapLaws.{lookup-valid, lookup-point}
-use Rattle.table.specs.declared.entries.Looked.TheVariants.{Held}
 use Rattle.mesh.specs.Subdivide.{subdivided}
 use Rattle.mesh.specs.StepLaws.{held_same}
 use Rattle.bring.specs.ChainLaws.{places-first}
@@ -108,7 +107,7 @@ all_made k u p r (risen x l d lt f) g e h m = f e h m
 all_made k u p r (waits x l nz n6 lv f) (y, i, d) e h m = absurd (n6 (ap (λ (r : Record). r.d) (held_same (sym l ∙ i)) ∙ d))
 
 -- t comes to s by l; from the records of t, in whatever room, k comes to u, has all of l, and the vertex at p has degree 6 then
-pub needed : (t s : List ℕ) (l : List Division) → Run t l s → (p : Point) (x : Record) → look_up s p ≡ Held x → x.d ≢ 0 → x.d ≢ 6
+pub needed : (t s : List ℕ) (l : List Division) → Run t l s → (p : Point) (x : Record) → look_up s p ≡ Some x → x.d ≢ 0 → x.d ≢ 6
     → (t' u : List ℕ) (k : List Division) → Alike t t' → Run t' k u → Has l k → Six u p → (e : ℕ) → e < 12 → T (lacks x e)
     → Memᴰ (move_of p e x.n.0, x.n.0) k
 needed t s l r p x i nz n6 t' u k a q h goal e le m = go (origin t s l r p x i nz n6)
@@ -149,7 +148,7 @@ module _ (t : List ℕ) (p : Point) where
       }
 
   -- a vertex of degree 3 to 5 that they bring to degree 6: its places
-  pub places-wanted : (l : List Division) (s : List ℕ) → Going l s → (v : Record) → look_up s v.at ≡ Held v → v.d ≢ 0 → v.d ≢ 6
+  pub places-wanted : (l : List Division) (s : List ℕ) → Going l s → (v : Record) → look_up s v.at ≡ Some v → v.d ≢ 0 → v.d ≢ 6
       → ((k : List Division) (y : Reaching t p k) → Six y.last v.at) → Wanted (all_places v)
   places-wanted l s g v held nz n6 goal j i k y =
       let (a, b) = run_in (6 - v.d) 0 j (subst (Memᴰ j) (places-first v.d inside.low inside.top) i) in
@@ -168,14 +167,14 @@ module _ (t : List ℕ) (p : Point) where
   wanted-six q n w k y = let (x, e, d, lt) = divided-six y.first y.last k y.run q n (w k y) in (x, e, d)
 
   -- so what brings it is wanted
-  lower-wanted : (l : List Division) (s : List ℕ) → Going l s → (n : ℕ) (q : Point) → Wanted (neighbour n q) → (u : Record) → look_up s q ≡ Held u
+  lower-wanted : (l : List Division) (s : List ℕ) → Going l s → (n : ℕ) (q : Point) → Wanted (neighbour n q) → (u : Record) → look_up s q ≡ Some u
       → u.d ≢ 0 → u.d ≢ 6 → Wanted (all_places u)
   lower-wanted l s g n q w u e z d =
       let at : u.at ≡ q = lookup-point s g.order q u e in
       places-wanted l s g u (ap (look_up s) at ∙ e) z d (λ k y. subst (Six y.last) (sym at) (wanted-six q n w k y))
 
   -- the subdivision of u, which stands at q
-  wanted-one : (s : List ℕ) → InOrder s → (n : ℕ) (q : Point) → Wanted (neighbour n q) → (u : Record) → look_up s q ≡ Held u → u.n.0 ≡ n
+  wanted-one : (s : List ℕ) → InOrder s → (n : ℕ) (q : Point) → Wanted (neighbour n q) → (u : Record) → look_up s q ≡ Some u → u.n.0 ≡ n
       → Needs ((u.at, u.n.0) ∷ [])
   wanted-one s o n q w u e l k y =
       let at : u.at ≡ q = lookup-point s o q u e in
@@ -217,7 +216,7 @@ module _ (t : List ℕ) (p : Point) where
   refuses-7 x e = (λ z. absurd (omega arith), λ z. absurd (omega arith))
 
   -- on the rim it never has degree 6
-  rim-none : (l : List Division) (s : List ℕ) → Going l s → (n : ℕ) (q : Point) → Wanted (neighbour n q) → (u : Record) → look_up s q ≡ Held u → u.d ≡ 0
+  rim-none : (l : List Division) (s : List ℕ) → Going l s → (n : ℕ) (q : Point) → Wanted (neighbour n q) → (u : Record) → look_up s q ≡ Some u → u.d ≡ 0
       → (k : List Division) → Reaching t p k → ⊥
   rim-none l s g n q w u e d k y =
       let (x, f, d6) = wanted-six q n w k y in
@@ -226,7 +225,7 @@ module _ (t : List ℕ) (p : Point) where
       omega arith
 
   -- u still stands at that level, so it is not among those made: one more than fits
-  short : (l : List Division) (s : List ℕ) → Going l s → (u : Record) → look_up s u.at ≡ Held u → Needs ((u.at, u.n.0) ∷ []) → free_slots s < 6
+  short : (l : List Division) (s : List ℕ) → Going l s → (u : Record) → look_up s u.at ≡ Some u → Needs ((u.at, u.n.0) ∷ []) → free_slots s < 6
       → (k : List Division) → Reaching t p k → free_slots t < 6 * length k
   short l s g u e w less k y =
       let one = has-length ((u.at, u.n.0) ∷ l) k (Once.one (u.at, u.n.0) l new (run-once t s l g.run))
@@ -241,11 +240,11 @@ module _ (t : List ℕ) (p : Point) where
           let q : x.n.0 ≡ u.n.0 = ap (λ (z : Record). z.n.0) (held_same (sym h ∙ e)) in
           omega arith
 
-  denies-refuses : (x : ℕ) (l : List Division) (s : List ℕ) → Going l s → (n : ℕ) (q : Point) → Wanted (neighbour n q) → (u : Record) → look_up s q ≡ Held u
+  denies-refuses : (x : ℕ) (l : List Division) (s : List ℕ) → Going l s → (n : ℕ) (q : Point) → Wanted (neighbour n q) → (u : Record) → look_up s q ≡ Some u
       → u.n.0 ≡ n → Denies s u x → Refuses x
   denies-refuses x l s g n q w u e v (tears a z) = refuses-7 x z
   denies-refuses x l s g n q w u e v (few a f z) =
-      let own : look_up s u.at ≡ Held u = ap (look_up s) (lookup-point s g.order q u e) ∙ e in
+      let own : look_up s u.at ≡ Some u = ap (look_up s) (lookup-point s g.order q u e) ∙ e in
       (λ y. absurd (omega arith), λ y. short l s g u own (wanted-one s g.order n q w u e v) f)
 
   pub meets-refuses : (x : ℕ) (T : Task) (s : List ℕ) → Meets x T s → level_of T < 12 → (l : List Division) → Going l s → Wanted T → Refuses x

@@ -6,7 +6,7 @@
 -- a boundary vertex, or has degree 6 at the level wanted, or a lower degree a level lower (Beside).
 -- How many: a neighbour that has to be brought first is of degree 4 or 5, so two of its own at most; and of three neighbours one is of degree 6.
 -- Assumes nothing.
-use Rattle.std.specs.Prelude.{◌≡◌, ◌≢◌, ◌⊎◌, Bool, true, false, cond, T, length}
+use Rattle.std.specs.Prelude.{◌≡◌, ◌≢◌, ◌⊎◌, Bool, true, false, cond, T, length, Option, Some, None}
 use Rattle.std.proofs.Math.Path.{refl, ap}
 use Rattle.std.proofs.Common.{sym, ◌∙◌, subst, inl, inr, true≢false, suc-mul, mul-le-mul_right, eqb-true, eq-eqb, ne_eqb}
 use mathlib.Core.List.Memᴰ
@@ -21,8 +21,6 @@ use Rattle.lattice.specs.declared.records.Record.{Record}
 use Rattle.table.specs.Entries.{look_up}
 use Rattle.table.specs.Slots.{free_slots}
 use Rattle.table.specs.MapLaws.{order-test}
-use Rattle.table.specs.declared.entries.Looked.{Looked}
-use Rattle.table.specs.declared.entries.Looked.TheVariants.{Absent, Held}
 use Rattle.mesh.specs.Grown.{Grown}
 use Rattle.mesh.specs.Subdivide.{MeshAfter, torn, subdivided}
 use Rattle.mesh.specs.CallLaws.{call-vertex}
@@ -55,10 +53,10 @@ unfolding near_most
 near_up i n e = let z : n ≡ suc i = omega arith in ap near_most z
 
 -- a neighbour of degree 6 takes one
-unfoldable cost_of : ℕ → Looked → ℕ
+unfoldable cost_of : ℕ → Option Record → ℕ
 cost_of n l = cond (is_six l) 1 (near_most n)
 
-cost-low : (n : ℕ) (l : Looked) → (1 ≤ cost_of n l) × (cost_of n l ≤ near_most n)
+cost-low : (n : ℕ) (l : Option Record) → (1 ≤ cost_of n l) × (cost_of n l ≤ near_most n)
 unfolding cost_of
 cost-low n l = go (is_six l)
   where
@@ -66,11 +64,11 @@ cost-low n l = go (is_six l)
     go true = (omega arith, near-one n)
     go false = (near-one n, omega arith)
 
-cost-six : (n : ℕ) (l : Looked) (u : Record) → l ≡ Held u → u.d ≡ 6 → cost_of n l ≡ 1
+cost-six : (n : ℕ) (l : Option Record) (u : Record) → l ≡ Some u → u.d ≡ 6 → cost_of n l ≡ 1
 unfolding cost_of
 cost-six n l u e d = ap (λ (b : Bool). cond b 1 (near_most n)) (ap is_six e ∙ eq-eqb u.d 6 d)
 
-cost-less : (n : ℕ) (l : Looked) (u : Record) → l ≡ Held u → u.d ≢ 6 → cost_of n l ≡ near_most n
+cost-less : (n : ℕ) (l : Option Record) (u : Record) → l ≡ Some u → u.d ≢ 6 → cost_of n l ≡ near_most n
 unfolding cost_of
 cost-less n l u e d = ap (λ (b : Bool). cond b 1 (near_most n)) (ap is_six e ∙ ne_eqb u.d 6 d)
 
@@ -98,7 +96,7 @@ run-grown t _ _ g here = g
 run-grown t _ _ g (next l s r v e z) = divided-grown s (run-grown t s l g r) v.at.a v.at.b v.at.m.0 z
 
 -- no subdivision is torn
-untorn : (s : List ℕ) → Grown s → (p : Point) (u : Record) → look_up s p ≡ Held u → u.d ≡ 6 → u.n.0 < 12 → torn s u ≡ true → ⊥
+untorn : (s : List ℕ) → Grown s → (p : Point) (u : Record) → look_up s p ≡ Some u → u.d ≡ 6 → u.n.0 < 12 → torn s u ≡ true → ⊥
 untorn s g p u e d l t =
     let o = own-looked s g.order u (own s g p u e) in
     never-torn s g u.at.a u.at.b u.at.m.0
@@ -110,16 +108,16 @@ cost-later : (n : ℕ) (s r : List ℕ) (k : List Division) → Run s k r → (q
 unfolding cost_of
 cost-later n s r k y q = go (look_up s q) refl
   where
-    stays : (u : Record) → look_up s q ≡ Held u → (b : Bool) → is_six (Held u) ≡ b → cost_of n (look_up r q) ≤ cond b 1 (near_most n)
+    stays : (u : Record) → look_up s q ≡ Some u → (b : Bool) → is_six (Some u) ≡ b → cost_of n (look_up r q) ≤ cond b 1 (near_most n)
     stays u e true d =
         let (x, f, h) = six-run s r k y q (u, e, eqb-true u.d 6 d) in
         let z = cost-six n (look_up r q) x f h in
         omega arith
     stays u e false d = (cost-low n (look_up r q)).1
 
-    go : (l : Looked) → look_up s q ≡ l → cost_of n (look_up r q) ≤ cost_of n (look_up s q)
-    go Absent e = subst (λ (l : Looked). cost_of n (look_up r q) ≤ cost_of n l) (sym e) (cost-low n (look_up r q)).1
-    go (Held u) e = subst (λ (l : Looked). cost_of n (look_up r q) ≤ cost_of n l) (sym e) (stays u e (is_six (Held u)) refl)
+    go : (l : Option Record) → look_up s q ≡ l → cost_of n (look_up r q) ≤ cost_of n (look_up s q)
+    go None e = subst (λ (l : Option Record). cost_of n (look_up r q) ≤ cost_of n l) (sym e) (cost-low n (look_up r q)).1
+    go (Some u) e = subst (λ (l : Option Record). cost_of n (look_up r q) ≤ cost_of n l) (sym e) (stays u e (is_six (Some u)) refl)
 
 costs-later : (v : Record) (js s r : List ℕ) (k : List Division) → Run s k r → costs v js r ≤ costs v js s
 unfolding costs
@@ -137,7 +135,7 @@ cost (neighbour n p) s = cost_of n (look_up s p)
 cost (places v js) s = costs v js s
 
 -- what Beside says of the record that stands there
-beside-is : (s : List ℕ) (p : Point) (n : ℕ) → Beside s p n → (u : Record) → look_up s p ≡ Held u
+beside-is : (s : List ℕ) (p : Point) (n : ℕ) → Beside s p n → (u : Record) → look_up s p ≡ Some u
     → (u.d ≡ 0) ⊎ (((u.d ≡ 6) × (u.n.0 ≡ n)) ⊎ ((u.d ≢ 3) × (u.d ≢ 6) × (u.n.0 + 1 ≡ n)))
 beside-is s p n (side.rim w e d) u f = inl (ap (λ (r : Record). r.d) (held_same (sym f ∙ e)) ∙ d)
 beside-is s p n (side.six w e d l) u f =
@@ -147,7 +145,7 @@ beside-is s p n (side.lower w e d0 d3 d6 l) u f =
     let lv = ap (λ (r : Record). r.n.0) q in
     inr (inr ((λ z. d3 (ap (λ (r : Record). r.d) q ∙ z)), (λ z. d6 (ap (λ (r : Record). r.d) q ∙ z)), omega arith))
 
-beside-held : (s : List ℕ) (p : Point) (n : ℕ) → Beside s p n → look_up s p ≡ Absent → ⊥
+beside-held : (s : List ℕ) (p : Point) (n : ℕ) → Beside s p n → look_up s p ≡ None → ⊥
 beside-held s p n (side.rim w e d) a = absent-held (sym a ∙ e)
 beside-held s p n (side.six w e d l) a = absent-held (sym a ∙ e)
 beside-held s p n (side.lower w e d0 d3 d6 l) a = absent-held (sym a ∙ e)
@@ -164,7 +162,7 @@ two-cost s u i d3 =
     two : (n d : ℕ) → n ≡ 6 - d → 3 ≤ d → d ≢ 3 → n ≤ 2
     two n d e l h = omega arith
 
-lower-cost : (s : List ℕ) → Grown s → (n : ℕ) (p : Point) → Beside s p n → (u : Record) → look_up s p ≡ Held u → u.d ≢ 0 → u.d ≢ 6 → u.n.0 + 1 ≡ n
+lower-cost : (s : List ℕ) → Grown s → (n : ℕ) (p : Point) → Beside s p n → (u : Record) → look_up s p ≡ Some u → u.d ≢ 0 → u.d ≢ 6 → u.n.0 + 1 ≡ n
     → costs u (places_of u.d) s + 1 ≤ cost_of n (look_up s p)
 lower-cost s g n p b u e z x l = go (beside-is s p n b u e)
   where
@@ -175,7 +173,7 @@ lower-cost s g n p b u e z x l = go (beside-is s p n b u e)
         let c = two-cost s u (sound s g p u e z) d3 in let up = near_up u.n.0 n l in let is = cost-less n (look_up s p) u e x in omega arith
 
 -- six slots each
-divided-slots : (s : List ℕ) → Grown s → (p : Point) (u : Record) → look_up s p ≡ Held u → u.d ≡ 6 → u.n.0 < 12 → Accepts s u
+divided-slots : (s : List ℕ) → Grown s → (p : Point) (u : Record) → look_up s p ≡ Some u → u.d ≡ 6 → u.n.0 < 12 → Accepts s u
     → free_slots (subdivided s u) + 6 ≡ free_slots s
 divided-slots s g p u e d l a =
     let f = run-free s (subdivided s u) ((u.at, u.n.0) ∷ []) (divide-run s g.order p u e d l a) in
@@ -264,7 +262,7 @@ meets-cost x _ _ (first.below v s e q) h g c = go c.left
         absurd (Memᴰ.not-nil m)
 
 -- ---- the vertex asked
-module _ (t : List ℕ) (g : Grown t) (v : Record) (held : look_up t v.at ≡ Held v) (rim-not : v.d ≢ 0) (six-not : v.d ≢ 6) where
+module _ (t : List ℕ) (g : Grown t) (v : Record) (held : look_up t v.at ≡ Some v) (rim-not : v.d ≢ 0) (six-not : v.d ≢ 6) where
   abbrev cost_at : ℕ → ℕ
   cost_at j = cost_of v.n.0 (look_up t (adjacent_at v j))
 
@@ -298,7 +296,7 @@ module _ (t : List ℕ) (g : Grown t) (v : Record) (held : look_up t v.at ≡ He
           by (suc (suc zero)) h o e a b c = omega arith
           by (suc (suc (suc j))) h o e a b c = absurd (omega arith)
 
-      go : (j : ℕ) × (j < 3) × (u : Record) × (look_up t (adjacent_at v j) ≡ Held u) × (u.d ≡ 6) → costs v (places_of v.d) t ≤ 2 * near_most v.n.0 + 1
+      go : (j : ℕ) × (j < 3) × (u : Record) × (look_up t (adjacent_at v j) ≡ Some u) × (u.d ≡ 6) → costs v (places_of v.d) t ≤ 2 * near_most v.n.0 + 1
       go (j, h, u, f, d6) = total j h (cost-six v.n.0 (look_up t (adjacent_at v j)) u f d6)
 
   most : Dec (v.d ≡ 3) → costs v (places_of v.d) t ≤ 2 * near_most v.n.0 + 1

@@ -2,7 +2,7 @@
 -- line is read (`entry_read_lem`): `Reads` says where it and its note stand. `InList` a finding of the list · `entry-from`, `entry_in`, `entry_next` where it
 -- stands, and how far its line goes · `note-part` its note with the line feed, as a part of the list.
 -- Assumes nothing.
-use Rattle.std.specs.Prelude.{◌≡◌, Bool, ◌&&◌, ◌||◌, List, [], ◌∷◌, ◌++◌, ℕ, ◌+◌, ◌-◌, ◌≤◌, ◌<◌, ltb, nat_abs, take, drop}
+use Rattle.std.specs.Prelude.{◌≡◌, Bool, ◌&&◌, ◌||◌, List, [], ◌∷◌, ◌++◌, ℕ, ◌+◌, ◌-◌, ◌≤◌, ◌<◌, ltb, nat_abs, take, drop, Option, Some, None}
 use Rattle.std.proofs.Math.Path.{refl, subst, ap}
 use Rattle.std.proofs.Common.{sym, ◌∙◌, arith}
 use Rattle.std.proofs.Math.Bool.{true, false, cond}
@@ -30,13 +30,9 @@ use Rattle.text.specs.ReadingLaws.{
   number-write,
 }
 use Rattle.text.specs.Limits.{farthest, deepest, in_limits}
-use Rattle.text.specs.Line.{point_text, on_number, on_place, place_at}
+use Rattle.text.specs.Line.{point_text, on_read, place_at}
 use Rattle.text.specs.LineLaws.{place-write, place_read, stands-within}
 use Rattle.text.specs.LineLengths.{point-least}
-use Rattle.text.specs.declared.decimal.Number.{Number}
-use Rattle.text.specs.declared.decimal.Number.TheVariants.{Natural, NoNumber}
-use Rattle.text.specs.declared.line.Place.{Place}
-use Rattle.text.specs.declared.line.Place.TheVariants.{At, Nowhere}
 use Rattle.findings.specs.Findings.{
   most_number,
   longest_note,
@@ -163,7 +159,7 @@ not_end e = absurd (let z : ◌≡◌ {A = ℕ} 0 1 = cc in omega arith)
 
 module _ (l : List ℕ) (from : ℕ) (f : Finding) where
   -- its number, its point and its note, each where the one before ends
-  whole-read : (number past : ℕ) (p : Point) (note : ℕ) → number_at l from most_number tab ≡ Natural number past → place_at l past ≡ At p note
+  whole-read : (number past : ℕ) (p : Point) (note : ℕ) → number_at l from most_number tab ≡ Some (number, past) → place_at l past ≡ Some (p, note)
       → (ltb 0 number && (in_limits p && ends_line l note)) ≡ true → Reads l from (finding number p from note (note + length (note_at l note) + 1))
   unfolding finding_text
   whole-read number past p note en ep h =
@@ -191,22 +187,22 @@ module _ (l : List ℕ) (from : ℕ) (f : Finding) where
   unfolding entry_at
   entry_read_lem = go (leb (length l) from) (number_at l from most_number tab) refl
     where
-      ends : (number past : ℕ) (p : Point) (note : ℕ) (b : Bool) → number_at l from most_number tab ≡ Natural number past → place_at l past ≡ At p note
+      ends : (number past : ℕ) (p : Point) (note : ℕ) (b : Bool) → number_at l from most_number tab ≡ Some (number, past) → place_at l past ≡ Some (p, note)
           → (ltb 0 number && (in_limits p && ends_line l note)) ≡ b → cond b (Good (finding number p from note (note + length (note_at l note) + 1))) Bad ≡ Good f
           → Reads l from f
       ends number past p note true en ep t h = subst (Reads l from) (good-is h) (whole-read number past p note en ep t)
       ends number past p note false en ep t h = not-bad h
 
-      place : (number past : ℕ) (x : Place) → number_at l from most_number tab ≡ Natural number past → place_at l past ≡ x
-          → on_place x Bad (noted_at l from number) ≡ Good f → Reads l from f
-      place number past Nowhere en ep h = not-bad h
-      place number past (At p note) en ep h = ends number past p note (ltb 0 number && (in_limits p && ends_line l note)) en ep refl h
+      place : (number past : ℕ) (x : Option (Point × ℕ)) → number_at l from most_number tab ≡ Some (number, past) → place_at l past ≡ x
+          → on_read x Bad (noted_at l from number) ≡ Good f → Reads l from f
+      place number past None en ep h = not-bad h
+      place number past (Some (p, note)) en ep h = ends number past p note (ltb 0 number && (in_limits p && ends_line l note)) en ep refl h
 
-      go : (b : Bool) (n : Number) → number_at l from most_number tab ≡ n
-          → cond b End (on_number n Bad (numbered_at l from)) ≡ Good f → Reads l from f
+      go : (b : Bool) (n : Option (ℕ × ℕ)) → number_at l from most_number tab ≡ n
+          → cond b End (on_read n Bad (numbered_at l from)) ≡ Good f → Reads l from f
       go true n en h = not_end h
-      go false NoNumber en h = not-bad h
-      go false (Natural number past) en h = place number past (place_at l past) en refl h
+      go false None en h = not-bad h
+      go false (Some (number, past)) en h = place number past (place_at l past) en refl h
 
 -- ---- a finding of the list
 

@@ -2,7 +2,7 @@
 -- where none does, within the list · `FaultFrom` the lines before are good and this one is malformed: `fault-line`, `line-fault` it is what reading
 -- answers · `list_read` a list without one is the lines of its findings.
 -- Assumes nothing.
-use Rattle.std.specs.Prelude.{◌≡◌, Bool, true, false, cond, ◌&&◌, ltb}
+use Rattle.std.specs.Prelude.{◌≡◌, Bool, true, false, cond, ◌&&◌, ltb, Option, Some, None}
 use Rattle.std.proofs.Math.Path.{refl, ap}
 use Rattle.std.proofs.Common.{sym, ◌∙◌, subst, arith}
 use mathlib.Core.List.{List, [], ◌∷◌, ◌++◌}
@@ -16,11 +16,7 @@ use Rattle.text.specs.Decimal.{tab}
 use Rattle.text.specs.Reading.{number_at}
 use Rattle.text.specs.ReadingLaws.{Stands}
 use Rattle.text.specs.Limits.{in_limits}
-use Rattle.text.specs.Line.{on_number, on_place, place_at}
-use Rattle.text.specs.declared.decimal.Number.{Number}
-use Rattle.text.specs.declared.decimal.Number.TheVariants.{Natural, NoNumber}
-use Rattle.text.specs.declared.line.Place.{Place}
-use Rattle.text.specs.declared.line.Place.TheVariants.{At, Nowhere}
+use Rattle.text.specs.Line.{on_read, place_at}
 use Rattle.findings.specs.Findings.{most_number, note_at, ends_line, finding, noted_at, numbered_at, entry_at}
 use Rattle.findings.specs.Findings.{Listing, Sound, Faulty, ahead, entry_read, list_from, read_list, texts}
 use Rattle.findings.specs.EntryCases.{entry-end}
@@ -55,13 +51,13 @@ entry-over l p h = rw (lt-leb (length l) p h) (number (number_at l p most_number
     ends true f = refl
     ends false f = refl
 
-    place : (n : ℕ) (x : Place) → over (on_place x Bad (noted_at l p n)) ≡ false
-    place n Nowhere = refl
-    place n (At q note) = ends (ltb 0 n && (in_limits q && ends_line l note)) (finding n q p note (note + length (note_at l note) + 1))
+    place : (n : ℕ) (x : Option (Point × ℕ)) → over (on_read x Bad (noted_at l p n)) ≡ false
+    place n None = refl
+    place n (Some (q, note)) = ends (ltb 0 n && (in_limits q && ends_line l note)) (finding n q p note (note + length (note_at l note) + 1))
 
-    number : (n : Number) → over (on_number n Bad (numbered_at l p)) ≡ false
-    number NoNumber = refl
-    number (Natural n past) = place n (place_at l past)
+    number : (n : Option (ℕ × ℕ)) → over (on_read n Bad (numbered_at l p)) ≡ false
+    number None = refl
+    number (Some (n, past)) = place n (place_at l past)
 
 module _ (l : List ℕ) (p : ℕ) where
   pub entry-bad : p < length l → (Finds l p → ⊥) → entry_at l p ≡ Bad

@@ -2,18 +2,19 @@
 -- `entry_at` a line of the list · `Listing`, `read_list` all of them, or the first malformed one · `point_of` where a finding is · `standing`, `lost` the
 -- findings of the vertices, and those of none · `stands_text`, `lost_text` their lines · `joined` the joined list · `JoinAfter`, `join_of` what the call does.
 -- Assumes nothing.
-use Rattle.std.specs.Prelude.{Bool, cond, ◌&&◌, ◌||◌, not, List, [], ◌∷◌, ◌++◌, ℕ, zero, suc, ◌+◌, eqb, ltb, leb, length, drop}
+use Rattle.std.specs.Prelude.{Bool, cond, ◌&&◌, ◌||◌, not, List, [], ◌∷◌, ◌++◌, ℕ, zero, suc, ◌+◌, eqb, ltb, leb, length, drop, Result, Ok, Err}
 use Rattle.laws.specs.Choices.{unless}
 use Rattle.lattice.specs.Points.{normal_of}
 use Rattle.lattice.specs.declared.points.Point.{Point}
 use Rattle.lattice.specs.declared.records.Record.{Record}
+use Rattle.lattice.specs.declared.refusals.Fault.{Fault}
 use Rattle.table.specs.Search.{same_point}
 use Rattle.table.specs.Order.{in_order_of}
 use Rattle.table.specs.Entries.{holds, records_of}
 use Rattle.text.specs.Decimal.{digits, ended, tab, feed}
 use Rattle.text.specs.Reading.{begins, number_at}
 use Rattle.text.specs.Limits.{in_limits}
-use Rattle.text.specs.Line.{point_text, on_number, on_place, place_at}
+use Rattle.text.specs.Line.{point_text, on_read, place_at}
 use Rattle.writers.specs.Files.{sorted, put_of}
 use Rattle.findings.specs.declared.line.Finding.{Finding}
 use Rattle.findings.specs.declared.line.Entry.{Entry}
@@ -56,12 +57,12 @@ noted_at l from number p note =
 
 -- what stands behind its number: a point as in document 01's files, which are read beyond the limits, so the limits decide
 unfoldable pub numbered_at : List ℕ → ℕ → ℕ → ℕ → Entry
-numbered_at l from number past = on_place (place_at l past) Bad (noted_at l from number)
+numbered_at l from number past = on_read (place_at l past) Bad (noted_at l from number)
 
 -- "one line each, tabs between, numbers as in Document 01's files"
 unfoldable pub entry_at : List ℕ → ℕ → Entry
 unfolding numbered_at
-entry_at l from = cond (leb (length l) from) End (on_number (number_at l from most_number tab) Bad (numbered_at l from))
+entry_at l from = cond (leb (length l) from) End (on_read (number_at l from most_number tab) Bad (numbered_at l from))
 
 -- ---- the list
 
@@ -151,6 +152,11 @@ pub record JoinAfter : Type 0 where
   pub line : ℕ
   pub bytes : ℕ
   pub out : List ℕ
+
+-- how many bytes are written; none where the call is refused
+abbrev pub written : Result ℕ Fault → ℕ
+written (Ok bytes) = bytes
+written (Err fault) = 0
 
 abbrev pub join_after : ℕ → ℕ → ℕ → List ℕ → JoinAfter
 join_after number line bytes out = record { number = number; line = line; bytes = bytes; out = out }

@@ -17,9 +17,6 @@ use Rattle.findings.specs.StandingLaws.{lengths}
 use Rattle.findings.specs.Laying.{lost_end}
 use Rattle.findings.specs.ReadyLaws.{stands-as-long}
 
-pub out-is : {n n' i i' b b' : ℕ} (o : List ℕ) → n ≡ n' → i ≡ i' → b ≡ b' → join_after n i b o ≡ join_after n' i' b' o
-out-is o e f g = λ z. join_after (e z) (f z) (g z) o
-
 module _ (t l o : List ℕ) where
   abbrev rest : Listing → JoinAfter
   rest g = unless_faulty g (λ line. join_after 15 line 0 o) (λ fs. put_joined (joined t l fs) o)

@@ -1,7 +1,7 @@
 -- A list judged line by line. `line-stands`, `line-lost` one line more, by where its point is · `Judging` the lines up to a position are passed:
 -- `judging-start`, `judging-room`, `judging-good`, `judging-end`, `judging-bad` · `judged-sound`, `judged-faulty` what the answer says.
 -- Assumes nothing.
-use Rattle.std.specs.Prelude.{◌≡◌, Bool, true, false, not}
+use Rattle.std.specs.Prelude.{◌≡◌, Bool, true, false, not, Result, Ok, Err}
 use Rattle.std.proofs.Math.Path.{refl, sym}
 use Rattle.std.proofs.Common.{ap, ◌∙◌, arith, length-append}
 use mathlib.Core.List.{List, [], ◌∷◌, ◌++◌, append_assoc, append-nil}
@@ -18,7 +18,6 @@ use Rattle.findings.specs.Judged.{sound_in, found, AllSound, parts, parts_of, wi
 use Rattle.findings.specs.declared.line.Finding.{Finding}
 use Rattle.findings.specs.declared.line.Entry.TheVariants.{Good, Bad, End}
 use Rattle.findings.specs.declared.lists.Parts.{Parts}
-use Rattle.findings.specs.declared.lists.Judged.TheVariants as judged
 
 module _ (t l : List ℕ) (p : Parts) (f : Finding) where
   pub line-stands : holds t (point_of f) ≡ true → parts (p.stands + length (stands_text l f)) p.lost ≡ with_line t l p f
@@ -139,28 +138,28 @@ module _ (t l : List ℕ) (at line : ℕ) (p : Parts) (w : Judging t l at line p
           few = omega (arith, n.0);
         }
 
-  pub judging-end : entry_at l at ≡ End → judged.Sound p ≡ judged_of t l
+  pub judging-end : entry_at l at ≡ End → Ok p ≡ judged_of t l
   judging-end e =
-      ap judged.Sound (w.sums ∙ ap (parts_of t l) (sym (append-nil w.passed)))
+      ap (λ (x : Parts). Ok x) (w.sums ∙ ap (parts_of t l) (sym (append-nil w.passed)))
       ∙ ap (judged_listing t l) (ap (behind w.passed) (sym (on-end l at line e)) ∙ w.rest)
 
-  pub judging-bad : entry_at l at ≡ Bad → judged.Faulty line ≡ judged_of t l
+  pub judging-bad : entry_at l at ≡ Bad → Err line ≡ judged_of t l
   judging-bad e = ap (judged_listing t l) (ap (behind w.passed) (sym (on-bad l at line e)) ∙ w.rest)
 
 -- what the answer says
-pub judged-sound : (t l : List ℕ) (p : Parts) → judged.Sound p ≡ judged_of t l → AllSound l × (p ≡ parts_of t l (found l))
+pub judged-sound : (t l : List ℕ) (p : Parts) → Ok p ≡ judged_of t l → AllSound l × (p ≡ parts_of t l (found l))
 judged-sound t l p = go (read_list l)
   where
-    go : (g : Listing) → judged.Sound p ≡ judged_listing t l g → (g ≡ Sound (sound_in g)) × (p ≡ parts_of t l (sound_in g))
+    go : (g : Listing) → Ok p ≡ judged_listing t l g → (g ≡ Sound (sound_in g)) × (p ≡ parts_of t l (sound_in g))
     go (Sound fs) e = (refl, same (parts_of t l fs) e)
       where
-        same : (q : Parts) → judged.Sound p ≡ judged.Sound q → p ≡ q
+        same : (q : Parts) → ◌≡◌ {A = Result Parts ℕ} (Ok p) (Ok q) → p ≡ q
         same q k = cc
     go (Faulty line) e = absurd (let z : ◌≡◌ {A = ℕ} 0 1 = cc in omega arith)
 
-pub judged-faulty : (t l : List ℕ) (line : ℕ) → judged.Faulty line ≡ judged_of t l → read_list l ≡ Faulty line
+pub judged-faulty : (t l : List ℕ) (line : ℕ) → Err line ≡ judged_of t l → read_list l ≡ Faulty line
 judged-faulty t l line = go (read_list l)
   where
-    go : (g : Listing) → judged.Faulty line ≡ judged_listing t l g → g ≡ Faulty line
+    go : (g : Listing) → Err line ≡ judged_listing t l g → g ≡ Faulty line
     go (Sound fs) e = absurd (let z : ◌≡◌ {A = ℕ} 0 1 = cc in omega arith)
     go (Faulty i) e = ap Faulty (let z : i ≡ line = cc in z)

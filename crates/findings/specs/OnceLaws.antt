@@ -4,7 +4,7 @@
 -- as those of the findings on the plan · `lost-none`, `none-lost` the lost ones are those whose point has no record, in list order by `keep` ·
 -- `standing-held`, `held-standing` the others have one · `line_out` a finding's line out, `joined-lines` the joined list is these lines.
 -- Assumes nothing.
-use Rattle.std.specs.Prelude.{◌≡◌, Bool, ◌||◌, ℕ, ◌+◌, length}
+use Rattle.std.specs.Prelude.{◌≡◌, Bool, ◌||◌, ℕ, ◌+◌, length, Option, Some, None}
 use Rattle.std.proofs.Math.Path.{refl}
 use Rattle.std.proofs.Common.{sym, ap, ◌∙◌, ltb-true, length-append}
 use Rattle.std.proofs.Math.Bool.{true, false, cond, not}
@@ -18,8 +18,6 @@ use Rattle.table.specs.Search.{same_point}
 use Rattle.table.specs.Order.{InOrder}
 use Rattle.table.specs.Entries.{look_up, records_of, is_held, holds}
 use Rattle.table.specs.MapLaws.{lookup-point, lookup-valid, records-looked, looked-records, same_refl, same_true}
-use Rattle.table.specs.declared.entries.Looked.{Looked}
-use Rattle.table.specs.declared.entries.Looked.TheVariants.{Absent, Held}
 use Rattle.text.specs.LineOrder.{order_of, close, order-earlier}
 use Rattle.sorting.specs.SortLaws.{Rising}
 use Rattle.sorting.specs.Tally.{bit}
@@ -89,7 +87,7 @@ texts-weigh text (f ∷ fs) = omega (arith, length-append (text f) (texts text f
 
 module _ (t : List ℕ) (o : InOrder t) where
   -- no two records that rise are at one point
-  rises-apart : (r q : Record) → look_up t r.at ≡ Held r → look_up t q.at ≡ Held q → Before r q → r.at ≡ q.at → ⊥
+  rises-apart : (r q : Record) → look_up t r.at ≡ Some r → look_up t q.at ≡ Some q → Before r q → r.at ≡ q.at → ⊥
   rises-apart r q a b h e =
       let x = close r (lookup-valid t o r.at r a) in
       let y = close q (lookup-valid t o q.at q b) in
@@ -98,7 +96,7 @@ module _ (t : List ℕ) (o : InOrder t) where
       omega arith
 
   -- so w counts once, where some record is at p
-  weight-one : (w : ℕ) (p : Point) (rs : List Record) → Rising Before rs → ((r : Record) → Memᴰ r rs → look_up t r.at ≡ Held r)
+  weight-one : (w : ℕ) (p : Point) (rs : List Record) → Rising Before rs → ((r : Record) → Memᴰ r rs → look_up t r.at ≡ Some r)
       → weight w p rs ≡ cond (some_of (λ r. same_point p r.at) rs) w 0
   weight-one w p [] h k = refl
   weight-one w p (r ∷ rs) h k = go (same_point p r.at) refl (weight-one w p rs h.1 (λ q m. k q (Memᴰ.tail m)))
@@ -126,9 +124,9 @@ module _ (t : List ℕ) (o : InOrder t) where
       ap (holds t) (same_true p r.at d) ∙ ap is_held (vertex-held t o r m))
       (λ e. go (look_up t p) refl e)
     where
-      go : (x : Looked) → look_up t p ≡ x → is_held x ≡ true → some_of (λ r. same_point p r.at) (sorted (records_of t)) ≡ true
-      go Absent d e = absurd (never e)
-      go (Held r) d e =
+      go : (x : Option Record) → look_up t p ≡ x → is_held x ≡ true → some_of (λ r. same_point p r.at) (sorted (records_of t)) ≡ true
+      go None d e = absurd (never e)
+      go (Some r) d e =
           at_some (λ q. same_point p q.at) (sorted (records_of t)) r (holds-sorted t r (looked-records t o p r d))
           (ap (same_point p) (lookup-point t o p r d) ∙ same_refl p)
 
@@ -198,9 +196,9 @@ module _ (t : List ℕ) (o : InOrder t) where
     pub none-lost : Memᴰ f fs → ((r : Record) → Memᴰ r (records_of t) → r.at ≡ point_of f → ⊥) → Memᴰ f (lost t fs)
     none-lost m none = keep-mem (λ g. not (holds t (point_of g))) fs f m (ap not (go (look_up t (point_of f)) refl))
       where
-        go : (x : Looked) → look_up t (point_of f) ≡ x → holds t (point_of f) ≡ false
-        go Absent e = ap is_held e
-        go (Held r) e = absurd (none r (looked-records t o (point_of f) r e) (lookup-point t o (point_of f) r e))
+        go : (x : Option Record) → look_up t (point_of f) ≡ x → holds t (point_of f) ≡ false
+        go None e = ap is_held e
+        go (Some r) e = absurd (none r (looked-records t o (point_of f) r e) (lookup-point t o (point_of f) r e))
 
 -- ---- the lines
 

@@ -3,7 +3,7 @@
 -- `on_plan` the findings whose point has a vertex, `vertex-held`, `of_mem`, `mem-of` whose record they have · `Later` a line stands after another ·
 -- `rank_of`, `sooner` · `standing-sorted`.
 -- Assumes nothing.
-use Rattle.std.specs.Prelude.{◌≡◌, ◌⊎◌, Bool, ℕ, ◌+◌, ◌*◌, ◌<◌, ltb}
+use Rattle.std.specs.Prelude.{◌≡◌, ◌⊎◌, Bool, ℕ, ◌+◌, ◌*◌, ◌<◌, ltb, Option, Some, None}
 use Rattle.std.proofs.Math.Path.{refl, ap}
 use Rattle.std.proofs.Common.{sym, ◌∙◌, subst, inl, inr}
 use Rattle.std.proofs.Math.Bool.{true}
@@ -18,8 +18,6 @@ use Rattle.table.specs.Search.{same_point}
 use Rattle.table.specs.Order.{InOrder}
 use Rattle.table.specs.Entries.{look_up, records_of, is_held, holds}
 use Rattle.table.specs.MapLaws.{lookup-point, lookup-valid, records-looked, looked-records, same_refl, same_true}
-use Rattle.table.specs.declared.entries.Looked.{Looked}
-use Rattle.table.specs.declared.entries.Looked.TheVariants.{Absent, Held}
 use Rattle.text.specs.LineOrder.{order_of, Close, close, order-earlier}
 use Rattle.sorting.specs.Sorting.{sort_by}
 use Rattle.sorting.specs.SortLaws.{mem-sort, sort-mem, Rising, Decides, sort-rising, rising-join, rising-into, rising-one}
@@ -52,12 +50,12 @@ abbrev pub Later : Finding → Finding → Type 0
 Later f g = f.from < g.from
 
 -- a finding on the plan: the record at its point
-pub plan-holds : (t : List ℕ) (p : Point) → holds t p ≡ true → (r : Record) × (look_up t p ≡ Held r)
+pub plan-holds : (t : List ℕ) (p : Point) → holds t p ≡ true → (r : Record) × (look_up t p ≡ Some r)
 plan-holds t p h = go (look_up t p) refl
   where
-    go : (o : Looked) → look_up t p ≡ o → (r : Record) × (look_up t p ≡ Held r)
-    go Absent e = absurd (never (sym (ap is_held e) ∙ h))
-    go (Held r) e = (r, e)
+    go : (o : Option Record) → look_up t p ≡ o → (r : Record) × (look_up t p ≡ Some r)
+    go None e = absurd (never (sym (ap is_held e) ∙ h))
+    go (Some r) e = (r, e)
 
 pub plan-close : (t : List ℕ) → InOrder t → (p : Point) → holds t p ≡ true → Close p
 plan-close t o p h =
@@ -65,7 +63,7 @@ plan-close t o p h =
     subst Close (lookup-point t o p r e) (close r (lookup-valid t o p r e))
 
 -- a vertex of the full file is the record at its point
-pub vertex-held : (t : List ℕ) → InOrder t → (r : Record) → Memᴰ r (sorted (records_of t)) → look_up t r.at ≡ Held r
+pub vertex-held : (t : List ℕ) → InOrder t → (r : Record) → Memᴰ r (sorted (records_of t)) → look_up t r.at ≡ Some r
 vertex-held t o r m = records-looked t o r (sorted-holds t r m)
 
 module _ (fs : List Finding) where

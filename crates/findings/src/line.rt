@@ -1,10 +1,11 @@
 // A finding's line: number, a, b, m and a note, tabs between, ended by a line feed.
-ghost use Rattle.std.specs.Prelude.{◌≡◌, ◌+◌, length};
-ghost use Rattle.findings.specs.Findings.{note_at, entry_at};
+ghost use Rattle.std.specs.Prelude.{◌≡◌};
+ghost use Rattle.std.specs.List.{position};
+ghost use Rattle.findings.specs.Findings.{breaks, entry_at};
 ghost use Rattle.findings.specs.EntryCases.{numbered_at};
 
 use lattice::Point;
-use text::{FEED, Number, Place, TAB, in_limits, read_number, read_point};
+use text::{FEED, TAB, in_limits, read_number, read_point};
 
 const MOST_NUMBER: u32 = 999999;
 
@@ -28,46 +29,35 @@ pub enum Entry {
     End,
 }
 
-// Where the note at a position ends: at a tab, a line feed, or the end of the list.
-fn note_end(list: &[u8], at: usize) -> usize
-    ensures { result ≡ at + length (note_at list.now at) }
+// Where a note ends: at a tab or a line feed.
+fn note_end(rest: &[u8]) -> Option<usize>
+    ensures { result ≡ position breaks rest.now }
 {
-    let mut i = at;
-    while i < list.len() {
-        let c = list[i];
-        if (c == TAB) | (c == FEED) {
-            return i;
-        }
-        i += 1;
-    }
-    i
+    rest.iter().position(|c| (*c == TAB) | (*c == FEED))
 }
 
 // The finding at a position whose number is known: its point, and a note that the line feed ends.
 fn numbered(list: &[u8], from: usize, number: u32, past: usize) -> Entry
     ensures { result ≡ numbered_at list.now from number past }
 {
-    match read_point(list, past) {
-        Place::Nowhere => Entry::Bad,
-        Place::At(p, note) => {
-            let end = note_end(list, note);
-            if list.len() <= end {
-                return Entry::Bad;
-            }
-            let good = (0 < number)
-                & (in_limits(p) & ((list[end] == FEED) & (end - note <= LONGEST_NOTE)));
-            if good {
-                Entry::Good(Finding {
-                    number,
-                    at: p,
-                    from,
-                    note,
-                    next: end + 1,
-                })
-            } else {
-                Entry::Bad
-            }
-        }
+    let Some((p, note)) = read_point(list, past) else {
+        return Entry::Bad;
+    };
+    let rest = &list[note..];
+    let Some(n) = note_end(rest) else {
+        return Entry::Bad;
+    };
+    let good = (0 < number) & (in_limits(p) & ((rest[n] == FEED) & (n <= LONGEST_NOTE)));
+    if good {
+        Entry::Good(Finding {
+            number,
+            at: p,
+            from,
+            note,
+            next: note + n + 1,
+        })
+    } else {
+        Entry::Bad
     }
 }
 
@@ -78,8 +68,8 @@ pub fn entry_at(list: &[u8], at: usize) -> Entry
     if list.len() <= at {
         return Entry::End;
     }
-    match read_number(list, at, MOST_NUMBER, TAB) {
-        Number::NoNumber => Entry::Bad,
-        Number::Natural(number, past) => numbered(list, at, number, past),
-    }
+    let Some((number, past)) = read_number(list, at, MOST_NUMBER, TAB) else {
+        return Entry::Bad;
+    };
+    numbered(list, at, number, past)
 }

@@ -36,20 +36,15 @@ fn lay_one(table: &[u8], n: usize, list: &[u8], f: Finding, out: &mut [u8], ends
         out.new result.keys result.lost }
 {
     if is_there(table, point_of(f), n) {
-        let v = key_of(list, f);
-        put_key(out, ends.keys, v);
-        let keys = ends.keys + 1;
+        put_key(out, ends.keys, key_of(list, f));
         Ends {
-            keys,
-            lost: ends.lost,
+            keys: ends.keys + 1,
+            ..ends
         }
     } else {
         let lost = ends.lost + lost_length(f);
         write_lost(out, lost, list, f);
-        Ends {
-            keys: ends.keys,
-            lost,
-        }
+        Ends { lost, ..ends }
     }
 }
 
@@ -65,16 +60,11 @@ pub fn lay(table: &[u8], n: usize, list: &[u8], out: &mut [u8], start: usize) ->
         keys: 0,
         lost: start,
     };
-    loop {
-        match entry_at(list, at) {
-            Entry::End => return ends.keys,
-            Entry::Bad => return ends.keys,
-            Entry::Good(f) => {
-                ends = lay_one(table, n, list, f, out, ends);
-                at = f.next;
-            }
-        }
+    while let Entry::Good(f) = entry_at(list, at) {
+        ends = lay_one(table, n, list, f, out, ends);
+        at = f.next;
     }
+    ends.keys
 }
 
 // Writes the line of a key before a position, and gives the position where it begins.
@@ -84,10 +74,10 @@ fn write_key(list: &[u8], out: &mut [u8], end: usize, v: u64) -> usize
     ensures { (f : Finding) → entry_at list.now (place_of list.now v) ≡ Good f
         → Wrote out.old result (stands_text list.now f) out.new end }
 {
-    match entry_at(list, place_of(list, v)) {
-        Entry::End => end,
-        Entry::Bad => end,
-        Entry::Good(f) => write_stands(out, end, list, f),
+    if let Entry::Good(f) = entry_at(list, place_of(list, v)) {
+        write_stands(out, end, list, f)
+    } else {
+        end
     }
 }
 
@@ -97,11 +87,9 @@ pub fn write_keys(list: &[u8], out: &mut [u8], k: usize, total: usize)
     ensures { (fs : List Finding) → Ready list.now fs out.old k total
         → out.new ≡ texts (stands_text list.now) fs ++ drop total out.old }
 {
-    let mut left = k;
     let mut at = total;
-    while 0 < left {
-        left -= 1;
-        let v = key(out, left);
+    for i in (0..k).rev() {
+        let v = key(out, i);
         at = write_key(list, out, at, v);
     }
 }

@@ -17,13 +17,6 @@ pub struct Parts {
     pub lost: usize,
 }
 
-// A list judged: some line is malformed, and this is the first; or none is, and the parts are so long.
-#[derive(Clone, Copy)]
-pub enum Judged {
-    Faulty(u64),
-    Sound(Parts),
-}
-
 // The parts with the line of one finding more.
 fn with_line(table: &[u8], n: usize, p: Parts, f: Finding) -> Parts
     requires table { Table table.now n }
@@ -31,32 +24,31 @@ fn with_line(table: &[u8], n: usize, p: Parts, f: Finding) -> Parts
     ensures { (l : List ℕ) → InList l f → result ≡ with_line table.now l p f }
 {
     if is_there(table, point_of(f), n) {
-        let stands = p.stands + stands_length(f);
         Parts {
-            stands,
-            lost: p.lost,
+            stands: p.stands + stands_length(f),
+            ..p
         }
     } else {
-        let lost = p.lost + lost_length(f);
         Parts {
-            stands: p.stands,
-            lost,
+            lost: p.lost + lost_length(f),
+            ..p
         }
     }
 }
 
-// Judges a list for a table of n slots: each line parsed, each point looked up.
-pub fn judge(table: &[u8], n: usize, list: &[u8]) -> Judged
+// Judges a list for a table of n slots, each line parsed, each point looked up: how long its parts are, or its first malformed line.
+pub fn judge(table: &[u8], n: usize, list: &[u8]) -> Result<Parts, u64>
     requires { Table table.now n }
     ensures { result ≡ judged_of table.now list.now }
 {
     let mut at = 0;
     let mut line: u64 = 1;
     let mut parts = Parts { stands: 0, lost: 0 };
+    // where a line begins is known when the one before is parsed, and two of the three cases return
     loop {
         match entry_at(list, at) {
-            Entry::End => return Judged::Sound(parts),
-            Entry::Bad => return Judged::Faulty(line),
+            Entry::End => return Ok(parts),
+            Entry::Bad => return Err(line),
             Entry::Good(f) => {
                 parts = with_line(table, n, parts, f);
                 at = f.next;

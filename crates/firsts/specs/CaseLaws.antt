@@ -1,7 +1,7 @@
 -- The ways through the functions. A corner of another star: `corner-first`, `corner-second`, `corner-third`. A face: `before-second`, `before-third`,
 -- `before-fourth`. Plain corners: `inners-none`, `plain-none`, `plain-face`, `plain-free`, `plain-holds`.
 -- Assumes nothing.
-use Rattle.std.specs.Prelude.{◌≡◌, Bool, not, ◌&&◌, ◌||◌, List, ℕ}
+use Rattle.std.specs.Prelude.{◌≡◌, Bool, not, ◌&&◌, ◌||◌, List, ℕ, Option, Some, None}
 use Rattle.std.proofs.Math.Path.{refl, sym, ap}
 use Rattle.std.proofs.Common.{◌∙◌, arith}
 use Rattle.std.proofs.Math.Bool.{true, false, or-true}
@@ -12,13 +12,9 @@ use Rattle.laws.specs.Rules.{among}
 use Rattle.lattice.specs.Stars.{adjacent_at}
 use Rattle.lattice.specs.declared.points.Point.{Point}
 use Rattle.lattice.specs.declared.records.Record.{Record}
-use Rattle.lattice.specs.declared.patterns.Spot.TheVariants.{At, Nothing}
 use Rattle.table.specs.Slots.{slot_at}
 use Rattle.table.specs.Search.{same_point}
 use Rattle.table.specs.Entries.{holds}
-use Rattle.table.specs.declared.slots.Slot.TheVariants.{Free, Holds}
-use Rattle.table.specs.declared.entries.Looked.{Looked}
-use Rattle.table.specs.declared.entries.Looked.TheVariants.{Absent, Held}
 use Rattle.queries.specs.Queries.{chosen_at}
 use Rattle.firsts.specs.Faces.{next_place, turned}
 use Rattle.firsts.specs.Earlier.{slot_in, spot_is, corner_is, face_seen, face_before, face_on, earlier_in, held_and, names_face, face_in, inner_in, inners_before}
@@ -53,9 +49,9 @@ module _ (t : List ℕ) (k : ℕ) where
   unfolding inner_in face_in names_face
   inner-names f s h = go (earlier_in t k s) h
     where
-      go : (l : Looked) → held_and (λ u. ltb 0 u.d) l ≡ false → held_and (names_face t f) l ≡ false
-      go Absent e = refl
-      go (Held u) e = let z : u.d ≡ 0 = omega (arith, ltb-false 0 u.d e) in ap (λ (d : ℕ). among d (corner_is t u f)) z
+      go : (l : Option Record) → held_and (λ u. ltb 0 u.d) l ≡ false → held_and (names_face t f) l ≡ false
+      go None e = refl
+      go (Some u) e = let z : u.d ≡ 0 = omega (arith, ltb-false 0 u.d e) in ap (λ (d : ℕ). among d (corner_is t u f)) z
 
   pub inners-none : (f : Face) → inners_before t k f ≡ false → face_before t k f ≡ false
   unfolding face_before
@@ -74,22 +70,22 @@ module _ (t : List ℕ) (k : ℕ) where
       neither false c e = (refl, e)
 
   module _ (v : Record) (j : ℕ) where
-    pub plain-none : chosen_at t v j ≡ Nothing → false ≡ plain_at t k v j
+    pub plain-none : chosen_at t v j ≡ None → false ≡ plain_at t k v j
     unfolding plain_at
     plain-none e = ap (plain_with t k v j) (sym e)
 
-    pub plain-face : (o : Point) → chosen_at t v j ≡ At o → (f : Face) → f ≡ face_on v j o → (x y z : Bool) → x ≡ holds t (adjacent_at v j)
+    pub plain-face : (o : Point) → chosen_at t v j ≡ Some o → (f : Face) → f ≡ face_on v j o → (x y z : Bool) → x ≡ holds t (adjacent_at v j)
         → y ≡ inners_before t k f → z ≡ face_before t k f → x && (not y || z) ≡ plain_at t k v j
     unfolding plain_at
     plain-face o e f g x y z hx hy hz =
         (λ i. hx i && (not (hy i) || hz i)) ∙ ap (λ (f : Face). holds t (adjacent_at v j) && (not (inners_before t k f) || face_before t k f)) g
         ∙ ap (plain_with t k v j) (sym e)
 
-  pub plain-free : slot_at t k ≡ Free → true ≡ plain_slot t k
+  pub plain-free : slot_at t k ≡ None → true ≡ plain_slot t k
   unfolding plain_slot
   plain-free e = ap (plain_in t k) (sym e)
 
-  pub plain-holds : (v : Record) → slot_at t k ≡ Holds v → plain_star t k v ≡ plain_slot t k
+  pub plain-holds : (v : Record) → slot_at t k ≡ Some v → plain_star t k v ≡ plain_slot t k
   unfolding plain_slot
   plain-holds v e = ap (plain_in t k) (sym e)
 

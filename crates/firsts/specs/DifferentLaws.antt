@@ -4,7 +4,7 @@
 -- `different-place`, `different-nothing` an element, by those before it · `different-star` the different ones of a star, place by place ·
 -- `different-slots` those of a table, slot by slot.
 -- Assumes nothing.
-use Rattle.std.specs.Prelude.{◌≡◌, ◌⊎◌, Bool, true, false, not, ◌||◌}
+use Rattle.std.specs.Prelude.{◌≡◌, ◌⊎◌, Bool, true, false, not, ◌||◌, Option, Some, None}
 use Rattle.std.proofs.Math.Path.{refl, sym, ap}
 use Rattle.std.proofs.Common.{◌∙◌, inl, inr, arith}
 use Rattle.std.proofs.Math.Bool.{or_comm, or-false}
@@ -17,8 +17,6 @@ use Rattle.laws.specs.Some.{some_of, some-append}
 use Rattle.lattice.specs.declared.records.Record.{Record}
 use Rattle.table.specs.Slots.{slot_at}
 use Rattle.table.specs.Entries.{listed, records_below}
-use Rattle.table.specs.declared.slots.Slot.{Slot}
-use Rattle.table.specs.declared.slots.Slot.TheVariants.{Free, Holds}
 use Rattle.firsts.specs.Faces.{bit, different_after, gather, each}
 use Rattle.firsts.specs.Earlier.{sum_below, slot_sum}
 
@@ -56,9 +54,9 @@ sum-each f g (suc n) h = let a = sum-each f g n (λ i l. h i (omega arith)) in l
 -- ---- lists put together of parts
 
 -- a test of a slot's record
-abbrev pub slot_test : (Record → Bool) → Slot → Bool
-slot_test f Free = false
-slot_test f (Holds v) = f v
+abbrev pub slot_test : (Record → Bool) → Option Record → Bool
+slot_test f None = false
+slot_test f (Some v) = f v
 
 or-middle : (a b c d : Bool) → (a || b) || (c || d) ≡ (a || c) || (b || d)
 or-middle true b c d = refl
@@ -101,18 +99,18 @@ module _ {A : Type 0} where
   each_append g (v ∷ vs) ws = ap (λ (l : List A). g v ++ l) (each_append g vs ws) ∙ sym (append_assoc (g v) (each g vs) (each g ws))
 
   -- what a slot's record gives
-  abbrev slot_gives : (Record → List A) → Slot → List A
-  slot_gives g Free = []
-  slot_gives g (Holds v) = g v
+  abbrev slot_gives : (Record → List A) → Option Record → List A
+  slot_gives g None = []
+  slot_gives g (Some v) = g v
 
   -- the records of one slot more
   each_more : (g : Record → List A) (t : List ℕ) (k : ℕ) → each g (records_below t (suc k)) ≡ each g (records_below t k) ++ slot_gives g (slot_at t k)
   unfolding records_below each
   each_more g t k = each_append g (records_below t k) (listed (slot_at t k)) ∙ ap (λ (l : List A). each g (records_below t k) ++ l) (one (slot_at t k))
     where
-      one : (s : Slot) → each g (listed s) ≡ slot_gives g s
-      one Free = refl
-      one (Holds v) = append-nil (g v)
+      one : (s : Option Record) → each g (listed s) ≡ slot_gives g s
+      one None = refl
+      one (Some v) = append-nil (g v)
 
   pub some-each : (f : A → Bool) (g : Record → List A) (t : List ℕ) (k : ℕ)
       → some_of f (each g (records_below t k)) ≡ among k (λ i. slot_test (λ u. some_of f (g u)) (slot_at t i))
@@ -124,9 +122,9 @@ module _ {A : Type 0} where
       ap (some_of f) (each_more g t k) ∙ some-append f a (slot_gives g s) ∙ or_comm (some_of f a) (some_of f (slot_gives g s))
       ∙ (λ i. one s i || some-each f g t k i)
     where
-      one : (s : Slot) → some_of f (slot_gives g s) ≡ slot_test (λ u. some_of f (g u)) s
-      one Free = refl
-      one (Holds v) = refl
+      one : (s : Option Record) → some_of f (slot_gives g s) ≡ slot_test (λ u. some_of f (g u)) s
+      one None = refl
+      one (Some v) = refl
 
   -- ---- the different ones, part by part
 
@@ -168,7 +166,7 @@ module _ {A : Type 0} where
 
     -- a table's slots, of which the record v in slot k adds c k v
     pub different-slots : (seen : List A) (g : Record → List A) (c : ℕ → Record → ℕ) (t : List ℕ) (n : ℕ)
-        → ((k : ℕ) (v : Record) → k < n → slot_at t k ≡ Holds v → different_after same (seen ++ each g (records_below t k)) (g v) ≡ c k v)
+        → ((k : ℕ) (v : Record) → k < n → slot_at t k ≡ Some v → different_after same (seen ++ each g (records_below t k)) (g v) ≡ c k v)
         → different_after same seen (each g (records_below t n)) ≡ sum_below (λ k. slot_sum (c k) (slot_at t k)) n
     unfolding records_below each sum_below
     different-slots seen g c t zero h = different-nothing seen
@@ -178,6 +176,6 @@ module _ {A : Type 0} where
         let e = one (slot_at t n) refl in
         omega (arith, a, b, e)
       where
-        one : (s : Slot) → slot_at t n ≡ s → different_after same (seen ++ each g (records_below t n)) (slot_gives g s) ≡ slot_sum (c n) s
-        one Free e = different-nothing (seen ++ each g (records_below t n))
-        one (Holds v) e = h n v (omega arith) e
+        one : (s : Option Record) → slot_at t n ≡ s → different_after same (seen ++ each g (records_below t n)) (slot_gives g s) ≡ slot_sum (c n) s
+        one None e = different-nothing (seen ++ each g (records_below t n))
+        one (Some v) e = h n v (omega arith) e

@@ -3,20 +3,14 @@
 -- `end_has` the sides at a vertex, `has_far` those across · `corner_is`, `names_face`, `face_before`, `corner_count` its faces, `slot_faces` what a slot adds ·
 -- `inners_before` vertices with a star before a slot, `plain_at`, `plain_of` plain corners.
 -- Assumes nothing.
-use Rattle.std.specs.Prelude.{◌≡◌, Bool, true, false, cond, not, ◌&&◌, ◌||◌, List, ℕ, zero, suc, ◌+◌, ◌-◌, eqb, ltb}
+use Rattle.std.specs.Prelude.{◌≡◌, Bool, true, false, cond, not, ◌&&◌, ◌||◌, List, ℕ, zero, suc, ◌+◌, ◌-◌, eqb, ltb, Option, Some, None}
 use Rattle.laws.specs.Rules.{among, upto}
 use Rattle.lattice.specs.Stars.{adjacent_at}
 use Rattle.lattice.specs.declared.points.Point.{Point}
 use Rattle.lattice.specs.declared.records.Record.{Record}
-use Rattle.lattice.specs.declared.patterns.Spot.{Spot}
-use Rattle.lattice.specs.declared.patterns.Spot.TheVariants.{At, Nothing}
 use Rattle.table.specs.Slots.{slots_of, slot_at}
 use Rattle.table.specs.Search.{same_point, find_of}
 use Rattle.table.specs.Entries.{held_in, holds, slot_found}
-use Rattle.table.specs.declared.slots.Slot.{Slot}
-use Rattle.table.specs.declared.slots.Slot.TheVariants.{Free, Holds}
-use Rattle.table.specs.declared.entries.Looked.{Looked}
-use Rattle.table.specs.declared.entries.Looked.TheVariants.{Absent, Held}
 use Rattle.queries.specs.Queries.{chosen_at, is_point}
 use Rattle.firsts.specs.Faces.{bit, next_place, face, turned}
 use Rattle.firsts.specs.declared.earlier.Placed.{Placed}
@@ -28,9 +22,9 @@ sum_below f zero = 0
 sum_below f (suc n) = sum_below f n + f n
 
 -- what the record in slot i gives
-abbrev pub slot_sum : (Record → ℕ) → Slot → ℕ
-slot_sum f Free = 0
-slot_sum f (Holds v) = f v
+abbrev pub slot_sum : (Record → ℕ) → Option Record → ℕ
+slot_sum f None = 0
+slot_sum f (Some v) = f v
 
 -- ---- the slot of a point, past the last where it has none; the record in a slot, if that comes before slot k
 unfoldable pub slot_in : List ℕ → Point → ℕ
@@ -40,20 +34,20 @@ slot_in t p = slot_found (slots_of t) (find_of t p)
 abbrev pub placed_of : List ℕ → Point → Placed
 placed_of t p = record { at = p; slot = slot_in t p }
 
-unfoldable pub earlier_in : List ℕ → ℕ → ℕ → Looked
-earlier_in t k s = cond (ltb s k) (held_in (slot_at t s)) Absent
+unfoldable pub earlier_in : List ℕ → ℕ → ℕ → Option Record
+earlier_in t k s = cond (ltb s k) (held_in (slot_at t s)) None
 
 -- the record at a point, if it stands before slot k
-abbrev pub earlier_of : List ℕ → ℕ → Point → Looked
+abbrev pub earlier_of : List ℕ → ℕ → Point → Option Record
 earlier_of t k p = earlier_in t k (slot_in t p)
 
-abbrev pub held_and : (Record → Bool) → Looked → Bool
-held_and f Absent = false
-held_and f (Held u) = f u
+abbrev pub held_and : (Record → Bool) → Option Record → Bool
+held_and f None = false
+held_and f (Some u) = f u
 
-abbrev pub spot_is : Spot → Point → Bool
-spot_is (At o) p = same_point o p
-spot_is Nothing p = false
+abbrev pub spot_is : Option Point → Point → Bool
+spot_is (Some o) p = same_point o p
+spot_is None p = false
 
 -- ---- the sides at a vertex, "near": from it to an adjacent point, in the corner after that place or in the one before
 abbrev pub prev_place : ℕ → ℕ → ℕ
@@ -95,7 +89,7 @@ end_has t p q = near_before t (slots_of t) q p || near_before t (slots_of t) p q
 -- a, o and b are the other three vertices of the face of corner j of v
 pub record Round (t : List ℕ) (v : Record) (j : ℕ) (a o b : Placed) : Type 0 where
   pub adjacent : a ≡ placed_of t (adjacent_at v j)
-  pub chosen : chosen_at t v j ≡ At o.at
+  pub chosen : chosen_at t v j ≡ Some o.at
   pub opposite : o.slot ≡ slot_in t o.at
   pub next : b ≡ placed_of t (adjacent_at v (next_place v.d j))
 
@@ -125,9 +119,9 @@ face_before t k f = face_seen t k (turned f) || (face_seen t k (turned (turned f
 abbrev pub face_on : Record → ℕ → Point → Face
 face_on v j o = face v.at (adjacent_at v j) o (adjacent_at v (next_place v.d j))
 
-abbrev pub face_count : List ℕ → ℕ → Record → ℕ → Spot → ℕ
-face_count t k v j (At o) = bit (not (face_before t k (face_on v j o)))
-face_count t k v j Nothing = 0
+abbrev pub face_count : List ℕ → ℕ → Record → ℕ → Option Point → ℕ
+face_count t k v j (Some o) = bit (not (face_before t k (face_on v j o)))
+face_count t k v j None = 0
 
 -- 1 where the face of corner j of v, in slot k, is counted there
 unfoldable pub corner_count : List ℕ → ℕ → Record → ℕ → ℕ
@@ -152,9 +146,9 @@ abbrev pub inners_before : List ℕ → ℕ → Face → Bool
 inners_before t k f = inners_in t k (slot_in t f.adjacent) (slot_in t f.opposite) (slot_in t f.next)
 
 -- corner j of v, in slot k, is whole, and if a vertex with a star stands before slot k in its face, one that names the face does
-abbrev pub plain_with : List ℕ → ℕ → Record → ℕ → Spot → Bool
-plain_with t k v j (At o) = holds t (adjacent_at v j) && (not (inners_before t k (face_on v j o)) || face_before t k (face_on v j o))
-plain_with t k v j Nothing = false
+abbrev pub plain_with : List ℕ → ℕ → Record → ℕ → Option Point → Bool
+plain_with t k v j (Some o) = holds t (adjacent_at v j) && (not (inners_before t k (face_on v j o)) || face_before t k (face_on v j o))
+plain_with t k v j None = false
 
 unfoldable pub plain_at : List ℕ → ℕ → Record → ℕ → Bool
 plain_at t k v j = plain_with t k v j (chosen_at t v j)
@@ -162,9 +156,9 @@ plain_at t k v j = plain_with t k v j (chosen_at t v j)
 abbrev pub plain_star : List ℕ → ℕ → Record → Bool
 plain_star t k v = upto v.d (plain_at t k v)
 
-abbrev pub plain_in : List ℕ → ℕ → Slot → Bool
-plain_in t k Free = true
-plain_in t k (Holds v) = plain_star t k v
+abbrev pub plain_in : List ℕ → ℕ → Option Record → Bool
+plain_in t k None = true
+plain_in t k (Some v) = plain_star t k v
 
 unfoldable pub plain_slot : List ℕ → ℕ → Bool
 plain_slot t k = plain_in t k (slot_at t k)

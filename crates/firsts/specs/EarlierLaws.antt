@@ -3,7 +3,7 @@
 -- one, `slots-pass`, `pass-slots` the same slot by slot · `placed_at`, `placed-slot`, `holds-slot`, `slot-there`, `slot-absent` a point and its slot ·
 -- `valid-inner`, `valid-degree` a valid record · `other-point`, `star-inner` the record in slot k.
 -- Assumes nothing.
-use Rattle.std.specs.Prelude.{◌≡◌, Bool, true, false, cond, List, ℕ, ◌≤◌, ◌<◌, ltb}
+use Rattle.std.specs.Prelude.{◌≡◌, Bool, true, false, cond, List, ℕ, ◌≤◌, ◌<◌, ltb, Option, Some, None}
 use Rattle.std.proofs.Math.Path.{refl, ap}
 use Rattle.std.proofs.Common.{sym, ◌∙◌, arith, ltb-true, lt-ltb, le-ltb}
 use Rattle.std.proofs.Math.Decide.{ℕ_discrete}
@@ -19,12 +19,8 @@ use Rattle.table.specs.Search.{find_of}
 use Rattle.table.specs.Order.{InOrder}
 use Rattle.table.specs.Entries.{held_in, is_held, holds, slot_found}
 use Rattle.table.specs.MapLaws.{slot-looked, find-held, at_held, at-free, at-full, table_of, table-slots}
-use Rattle.table.specs.declared.slots.Slot.{Slot}
-use Rattle.table.specs.declared.slots.Slot.TheVariants.{Free, Holds}
 use Rattle.table.specs.declared.probe.Found.{Found}
 use Rattle.table.specs.declared.probe.Found.TheVariants as found
-use Rattle.table.specs.declared.entries.Looked.{Looked}
-use Rattle.table.specs.declared.entries.Looked.TheVariants.{Absent, Held}
 use Rattle.firsts.specs.Earlier.{slot_in, placed_of, earlier_in, earlier_of, held_and}
 use Rattle.firsts.specs.declared.earlier.Placed.{Placed}
 use Rattle.firsts.specs.DifferentLaws.{slot_test}
@@ -64,7 +60,7 @@ pub record Passes (t : List ℕ) (k : ℕ) (f : Record → Bool) : Type 0 where
   pub rec : Record
   pub slot : ℕ
   pub below : slot < k
-  pub holds : slot_at t slot ≡ Holds rec
+  pub holds : slot_at t slot ≡ Some rec
   pub passes : f rec ≡ true
 
 -- another test that it passes
@@ -73,7 +69,7 @@ passes-too x g h = record { rec = x.rec; slot = x.slot; below = x.below; holds =
 
 module _ (t : List ℕ) (o : InOrder t) (k : ℕ) (top : k ≤ slots_of t) where
   -- the search for a point finds the slot in which its record stands
-  slot-found : (i : ℕ) (u : Record) → i < slots_of t → slot_at t i ≡ Holds u → find_of t u.at ≡ found.At i
+  slot-found : (i : ℕ) (u : Record) → i < slots_of t → slot_at t i ≡ Some u → find_of t u.at ≡ found.At i
   slot-found i u l e =
       let h = find-held t o.fits u.at u (slot-looked t o i u l e) in
       let a = at_held t o.fits u.at h.0 h.1 in
@@ -87,34 +83,34 @@ module _ (t : List ℕ) (o : InOrder t) (k : ℕ) (top : k ≤ slots_of t) where
       let l : i < slots_of t = omega (arith, x.below) in
       ap (λ (q : Point). held_and f (earlier_of t k q)) (sym e)
       ∙ ap (λ (s : Found). held_and f (earlier_in t k (slot_found (slots_of t) s))) (slot-found i x.rec l x.holds)
-      ∙ ap (λ (b : Bool). held_and f (cond b (held_in (slot_at t i)) Absent)) (lt-ltb i k x.below)
-      ∙ ap (λ (s : Slot). held_and f (held_in s)) x.holds
+      ∙ ap (λ (b : Bool). held_and f (cond b (held_in (slot_at t i)) None)) (lt-ltb i k x.below)
+      ∙ ap (λ (s : Option Record). held_and f (held_in s)) x.holds
       ∙ x.passes
 
-  not-held : {A : Type 0} {u : Record} → Absent ≡ Held u → A
+  not-held : {A : Type 0} {u : Record} → None ≡ Some u → A
   not-held e = absurd (let z : ◌≡◌ {A = ℕ} 0 1 = cc in omega arith)
 
   -- what is found in a slot before slot k stands there
-  pub earlier-slot : (s : ℕ) (u : Record) → earlier_in t k s ≡ Held u → (s < k) × (slot_at t s ≡ Holds u)
+  pub earlier-slot : (s : ℕ) (u : Record) → earlier_in t k s ≡ Some u → (s < k) × (slot_at t s ≡ Some u)
   unfolding earlier_in
   earlier-slot s u h = before (ltb s k) refl h
     where
-      in-slot : (z : Slot) → slot_at t s ≡ z → held_in z ≡ Held u → slot_at t s ≡ Holds u
-      in-slot Free e g = not-held g
-      in-slot (Holds r) e g = let x : r ≡ u = cc in e ∙ ap Holds x
+      in-slot : (z : Option Record) → slot_at t s ≡ z → held_in z ≡ Some u → slot_at t s ≡ Some u
+      in-slot None e g = not-held g
+      in-slot (Some r) e g = let x : r ≡ u = cc in e ∙ ap Some x
 
-      before : (b : Bool) → ltb s k ≡ b → cond b (held_in (slot_at t s)) Absent ≡ Held u → (s < k) × (slot_at t s ≡ Holds u)
+      before : (b : Bool) → ltb s k ≡ b → cond b (held_in (slot_at t s)) None ≡ Some u → (s < k) × (slot_at t s ≡ Some u)
       before false l g = not-held g
       before true l g = (ltb-true s k l, in-slot (slot_at t s) refl g)
 
-  pub earlier-held : (p : Point) (u : Record) → earlier_of t k p ≡ Held u → (slot_in t p < k) × (slot_at t (slot_in t p) ≡ Holds u) × (u.at ≡ p)
+  pub earlier-held : (p : Point) (u : Record) → earlier_of t k p ≡ Some u → (slot_in t p < k) × (slot_at t (slot_in t p) ≡ Some u) × (u.at ≡ p)
   unfolding slot_in
   earlier-held p u h = let x = earlier-slot (slot_in t p) u h in (x.0, x.1, go (find_of t p) refl x.0 x.1)
     where
-      same-slot : (a b : Record) → Holds a ≡ Holds b → a ≡ b
+      same-slot : (a b : Record) → Some a ≡ Some b → a ≡ b
       same-slot a b e = cc
 
-      go : (s : Found) → find_of t p ≡ s → slot_found (slots_of t) s < k → slot_at t (slot_found (slots_of t) s) ≡ Holds u → u.at ≡ p
+      go : (s : Found) → find_of t p ≡ s → slot_found (slots_of t) s < k → slot_at t (slot_found (slots_of t) s) ≡ Some u → u.at ≡ p
       go (found.At i) e l g = let a = at_held t o.fits p i e in ap (λ (r : Record). r.at) (same-slot u a.rec (sym g ∙ a.holds)) ∙ a.point
       go (found.Free i) e l g = absurd (omega (arith, top))
       go found.Full e l g = absurd (omega (arith, top))
@@ -122,11 +118,11 @@ module _ (t : List ℕ) (o : InOrder t) (k : ℕ) (top : k ≤ slots_of t) where
   pub yes-earlier : (f : Record → Bool) (p : Point) → held_and f (earlier_of t k p) ≡ true → (x : Passes t k f) × (x.rec.at ≡ p)
   yes-earlier f p h = go (earlier_of t k p) refl h
     where
-      go : (l : Looked) → earlier_of t k p ≡ l → held_and f l ≡ true → (x : Passes t k f) × (x.rec.at ≡ p)
-      go Absent e g = absurd (not-both g refl)
-      go (Held u) e g = let s = earlier-held p u e in (record { rec = u; slot = slot_in t p; below = s.0; holds = s.1; passes = g }, s.2)
+      go : (l : Option Record) → earlier_of t k p ≡ l → held_and f l ≡ true → (x : Passes t k f) × (x.rec.at ≡ p)
+      go None e g = absurd (not-both g refl)
+      go (Some u) e g = let s = earlier-held p u e in (record { rec = u; slot = slot_in t p; below = s.0; holds = s.1; passes = g }, s.2)
 
-  pub earlier-valid : (s : ℕ) (u : Record) → earlier_in t k s ≡ Held u → valid_of u ≡ true
+  pub earlier-valid : (s : ℕ) (u : Record) → earlier_in t k s ≡ Some u → valid_of u ≡ true
   earlier-valid s u h = let x = earlier-slot s u h in o.valid s u (omega (arith, x.0)) x.1
 
 -- the test of the slots before slot k, one by one
@@ -134,9 +130,9 @@ module _ (t : List ℕ) (k : ℕ) (f : Record → Bool) where
   pub slots-pass : among k (λ i. slot_test f (slot_at t i)) ≡ true → Passes t k f
   slots-pass h = let x = among-at (λ i. slot_test f (slot_at t i)) k h in go x.0 x.1 (slot_at t x.0) refl x.2
     where
-      go : (i : ℕ) → i < k → (s : Slot) → slot_at t i ≡ s → slot_test f s ≡ true → Passes t k f
-      go i l Free e g = absurd (not-both g refl)
-      go i l (Holds u) e g = record { rec = u; slot = i; below = l; holds = e; passes = g }
+      go : (i : ℕ) → i < k → (s : Option Record) → slot_at t i ≡ s → slot_test f s ≡ true → Passes t k f
+      go i l None e g = absurd (not-both g refl)
+      go i l (Some u) e g = record { rec = u; slot = i; below = l; holds = e; passes = g }
 
   pub pass-slots : Passes t k f → among k (λ i. slot_test f (slot_at t i)) ≡ true
   pass-slots x = at-among (λ i. slot_test f (slot_at t i)) k x.slot x.below (ap (slot_test f) x.holds ∙ x.passes)
@@ -153,7 +149,7 @@ valid-degree v ok = go (ℕ_discrete v.d 0)
     go (no e) = (inner v (of-true ok) e).top
 
 -- the record v in slot k
-module _ (t : List ℕ) (o : InOrder t) (k : ℕ) (v : Record) (l : k < slots_of t) (here : slot_at t k ≡ Holds v) where
+module _ (t : List ℕ) (o : InOrder t) (k : ℕ) (v : Record) (l : k < slots_of t) (here : slot_at t k ≡ Some v) where
   -- an earlier slot holds another point
   pub other-point : {f : Record → Bool} (x : Passes t k f) → x.rec.at ≡ v.at → ⊥
   other-point x s = let e : x.slot ≡ k = o.once x.slot k x.rec v (omega (arith, x.below)) l x.holds here s in omega (arith, x.below)

@@ -4,7 +4,7 @@
 -- it, f read from that vertex on: an earlier vertex is not v itself, no point standing twice; and two corners of one star have different faces, v being
 -- none of the points of its own star.
 -- Assumes nothing.
-use Rattle.std.specs.Prelude.{◌≡◌, refl, ◌⊎◌, false, ◌&&◌, ◌||◌, ℕ, ◌+◌, ◌≤◌, ◌<◌}
+use Rattle.std.specs.Prelude.{◌≡◌, refl, ◌⊎◌, false, ◌&&◌, ◌||◌, ℕ, ◌+◌, ◌≤◌, ◌<◌, Option, Some, None}
 use Rattle.std.proofs.Math.Path.{sym}
 use Rattle.std.proofs.Common.{ap, ◌∙◌, inl, inr, arith, eq-eqb, ne_eqb}
 use Rattle.std.proofs.Math.Bool.{Bool, true, or-true}
@@ -17,15 +17,12 @@ use Rattle.lattice.specs.Stars.{adjacent_at}
 use Rattle.lattice.specs.RecordLaws.{Inner}
 use Rattle.lattice.specs.declared.points.Point.{Point}
 use Rattle.lattice.specs.declared.records.Record.{Record}
-use Rattle.lattice.specs.declared.patterns.Spot.{Spot}
-use Rattle.lattice.specs.declared.patterns.Spot.TheVariants.{At, Nothing}
 use Rattle.geometry.specs.GeometryLaws.{star-distinct}
 use Rattle.table.specs.Slots.{slots_of, slot_at}
 use Rattle.table.specs.Search.{same_point}
 use Rattle.table.specs.Order.{InOrder}
 use Rattle.table.specs.Entries.{records_below}
 use Rattle.table.specs.MapLaws.{same_refl, same_true}
-use Rattle.table.specs.declared.slots.Slot.TheVariants.{Holds}
 use Rattle.queries.specs.Queries.{chosen_at}
 use Rattle.firsts.specs.Faces.{different_after, gather, each, next_place, face, face_with, faces_at, turned, fits, same_face, faces_in}
 use Rattle.firsts.specs.Earlier.{sum_below, spot_is, corner_is, names_face, face_in, face_seen, face_before, face_on, face_count, corner_count, star_faces}
@@ -110,9 +107,9 @@ three-true false b c h = absurd (not-both h refl)
 three-true true false c h = absurd (not-both h refl)
 three-true true true false h = absurd (not-both h refl)
 
-pub spot_is_lem : (s : Spot) (p : Point) → spot_is s p ≡ true → s ≡ At p
-spot_is_lem (At q) p h = ap At (same_true q p h)
-spot_is_lem Nothing p h = absurd (not-both h refl)
+pub spot_is_lem : (s : Option Point) (p : Point) → spot_is s p ≡ true → s ≡ Some p
+spot_is_lem (Some q) p h = ap Some (same_true q p h)
+spot_is_lem None p h = absurd (not-both h refl)
 
 module _ (t : List ℕ) where
   -- corner i of u makes g
@@ -120,7 +117,7 @@ module _ (t : List ℕ) where
     pub corner : ℕ
     pub below : corner < u.d
     pub opposite : Point
-    pub chosen : chosen_at t u corner ≡ At opposite
+    pub chosen : chosen_at t u corner ≡ Some opposite
     pub is : face_on u corner opposite ≡ g
 
   pub makes-names : (u : Record) (g : Face) → Makes u g → names_face t g u ≡ true
@@ -157,7 +154,7 @@ module _ (t : List ℕ) where
   makes-gives f u g m r =
       some-gather (same_face f) u.d (place u)
       ∙ at-among (λ i. some_of (same_face f) (place u i)) u.d m.corner m.below
-      (ap (λ (s : Spot). some_of (same_face f) (face_with u m.corner s)) m.chosen ∙ some_one (same_face f) (face_on u m.corner m.opposite)
+      (ap (λ (s : Option Point). some_of (same_face f) (face_with u m.corner s)) m.chosen ∙ some_one (same_face f) (face_on u m.corner m.opposite)
       ∙ ap (same_face f) m.is ∙ round_same f g r)
 
   pub gives-makes : (f : Face) (u : Record) → gives f u ≡ true → (g : Face) × Makes u g × SameRound f g
@@ -165,9 +162,9 @@ module _ (t : List ℕ) where
       let x = among-at (λ i. some_of (same_face f) (place u i)) u.d (sym (some-gather (same_face f) u.d (place u)) ∙ h) in
       go x.0 x.1 (chosen_at t u x.0) refl x.2
     where
-      go : (i : ℕ) → i < u.d → (s : Spot) → chosen_at t u i ≡ s → some_of (same_face f) (face_with u i s) ≡ true → (g : Face) × Makes u g × SameRound f g
-      go i l Nothing e k = absurd (not-both k (some-none (same_face f)))
-      go i l (At p) e k = (
+      go : (i : ℕ) → i < u.d → (s : Option Point) → chosen_at t u i ≡ s → some_of (same_face f) (face_with u i s) ≡ true → (g : Face) × Makes u g × SameRound f g
+      go i l None e k = absurd (not-both k (some-none (same_face f)))
+      go i l (Some p) e k = (
         face_on u i p,
         record { corner = i; below = l; opposite = p; chosen = e; is = refl },
         same-round f (face_on u i p) (sym (some_one (same_face f) (face_on u i p)) ∙ k),
@@ -183,7 +180,7 @@ next-below d j h = go (ℕ_discrete (j + 1) d)
 -- ---- counted at the first
 
 module _ (t : List ℕ) (o : InOrder t) where
-  module _ (k : ℕ) (v : Record) (l : k < slots_of t) (here : slot_at t k ≡ Holds v) where
+  module _ (k : ℕ) (v : Record) (l : k < slots_of t) (here : slot_at t k ≡ Some v) where
     top : k ≤ slots_of t
     top = omega arith
 
@@ -240,7 +237,7 @@ module _ (t : List ℕ) (o : InOrder t) where
             go false false p q r = seen-gives f (turned (turned (turned f))) (thrice refl) r
 
     -- no two corners of a star make one face
-    pub corner-apart : (i j : ℕ) → i < j → j < v.d → (p : Point) → chosen_at t v j ≡ At p → some_of (same_face (face_on v j p)) (place t v i) ≡ false
+    pub corner-apart : (i j : ℕ) → i < j → j < v.d → (p : Point) → chosen_at t v j ≡ Some p → some_of (same_face (face_on v j p)) (place t v i) ≡ false
     corner-apart i j h m p c = go (chosen_at t v i)
       where
         n : Inner v
@@ -249,16 +246,16 @@ module _ (t : List ℕ) (o : InOrder t) where
         never : (q : Point) → SameRound (face_on v j p) (face_on v i q) → ⊥
         never q (straight e) = let x : j ≡ i = star-distinct v j i n.low n.top m (omega arith) (ap (λ (f : Face). f.adjacent) e) in omega arith
         never q (once e) = adjacent-away v n j m (ap (λ (f : Face). f.at) e)
-        never q (twice e) = chosen-away v n j m t (c ∙ ap (λ (f : Face). At f.at) e)
+        never q (twice e) = chosen-away v n j m t (c ∙ ap (λ (f : Face). Some f.at) e)
         never q (thrice e) = adjacent-away v n (next_place v.d j) (next-below v.d j m) (ap (λ (f : Face). f.at) e)
 
         decide : (q : Point) (b : Bool) → same_face (face_on v j p) (face_on v i q) ≡ b → b ≡ false
         decide q true e = absurd (never q (same-round (face_on v j p) (face_on v i q) e))
         decide q false e = refl
 
-        go : (s : Spot) → some_of (same_face (face_on v j p)) (face_with v i s) ≡ false
-        go Nothing = some-none (same_face (face_on v j p))
-        go (At q) = some_one (same_face (face_on v j p)) (face_on v i q) ∙ decide q (same_face (face_on v j p) (face_on v i q)) refl
+        go : (s : Option Point) → some_of (same_face (face_on v j p)) (face_with v i s) ≡ false
+        go None = some-none (same_face (face_on v j p))
+        go (Some q) = some_one (same_face (face_on v j p)) (face_on v i q) ∙ decide q (same_face (face_on v j p) (face_on v i q)) refl
 
     star-faces : different_after same_face (each (faces_at t) (records_below t k)) (faces_at t v) ≡ star_faces t k v
     unfolding corner_count
@@ -267,10 +264,10 @@ module _ (t : List ℕ) (o : InOrder t) where
         before : List Face
         before = each (faces_at t) (records_below t k)
 
-        go : (j : ℕ) → j < v.d → (s : Spot) → chosen_at t v j ≡ s
+        go : (j : ℕ) → j < v.d → (s : Option Point) → chosen_at t v j ≡ s
             → different_after same_face (before ++ gather j (place t v)) (face_with v j s) ≡ face_count t k v j s
-        go j m Nothing e = different-nothing same_face (before ++ gather j (place t v))
-        go j m (At p) e =
+        go j m None e = different-nothing same_face (before ++ gather j (place t v))
+        go j m (Some p) e =
             different-place same_face before (place t v) j (face_on v j p) (face_before t k (face_on v j p)) (face-before (face_on v j p) refl)
             (λ i h. corner-apart i j h m p e)
 

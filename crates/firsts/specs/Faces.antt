@@ -3,13 +3,11 @@
 -- `different` how many different ones a list has · `faces_at` the faces of a vertex, `sides_of` the sides of a face, `same_face`, `same_side` which are the
 -- same · `faces_in` the different faces of a table.
 -- Assumes nothing.
-use Rattle.std.specs.Prelude.{Bool, true, false, cond, not, ◌&&◌, ◌||◌, List, [], ◌∷◌, ◌++◌, ℕ, zero, suc, ◌+◌, eqb}
+use Rattle.std.specs.Prelude.{Bool, true, false, cond, not, ◌&&◌, ◌||◌, List, [], ◌∷◌, ◌++◌, ℕ, zero, suc, ◌+◌, eqb, Option, Some, None}
 use Rattle.laws.specs.Some.{some_of}
 use Rattle.lattice.specs.Stars.{adjacent_at}
 use Rattle.lattice.specs.declared.points.Point.{Point}
 use Rattle.lattice.specs.declared.records.Record.{Record}
-use Rattle.lattice.specs.declared.patterns.Spot.{Spot}
-use Rattle.lattice.specs.declared.patterns.Spot.TheVariants.{At, Nothing}
 use Rattle.table.specs.Search.{same_point}
 use Rattle.table.specs.Entries.{records_of}
 use Rattle.queries.specs.Queries.{chosen_at}
@@ -48,9 +46,9 @@ abbrev pub face : Point → Point → Point → Point → Face
 face v a o b = record { at = v; adjacent = a; opposite = o; next = b }
 
 -- the face of corner j with this opposite; a corner with no opposite in the table has none
-abbrev pub face_with : Record → ℕ → Spot → List Face
-face_with v j (At o) = face v.at (adjacent_at v j) o (adjacent_at v (next_place v.d j)) ∷ []
-face_with v j Nothing = []
+abbrev pub face_with : Record → ℕ → Option Point → List Face
+face_with v j (Some o) = face v.at (adjacent_at v j) o (adjacent_at v (next_place v.d j)) ∷ []
+face_with v j None = []
 
 -- "The opposite is the first one if that is in the table, else the second.": `chosen_at`
 abbrev pub faces_at : List ℕ → Record → List Face

@@ -4,7 +4,7 @@
 -- `nears_at`, `fars_at` these sides, `Kind` which far ones · `NearSide`, `FarSide` one of them · `near-has`, `has-near`, `far-has`, `has-far` as the code
 -- tests it · `near-gives`, `gives-near`, `far-gives`, `gives-far` as one of the list · `far-kinds`, `each-kinds` by kind.
 -- Assumes nothing.
-use Rattle.std.specs.Prelude.{◌≡◌, refl, ◌⊎◌, false, cond, not, ◌&&◌, ◌||◌, List, [], ◌∷◌, ◌++◌}
+use Rattle.std.specs.Prelude.{◌≡◌, refl, ◌⊎◌, false, cond, not, ◌&&◌, ◌||◌, List, [], ◌∷◌, ◌++◌, Option, Some, None}
 use Rattle.std.proofs.Common.{sym, ap, ◌∙◌, arith, eq-eqb, ne_eqb}
 use Rattle.std.proofs.Math.Logic.{inl, inr}
 use Rattle.std.proofs.Math.Bool.{Bool, true, or-true, or-false}
@@ -15,8 +15,6 @@ use Rattle.laws.specs.Some.{some_of, some-append}
 use Rattle.lattice.specs.Stars.{adjacent_at}
 use Rattle.lattice.specs.declared.points.Point.{Point}
 use Rattle.lattice.specs.declared.records.Record.{Record}
-use Rattle.lattice.specs.declared.patterns.Spot.{Spot}
-use Rattle.lattice.specs.declared.patterns.Spot.TheVariants.{At, Nothing}
 use Rattle.table.specs.Search.{same_point}
 use Rattle.table.specs.MapLaws.{same_refl, same_true}
 use Rattle.queries.specs.Queries.{chosen_at, is_point}
@@ -64,9 +62,9 @@ prev-next d j h = go (ℕ_discrete (j + 1) d)
 
 -- ---- the near sides of a vertex, and the far ones
 
-is-at : (s : Spot) → is_point s ≡ true → (o : Point) × (s ≡ At o)
-is-at (At o) h = (o, refl)
-is-at Nothing h = absurd (never h)
+is-at : (s : Option Point) → is_point s ≡ true → (o : Point) × (s ≡ Some o)
+is-at (Some o) h = (o, refl)
+is-at None h = absurd (never h)
 
 pub one_of : (a b : Bool) → a || b ≡ true → (a ≡ true) ⊎ (b ≡ true)
 one_of true b h = inl refl
@@ -94,9 +92,9 @@ other c v p q = not (c v p q)
 abbrev pub taken : Kind → Point → Point → Point → List Side
 taken c v p q = cond (c v p q) (side p q ∷ []) []
 
-abbrev pub far_with : Kind → Record → ℕ → Spot → List Side
-far_with c v j (At o) = taken c v.at (adjacent_at v j) o ++ taken c v.at (adjacent_at v (next_place v.d j)) o
-far_with c v j Nothing = []
+abbrev pub far_with : Kind → Record → ℕ → Option Point → List Side
+far_with c v j (Some o) = taken c v.at (adjacent_at v j) o ++ taken c v.at (adjacent_at v (next_place v.d j)) o
+far_with c v j None = []
 
 some-taken : (f : Side → Bool) (s : Side) (b : Bool) → some_of f (cond b (s ∷ []) []) ≡ b && f s
 some-taken f s true = some_one f s
@@ -163,13 +161,13 @@ module _ (t : List ℕ) where
   pub record FarSide (u : Record) (p q : Point) : Type 0 where
     pub corner : ℕ
     pub below : corner < u.d
-    pub chosen : chosen_at t u corner ≡ At q
+    pub chosen : chosen_at t u corner ≡ Some q
     pub is : (adjacent_at u corner ≡ p) ⊎ (adjacent_at u (next_place u.d corner) ≡ p)
 
   pub far-has : (u : Record) (p q : Point) → FarSide u p q → has_far t p q u ≡ true
   unfolding has_far far_is
   far-has u p q x = at-among (far_is t p q u) u.d i x.below
-      (ap (λ (s : Spot). (before || after) && spot_is s q) x.chosen ∙ (λ z. ends x.is z && same_refl q z))
+      (ap (λ (s : Option Point). (before || after) && spot_is s q) x.chosen ∙ (λ z. ends x.is z && same_refl q z))
     where
       i : ℕ
       i = x.corner
@@ -206,7 +204,7 @@ module _ (t : List ℕ) where
           ends (inl e) = inl (same_true (adjacent_at u i) p e)
           ends (inr e) = inr (same_true (adjacent_at u (next_place u.d i)) p e)
 
-  pub far-two : (c : Kind) (s : Side) (u : Record) (i : ℕ) (o : Point) → some_of (same_side s) (far_with c u i (At o))
+  pub far-two : (c : Kind) (s : Side) (u : Record) (i : ℕ) (o : Point) → some_of (same_side s) (far_with c u i (Some o))
       ≡ c u.at (adjacent_at u i) o && same_side s (side (adjacent_at u i) o)
       || c u.at (adjacent_at u (next_place u.d i)) o && same_side s (side (adjacent_at u (next_place u.d i)) o)
   far-two c s u i o =
@@ -220,7 +218,7 @@ module _ (t : List ℕ) where
   far-gives c s u p q x k e =
       some-gather (same_side s) u.d (far_place c u)
       ∙ at-among (λ i. some_of (same_side s) (far_place c u i)) u.d i x.below
-      (ap (λ (z : Spot). some_of (same_side s) (far_with c u i z)) x.chosen ∙ far-two c s u i q ∙ ends x.is)
+      (ap (λ (z : Option Point). some_of (same_side s) (far_with c u i z)) x.chosen ∙ far-two c s u i q ∙ ends x.is)
     where
       i : ℕ
       i = x.corner
@@ -247,9 +245,9 @@ module _ (t : List ℕ) where
       let x = among-at (λ i. some_of (same_side s) (far_place c u i)) u.d (sym (some-gather (same_side s) u.d (far_place c u)) ∙ h) in
       go x.0 x.1 (chosen_at t u x.0) refl x.2
     where
-      go : (i : ℕ) → i < u.d → (z : Spot) → chosen_at t u i ≡ z → some_of (same_side s) (far_with c u i z) ≡ true → Given c s u
-      go i l Nothing e g = absurd (not-both g (some-none (same_side s)))
-      go i l (At o) e g = ends (one_of (is a) (is b) (sym (far-two c s u i o) ∙ g))
+      go : (i : ℕ) → i < u.d → (z : Option Point) → chosen_at t u i ≡ z → some_of (same_side s) (far_with c u i z) ≡ true → Given c s u
+      go i l None e g = absurd (not-both g (some-none (same_side s)))
+      go i l (Some o) e g = ends (one_of (is a) (is b) (sym (far-two c s u i o) ∙ g))
         where
           a : Point
           a = adjacent_at u i
@@ -293,12 +291,12 @@ module _ (t : List ℕ) where
       || (or-false (same_side s (side (adjacent_at u (next_place u.d i)) u.at)) ∙ swap-right s (side u.at (adjacent_at u (next_place u.d i)))) z))
 
   -- corner i of u has a face with the side s
-  pub corner-gives : (s : Side) (u : Record) (i : ℕ) (o : Point) → i < u.d → chosen_at t u i ≡ At o → side_in s u i o ≡ true
+  pub corner-gives : (s : Side) (u : Record) (i : ℕ) (o : Point) → i < u.d → chosen_at t u i ≡ Some o → side_in s u i o ≡ true
       → some_of (λ f. some_of (same_side s) (sides_of f)) (faces_at t u) ≡ true
   corner-gives s u i o l c e =
       some-gather (λ f. some_of (same_side s) (sides_of f)) u.d (λ j. face_with u j (chosen_at t u j))
       ∙ at-among (λ j. some_of (λ f. some_of (same_side s) (sides_of f)) (face_with u j (chosen_at t u j))) u.d i l
-      (ap (λ (z : Spot). some_of (λ f. some_of (same_side s) (sides_of f)) (face_with u i z)) c ∙ some_one (λ f. some_of (same_side s) (sides_of f)) (face_on u i o) ∙ e)
+      (ap (λ (z : Option Point). some_of (λ f. some_of (same_side s) (sides_of f)) (face_with u i z)) c ∙ some_one (λ f. some_of (same_side s) (sides_of f)) (face_on u i o) ∙ e)
 
   near-corner : (s : Side) (u : Record) (p : Point) → NearSide u p → same_side s (side u.at p) ≡ true
       → some_of (λ f. some_of (same_side s) (sides_of f)) (faces_at t u) ≡ true
@@ -359,7 +357,7 @@ module _ (t : List ℕ) where
       far : Bool
       far = some_of (same_side s) (fars_at every u)
 
-      in-corner : (i : ℕ) (o : Point) → i < u.d → chosen_at t u i ≡ At o → side_in s u i o ≡ true → near || far ≡ true
+      in-corner : (i : ℕ) (o : Point) → i < u.d → chosen_at t u i ≡ Some o → side_in s u i o ≡ true → near || far ≡ true
       in-corner i o l c g = first (one_of (near_at s u i) (is_far s u i o || (is_far s u n o || near_at s u n)) (sym (four-of s u i o) ∙ g))
         where
           n : ℕ
@@ -401,9 +399,9 @@ module _ (t : List ℕ) where
           (sym (some-gather (λ f. some_of (same_side s) (sides_of f)) u.d (λ j. face_with u j (chosen_at t u j))) ∙ h) in
           go x.0 x.1 (chosen_at t u x.0) refl x.2
         where
-          go : (i : ℕ) → i < u.d → (z : Spot) → chosen_at t u i ≡ z → some_of (λ f. some_of (same_side s) (sides_of f)) (face_with u i z) ≡ true → near || far ≡ true
-          go i l Nothing c g = absurd (not-both g (some-none (λ f. some_of (same_side s) (sides_of f))))
-          go i l (At o) c g = in-corner i o l c (sym (some_one (λ f. some_of (same_side s) (sides_of f)) (face_on u i o)) ∙ g)
+          go : (i : ℕ) → i < u.d → (z : Option Point) → chosen_at t u i ≡ z → some_of (λ f. some_of (same_side s) (sides_of f)) (face_with u i z) ≡ true → near || far ≡ true
+          go i l None c g = absurd (not-both g (some-none (λ f. some_of (same_side s) (sides_of f))))
+          go i l (Some o) c g = in-corner i o l c (sym (some_one (λ f. some_of (same_side s) (sides_of f)) (face_on u i o)) ∙ g)
 
       back : near || far ≡ true → some_of (λ f. some_of (same_side s) (sides_of f)) (faces_at t u) ≡ true
       back h = go (one_of near far h)

@@ -2,7 +2,7 @@
 -- orientation and the level's parity, since a level only scales them. The way back leads back (`back-walk`). So where a corner of a star has the strides
 -- of a face, it has its points, and, the opposite being in the table, its sides and, by the first opposite, the face: `told`.
 -- Assumes nothing.
-use Rattle.std.specs.Prelude.{◌≡◌, refl, Bool, true, false, not, ◌&&◌, ◌||◌, [], ◌∷◌, ℕ, zero, suc, ◌+◌, ◌*◌, ◌-◌, ◌/◌, ◌%◌, ◌≤◌, ◌<◌, T, eqb, ℤ, pos, ◌+ℤ◌, get_or}
+use Rattle.std.specs.Prelude.{◌≡◌, refl, Bool, true, false, not, ◌&&◌, ◌||◌, [], ◌∷◌, ℕ, zero, suc, ◌+◌, ◌*◌, ◌-◌, ◌/◌, ◌%◌, ◌≤◌, ◌<◌, T, eqb, ℤ, pos, ◌+ℤ◌, get_or, Option, Some, None}
 use Rattle.std.proofs.Math.Path.{sym, ap}
 use Rattle.std.proofs.Common.{◌∙◌, subst, arith, eq-eqb, ne_eqb, lt-ltb, le-ltb}
 use Rattle.std.proofs.Math.Bool.{cond, or-true}
@@ -15,12 +15,10 @@ use Rattle.lattice.specs.Places.{wide, high, Low}
 use Rattle.lattice.specs.Patterns.{orient, three, four, five, six, rows_of, pattern_of, adjacent_of, on_spot}
 use Rattle.lattice.specs.PatternLaws.{orient-depth}
 use Rattle.lattice.specs.Stars.{scale_of, step_of, adjacent_at, first_at}
-use Rattle.lattice.specs.Ranks.{move_of, level}
+use Rattle.lattice.specs.Ranks.{move_of}
 use Rattle.lattice.specs.RecordLaws.{Inner}
 use Rattle.lattice.specs.declared.points.Point.{Point}
 use Rattle.lattice.specs.declared.records.Record.{Record}
-use Rattle.lattice.specs.declared.patterns.Spot.{Spot}
-use Rattle.lattice.specs.declared.patterns.Spot.TheVariants.{At, Nothing}
 use Rattle.geometry.specs.GeometryLaws.{scale-lift, move-back, sum-sum}
 use Rattle.geometry.specs.SideLaws.{vector}
 use Rattle.geometry.specs.StarSteps.{turn_of, down_of, star-step}
@@ -105,12 +103,12 @@ abbrev depth_of : ℕ → ℕ → ℕ
 depth_of b s = get_or ((3 - b) ∷ 2 ∷ (2 - b) ∷ 1 ∷ []) s 0
 
 -- a and the stride make o
-abbrev makes : ℕ → ℕ → Point → ℕ → Spot → Test
-makes b k a p (At o) =
+abbrev makes : ℕ → ℕ → Point → ℕ → Option Point → Test
+makes b k a p (Some o) =
     (p / 16) ≤? 3
     & (wide 2 a +ℤ wide (depth_of b (p / 16)) (orient ((k + p % 16) % 12) (pt (pos 1) (pos 0) 0))) ≡ᶻ? wide 2 (orient k o)
     & (high 2 a +ℤ high (depth_of b (p / 16)) (orient ((k + p % 16) % 12) (pt (pos 1) (pos 0) 0))) ≡ᶻ? high 2 (orient k o)
-makes b k a p Nothing = p ≡? 63
+makes b k a p None = p ≡? 63
 
 abbrev both_make : ℕ → ℕ → ℕ → ℕ → ℕ → Test
 both_make b k d j w =
@@ -137,7 +135,7 @@ deep n (suc (suc (suc (suc s)))) h k = absurd (omega arith)
 
 -- a stride from the end of one pattern point to the end of another
 walk-on : (v : Record) (a o : Point) (p : ℕ) → a.m.0 ≤ 2 → (orient v.k o).m.0 ≤ 2 → 16 ≤ stride_with p v.k v.n.0
-    → Means (makes (v.n.0 % 2) v.k a p (At o)) → walk_of (step_of v.at v.n a) (stride_with p v.k v.n.0) ≡ step_of v.at v.n (orient v.k o)
+    → Means (makes (v.n.0 % 2) v.k a p (Some o)) → walk_of (step_of v.at v.n a) (stride_with p v.k v.n.0) ≡ step_of v.at v.n (orient v.k o)
 walk-on v a o p ha ho h m =
     (λ z. move_of (step_of v.at v.n a) (s.turn z) (l z))
     ∙ sum-sum v.at (scale_of v.n a) (vector e (n + p / 16 - 1)) (scale_of v.n (orient v.k o)) (2 + n / 2) (omega arith)
@@ -217,28 +215,28 @@ module _ (v : Record) (i : Inner v) (turn : v.k < 12) (j : ℕ) (h : j < v.d) (s
   two true = omega arith
   two false = omega arith
 
-  spot-inj : (p q : Point) → At p ≡ At q → p ≡ q
+  spot-inj : (p q : Point) → Some p ≡ Some q → p ≡ q
   spot-inj p q e = cc
 
-  spot-none : {A : Type 0} {p : Point} → Nothing ≡ At p → A
+  spot-none : {A : Type 0} {p : Point} → None ≡ Some p → A
   spot-none e = absurd (let z : ◌≡◌ {A = ℕ} 0 1 = cc in omega arith)
 
   -- the opposite, as a point of the pattern table
-  pattern-of : (o : Point) → opposite_by v j second ≡ At o → (p : Point) × (opposite_of v.d j (bit second) ≡ At p)
+  pattern-of : (o : Point) → opposite_by v j second ≡ Some o → (p : Point) × (opposite_of v.d j (bit second) ≡ Some p)
       × (step_of v.at v.n (orient v.k p) ≡ o)
   pattern-of o e = go second e
     where
-      from : (s : Spot) → (pattern_of v.d j).second ≡ s → on_spot (step_of v.at v.n) (on_spot (orient v.k) s) ≡ At o
-          → (p : Point) × ((pattern_of v.d j).second ≡ At p) × (step_of v.at v.n (orient v.k p) ≡ o)
-      from Nothing x g = spot-none g
-      from (At p) x g = (p, x, spot-inj (step_of v.at v.n (orient v.k p)) o g)
+      from : (s : Option Point) → (pattern_of v.d j).second ≡ s → on_spot (step_of v.at v.n) (on_spot (orient v.k) s) ≡ Some o
+          → (p : Point) × ((pattern_of v.d j).second ≡ Some p) × (step_of v.at v.n (orient v.k p) ≡ o)
+      from None x g = spot-none g
+      from (Some p) x g = (p, x, spot-inj (step_of v.at v.n (orient v.k p)) o g)
 
-      go : (s : Bool) → opposite_by v j s ≡ At o → (p : Point) × (opposite_of v.d j (bit s) ≡ At p) × (step_of v.at v.n (orient v.k p) ≡ o)
+      go : (s : Bool) → opposite_by v j s ≡ Some o → (p : Point) × (opposite_of v.d j (bit s) ≡ Some p) × (step_of v.at v.n (orient v.k p) ≡ o)
       go false g = ((pattern_of v.d j).first, refl, spot-inj (first_at v j) o g)
       go true g = from (pattern_of v.d j).second refl g
 
-  module _ (o : Point) (e : opposite_by v j second ≡ At o) where
-    near : (p : Point) → opposite_of v.d j (bit second) ≡ At p → step_of v.at v.n (orient v.k p) ≡ o → (orient v.k p).m.0 ≤ 2
+  module _ (o : Point) (e : opposite_by v j second ≡ Some o) where
+    near : (p : Point) → opposite_of v.d j (bit second) ≡ Some p → step_of v.at v.n (orient v.k p) ≡ o → (orient v.k p).m.0 ≤ 2
     near p r is = opposite-depth v i j o h (record { pattern = p; which = bit second; two = two second; row = r; is = is })
 
     pub side-walk : 16 ≤ to_opposite → walk_of (adjacent_at v j) to_opposite ≡ o
@@ -247,7 +245,7 @@ module _ (v : Record) (i : Inner v) (turn : v.k < 12) (j : ℕ) (h : j < v.d) (s
         let (p, r, is) = pattern-of o e in
         let a = adjacent_of v.d v.k j in
         let x = part_of (side_row v.d second) j in
-        walk-on v a p x (adjacent-depth v i j h) (near p r is) l (subst (λ (s : Spot). Means (makes (v.n.0 % 2) v.k a x s)) r (row second).0) ∙ is
+        walk-on v a p x (adjacent-depth v i j h) (near p r is) l (subst (λ (s : Option Point). Means (makes (v.n.0 % 2) v.k a x s)) r (row second).0) ∙ is
 
     pub other-walk : 16 ≤ from_next → walk_of (adjacent_at v (next_place v.d j)) from_next ≡ o
     unfolding stride_of
@@ -257,22 +255,22 @@ module _ (v : Record) (i : Inner v) (turn : v.k < 12) (j : ℕ) (h : j < v.d) (s
         let a = adjacent_of v.d v.k n in
         let x = part_of (other_row v.d second) j in
         walk-on v a p x (adjacent-depth v i n (next-below v.d j h)) (near p r is) l
-        (subst (λ (s : Spot). Means (makes (v.n.0 % 2) v.k a x s)) r (row second).1) ∙ is
+        (subst (λ (s : Option Point). Means (makes (v.n.0 % 2) v.k a x s)) r (row second).1) ∙ is
 
   -- a stride that is one leads to an opposite
-  pub some-opposite : 16 ≤ to_opposite → (o : Point) × (opposite_by v j second ≡ At o)
+  pub some-opposite : 16 ≤ to_opposite → (o : Point) × (opposite_by v j second ≡ Some o)
   unfolding stride_of
   some-opposite l = go second l
     where
-      spot : (s : Bool) (z : Spot) → opposite_of v.d j (bit s) ≡ z → 16 ≤ stride_with (part_of (side_row v.d s) j) v.k v.n.0 → (p : Point)
-          × (opposite_of v.d j (bit s) ≡ At p)
-      spot s (At p) e k = (p, e)
-      spot s Nothing e k =
+      spot : (s : Bool) (z : Option Point) → opposite_of v.d j (bit s) ≡ z → 16 ≤ stride_with (part_of (side_row v.d s) j) v.k v.n.0 → (p : Point)
+          × (opposite_of v.d j (bit s) ≡ Some p)
+      spot s (Some p) e k = (p, e)
+      spot s None e k =
           let x = part_of (side_row v.d s) j in
           absurd ((split x v.k v.n.0 k).some
-          (subst (λ (z : Spot). Means (makes (v.n.0 % 2) v.k (adjacent_of v.d v.k j) x z)) e (row s).0))
+          (subst (λ (z : Option Point). Means (makes (v.n.0 % 2) v.k (adjacent_of v.d v.k j) x z)) e (row s).0))
 
-      go : (s : Bool) → 16 ≤ stride_with (part_of (side_row v.d s) j) v.k v.n.0 → (o : Point) × (opposite_by v j s ≡ At o)
+      go : (s : Bool) → 16 ≤ stride_with (part_of (side_row v.d s) j) v.k v.n.0 → (o : Point) × (opposite_by v j s ≡ Some o)
       go false k = (first_at v j, refl)
       go true k = let x = spot true (opposite_of v.d j 1) refl k in
-          (step_of v.at v.n (orient v.k x.0), ap (λ (z : Spot). on_spot (step_of v.at v.n) (on_spot (orient v.k) z)) x.1)
+          (step_of v.at v.n (orient v.k x.0), ap (λ (z : Option Point). on_spot (step_of v.at v.n) (on_spot (orient v.k) z)) x.1)

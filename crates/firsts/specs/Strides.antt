@@ -4,15 +4,12 @@
 -- `walk_of` a point on · `back_of` the way back · `opposite_by` the first or the second opposite · `Fit`, `FitIn`, `FitsBy` a corner of a star has these
 -- strides · `Told`, `ToldOf` what that says of a face.
 -- Assumes nothing.
-use Rattle.std.specs.Prelude.{◌≡◌, Bool, true, false, cond, ◌&&◌, ◌||◌, List, ℕ, ◌+◌, ◌*◌, ◌-◌, ◌/◌, ◌%◌, ◌^◌, ◌<◌, eqb, ltb}
+use Rattle.std.specs.Prelude.{◌≡◌, Bool, true, false, cond, ◌&&◌, ◌||◌, List, ℕ, ◌+◌, ◌*◌, ◌-◌, ◌/◌, ◌%◌, ◌^◌, ◌<◌, eqb, ltb, Option, Some}
 use Rattle.lattice.specs.Stars.{first_at, second_at}
 use Rattle.lattice.specs.Ranks.{move_of}
 use Rattle.lattice.specs.declared.points.Point.{Point}
 use Rattle.lattice.specs.declared.records.Record.{Record}
-use Rattle.lattice.specs.declared.patterns.Spot.{Spot}
-use Rattle.lattice.specs.declared.patterns.Spot.TheVariants.{At}
 use Rattle.table.specs.Slots.{slots_of, slot_at}
-use Rattle.table.specs.declared.slots.Slot.TheVariants.{Holds}
 use Rattle.firsts.specs.Faces.{next_place, turned}
 use Rattle.firsts.specs.Earlier.{near_in, face_in, face_on}
 use Rattle.firsts.specs.declared.earlier.Placed.{Placed}
@@ -50,8 +47,8 @@ abbrev pub back_of : ℕ → ℕ
 back_of c = cond (ltb (c % 16) 6) (c + 6) (c - 6)
 
 -- the first or the second opposite of a corner
-abbrev pub opposite_by : Record → ℕ → Bool → Spot
-opposite_by v j second = cond second (second_at v j) (At (first_at v j))
+abbrev pub opposite_by : Record → ℕ → Bool → Option Point
+opposite_by v j second = cond second (second_at v j) (Some (first_at v j))
 
 -- a corner of u has the strides x and y to its adjacent points and z from the first of them to an opposite; r is 2 where that is the first opposite
 pub record FitAt (u : Record) (x y z r : ℕ) : Type 0 where
@@ -70,7 +67,7 @@ Fit u x y z r = 0 < r → FitAt u x y z r
 pub record FitIn (t : List ℕ) (s x y z r : ℕ) : Type 0 where
   pub rec : Record
   pub below : s < slots_of t
-  pub holds : slot_at t s ≡ Holds rec
+  pub holds : slot_at t s ≡ Some rec
   pub fit : FitAt rec x y z r
 
 -- the same where the point across is in the table

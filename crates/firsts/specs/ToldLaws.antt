@@ -1,10 +1,9 @@
 -- What a corner with the strides of a face says (`told`), at each of the three other vertices of a corner's face: `round-told`. It has the face's
 -- points; one of its opposites being in the table it has a face, so its two sides are in one; and where that is the first opposite it is the one chosen,
--- and names this face. `near-earlier`, `face-earlier` what holds of all slots holds of those before slot k · `told-nothing` · `told-before` the face was
+-- and names this face. `near-earlier`, `face-earlier` what holds of all slots holds of those before slot k · `told-before` the face was
 -- counted before · `before-ended`, `after-ended` an end has a side across.
--- `fit-renamed` the same strides by other names.
 -- Assumes nothing.
-use Rattle.std.specs.Prelude.{◌≡◌, ◌⊎◌, ◌&&◌, ◌||◌, List}
+use Rattle.std.specs.Prelude.{◌≡◌, ◌⊎◌, ◌&&◌, ◌||◌, List, Option, Some, None}
 use Rattle.std.proofs.Math.Path.{refl, sym, ap}
 use Rattle.std.proofs.Common.{◌∙◌, subst, inl, inr, arith, lt-ltb, ltb-true, eqb-true}
 use Rattle.std.proofs.Math.Bool.{Bool, true, false, cond}
@@ -18,14 +17,10 @@ use Rattle.lattice.specs.Records.{valid_of}
 use Rattle.lattice.specs.RecordLaws.{Inner, valid-turn}
 use Rattle.lattice.specs.declared.points.Point.{Point}
 use Rattle.lattice.specs.declared.records.Record.{Record}
-use Rattle.lattice.specs.declared.patterns.Spot.{Spot}
-use Rattle.lattice.specs.declared.patterns.Spot.TheVariants.{At, Nothing}
 use Rattle.geometry.specs.GeometryLaws.{low-normal}
 use Rattle.table.specs.Slots.{slots_of, slot_at}
 use Rattle.table.specs.Order.{InOrder}
 use Rattle.table.specs.Entries.{held_in, holds}
-use Rattle.table.specs.declared.slots.Slot.TheVariants.{Holds}
-use Rattle.table.specs.declared.entries.Looked.TheVariants.{Absent, Held}
 use Rattle.queries.specs.Queries.{is_point, there, chosen_at}
 use Rattle.queries.specs.QueryLaws.{chosen-first}
 use Rattle.firsts.specs.Faces.{next_place, face, turned}
@@ -34,32 +29,19 @@ use Rattle.firsts.specs.Earlier.{face_before, face_on}
 use Rattle.firsts.specs.EarlierLaws.{holds-slot, earlier-held, valid-inner}
 use Rattle.firsts.specs.FaceLaws.{makes-names, next-below}
 use Rattle.firsts.specs.NearFarLaws.{one_of, left-of, right_of, prev-next, near-has}
-use Rattle.firsts.specs.Strides.{walk_of, back_of, opposite_by, FitIn, FitThere, FitsBy, Told, ToldOf, told_earlier}
+use Rattle.firsts.specs.Strides.{walk_of, back_of, opposite_by, FitIn, FitsBy, Told, ToldOf, told_earlier}
 use Rattle.firsts.specs.StrideLaws.{to_adjacent, adjacent-some, adjacent-walk, back_some, back-walk, to_opposite, from_next, side-walk, other-walk}
 use Rattle.firsts.specs.StrideLaws.{stride-turn, some-opposite}
 use Rattle.firsts.specs.declared.earlier.Placed.{Placed}
 use Rattle.firsts.specs.declared.faces.Face.{Face}
 use Rattle.firsts.specs.declared.fits.Fits.{Fits}
 
--- ---- with other names of the same numbers
-pub fit-renamed : (t : List ℕ) (s d r : ℕ) {n m x x' y y' z z' : ℕ} → n ≡ m → x ≡ x' → y ≡ y' → z ≡ z' → FitThere t s (ltb d n) x y z r
-    → FitThere t s (ltb d m) x' y' z' r
-fit-renamed t s d r {n} {m} {x} {x'} {y} {y'} {z} {z'} en ex ey ez f =
-    subst (λ (w : ℕ). FitThere t s (ltb d m) x' y' w r) ez
-    (subst (λ (w : ℕ). FitThere t s (ltb d m) x' w z r) ey
-    (subst (λ (w : ℕ). FitThere t s (ltb d m) w y z r) ex (subst (λ (w : ℕ). FitThere t s (ltb d w) x y z r) en f)))
-
-pub fit-renamed-true : (t : List ℕ) (s r : ℕ) {x x' y y' z z' : ℕ} → x ≡ x' → y ≡ y' → z ≡ z' → FitThere t s true x y z r → FitThere t s true x' y' z' r
-fit-renamed-true t s r {x} {x'} {y} {y'} {z} {z'} ex ey ez f =
-    subst (λ (w : ℕ). FitThere t s true x' y' w r) ez
-    (subst (λ (w : ℕ). FitThere t s true x' w z r) ey (subst (λ (w : ℕ). FitThere t s true w y z r) ex f))
-
 -- ---- what stands in a slot
 
 module _ (t : List ℕ) where
   before : (k s : ℕ) → s < k → k ≤ slots_of t → earlier_in t k s ≡ earlier_in t (slots_of t) s
   unfolding earlier_in
-  before k s h l = ap (λ (b : Bool). cond b (held_in (slot_at t s)) Absent) (lt-ltb s k h ∙ sym (lt-ltb s (slots_of t) (omega arith)))
+  before k s h l = ap (λ (b : Bool). cond b (held_in (slot_at t s)) None) (lt-ltb s k h ∙ sym (lt-ltb s (slots_of t) (omega arith)))
 
   pub near-earlier : (k s : ℕ) (p : Point) → s < k → k ≤ slots_of t → near_in t k p s ≡ near_in t (slots_of t) p s
   unfolding near_in
@@ -69,21 +51,21 @@ module _ (t : List ℕ) where
   unfolding face_in
   face-earlier k s f h l = ap (held_and (names_face t f)) (before k s h l)
 
-  held : (s : ℕ) (u : Record) → s < slots_of t → slot_at t s ≡ Holds u → earlier_in t (slots_of t) s ≡ Held u
+  held : (s : ℕ) (u : Record) → s < slots_of t → slot_at t s ≡ Some u → earlier_in t (slots_of t) s ≡ Some u
   unfolding earlier_in
-  held s u h e = ap (λ (b : Bool). cond b (held_in (slot_at t s)) Absent) (lt-ltb s (slots_of t) h) ∙ ap held_in e
+  held s u h e = ap (λ (b : Bool). cond b (held_in (slot_at t s)) None) (lt-ltb s (slots_of t) h) ∙ ap held_in e
 
   -- an opposite in the table gives the corner a face
-  some-chosen : (u : Record) (i : ℕ) (second : Bool) (q : Point) → opposite_by u i second ≡ At q → holds t q ≡ true → is_point (chosen_at t u i) ≡ true
+  some-chosen : (u : Record) (i : ℕ) (second : Bool) (q : Point) → opposite_by u i second ≡ Some q → holds t q ≡ true → is_point (chosen_at t u i) ≡ true
   unfolding chosen_at
-  some-chosen u i false q e h = ap (λ (b : Bool). is_point (cond b (At (first_at u i)) (there t (second_at u i)))) (ap (holds t) (point (first_at u i) q e) ∙ h)
+  some-chosen u i false q e h = ap (λ (b : Bool). is_point (cond b (Some (first_at u i)) (there t (second_at u i)))) (ap (holds t) (point (first_at u i) q e) ∙ h)
     where
-      point : (p r : Point) → At p ≡ At r → p ≡ r
+      point : (p r : Point) → Some p ≡ Some r → p ≡ r
       point p r g = cc
-  some-chosen u i true q e h = ap (λ (s : Spot). is_point (cond (holds t (first_at u i)) (At (first_at u i)) (there t s))) e
-      ∙ ap (λ (b : Bool). is_point (cond (holds t (first_at u i)) (At (first_at u i)) (cond b (At q) Nothing))) h ∙ go (holds t (first_at u i))
+  some-chosen u i true q e h = ap (λ (s : Option Point). is_point (cond (holds t (first_at u i)) (Some (first_at u i)) (there t s))) e
+      ∙ ap (λ (b : Bool). is_point (cond (holds t (first_at u i)) (Some (first_at u i)) (cond b (Some q) None))) h ∙ go (holds t (first_at u i))
     where
-      go : (b : Bool) → is_point (cond b (At (first_at u i)) (At q)) ≡ true
+      go : (b : Bool) → is_point (cond b (Some (first_at u i)) (Some q)) ≡ true
       go true = refl
       go false = refl
 
@@ -110,7 +92,7 @@ module _ (t : List ℕ) (o : InOrder t) where
     turn : u.k < 12
     turn = valid-turn u (of-true ok)
 
-    is_held : earlier_in t (slots_of t) s ≡ Held u
+    is_held : earlier_in t (slots_of t) s ≡ Some u
     is_held = held t s u w.below w.holds
 
     at-it : u.at ≡ f.at
@@ -125,10 +107,10 @@ module _ (t : List ℕ) (o : InOrder t) where
     long : 16 ≤ to_opposite u inn turn i w.fit.below w.fit.second
     long = subst (λ (c : ℕ). 16 ≤ c) (sym w.fit.side) l
 
-    opposite : opposite_by u i w.fit.second ≡ At f.opposite
+    opposite : opposite_by u i w.fit.second ≡ Some f.opposite
     opposite =
         let (q, e) = some-opposite u inn turn i w.fit.below w.fit.second long in
-        e ∙ ap At (sym (side-walk u inn turn i w.fit.below w.fit.second q e long) ∙ (λ a. walk_of (first a) (w.fit.side a)) ∙ wz)
+        e ∙ ap Some (sym (side-walk u inn turn i w.fit.below w.fit.second q e long) ∙ (λ a. walk_of (first a) (w.fit.side a)) ∙ wz)
 
     has : is_point (chosen_at t u i) ≡ true
     has = some-chosen t u i w.fit.second f.opposite opposite there
@@ -162,7 +144,7 @@ module _ (t : List ℕ) (o : InOrder t) where
     named : w.fit.second ≡ false → face_in t (slots_of t) f s ≡ true
     unfolding face_in
     named e =
-        let q : At (first_at u i) ≡ At f.opposite = sym (ap (opposite_by u i) e) ∙ opposite in
+        let q : Some (first_at u i) ≡ Some f.opposite = sym (ap (opposite_by u i) e) ∙ opposite in
         let p : first_at u i ≡ f.opposite = cc in
         ap (held_and (names_face t f)) is_held
         ∙ makes-names t u f
@@ -184,7 +166,7 @@ module _ (t : List ℕ) (o : InOrder t) where
       }
 
   -- ---- the other three vertices of the face of corner j of v
-  module _ (v : Record) (i : Inner v) (turn : v.k < 12) (j : ℕ) (h : j < v.d) (second : Bool) (q : Point) (e : opposite_by v j second ≡ At q)
+  module _ (v : Record) (i : Inner v) (turn : v.k < 12) (j : ℕ) (h : j < v.d) (second : Bool) (q : Point) (e : opposite_by v j second ≡ Some q)
       (l₁ : 16 ≤ to_opposite v i turn j h second) (l₂ : 16 ≤ from_next v i turn j h second) where
     hn : next_place v.d j < v.d
     hn = next-below v.d j h
@@ -258,9 +240,6 @@ module _ (t : List ℕ) (o : InOrder t) where
         held-slot p s es g = holds-slot t o.fits p ∙ ap (λ (u : ℕ). ltb u (slots_of t)) (sym es) ∙ g
 
 -- ---- what is told of a face
-
-pub told-nothing : (t : List ℕ) (s : ℕ) (f : Face) → Told t s f 0
-told-nothing t s f = record { adjacent = λ h. absurd (omega arith); next = λ h. absurd (omega arith); face = λ h. absurd (omega arith) }
 
 module _ (t : List ℕ) (k : ℕ) (l : k ≤ slots_of t) (f : Face) (a o b : ℕ) (r : Fits) (told : ToldOf t f a o b r) where
   pub told-before : a ≡ slot_in t f.adjacent → o ≡ slot_in t f.opposite → b ≡ slot_in t f.next → told_earlier r a o b k ≡ true → face_before t k f ≡ true

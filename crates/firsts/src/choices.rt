@@ -5,42 +5,48 @@ ghost use Rattle.table.specs.Slots.{Table};
 ghost use Rattle.firsts.specs.Choices.{kept_of, choice_of};
 
 use crate::earlier::{Placed, with_slot};
-use lattice::{Record, Spot, first_of, second_of};
+use lattice::{Point, Record, first_of, second_of};
 
-// The opposite that a corner has: the first one if that is in the table, else the second if that is.
+// An opposite of a corner with its slot, and whether it is the second.
 #[derive(Clone, Copy)]
-pub enum Choice {
-    Is(bool, Placed),
-    Neither,
+pub struct Opposite {
+    pub second: bool,
+    pub placed: Placed,
 }
 
 // The second, if there is one and it is in the table.
-fn kept(t: &[u8], s: Spot, n: usize) -> Choice
+fn kept(t: &[u8], s: Option<Point>, n: usize) -> Option<Opposite>
     requires { Table t.now n }
     ensures { result ≡ kept_of t.now s }
 {
     match s {
-        Spot::At(p) => {
-            let o = with_slot(t, p, n);
-            if o.slot < n {
-                Choice::Is(true, o)
+        Some(p) => {
+            let placed = with_slot(t, p, n);
+            if placed.slot < n {
+                Some(Opposite {
+                    second: true,
+                    placed,
+                })
             } else {
-                Choice::Neither
+                None
             }
         }
-        Spot::Nothing => Choice::Neither,
+        None => None,
     }
 }
 
-// The opposite of corner j of v.
-pub fn choose(t: &[u8], v: Record, j: u8, n: usize) -> Choice
+// The opposite that corner j of v has: the first one if that is in the table, else the second if that is.
+pub fn choose(t: &[u8], v: Record, j: u8, n: usize) -> Option<Opposite>
     requires table { Table t.now n }
     requires inner { Inner v × (j < v.d) }
     ensures { result ≡ choice_of t.now v j }
 {
-    let o = with_slot(t, first_of(v, j), n);
-    if o.slot < n {
-        return Choice::Is(false, o);
+    let placed = with_slot(t, first_of(v, j), n);
+    if placed.slot < n {
+        return Some(Opposite {
+            second: false,
+            placed,
+        });
     }
     kept(t, second_of(v, j), n)
 }

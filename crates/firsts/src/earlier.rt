@@ -9,9 +9,10 @@ ghost use Rattle.firsts.specs.Earlier.{slot_in, placed_of, earlier_in, inner_in,
 
 use crate::faces::next_place;
 use lattice::{ANSWER_NUMBERS, Point, Record, point_at};
-use table::{Found, Looked, find, held_in};
+use table::{Found, find, held_in};
 
 // A point and the slot of its record, or the number of slots where it has none.
+// No Option: `slot_in` and `placed_of`, which may not change, have that number, and one comparison tells whether a slot comes before another.
 #[derive(Clone, Copy)]
 pub struct Placed {
     pub at: Point,
@@ -63,11 +64,11 @@ pub fn next_placed(
 }
 
 // The record in slot s, if that stands before slot k.
-pub fn earlier(t: &[u8], s: usize, k: usize, n: usize) -> Looked
+pub fn earlier(t: &[u8], s: usize, k: usize, n: usize) -> Option<Record>
     requires { Table t.now n × (k ≤ n) }
     ensures { result ≡ earlier_in t.now k s }
 {
-    if s < k { held_in(t, s) } else { Looked::Absent }
+    if s < k { held_in(t, s) } else { None }
 }
 
 // Whether the vertex in slot s stands before slot k and has a star.
@@ -76,8 +77,8 @@ pub fn inner_before(t: &[u8], s: usize, k: usize, n: usize) -> bool
     ensures { result ≡ inner_in t.now k s }
 {
     match earlier(t, s, k, n) {
-        Looked::Absent => false,
-        Looked::Held(u) => 0 < u.d,
+        None => false,
+        Some(u) => 0 < u.d,
     }
 }
 

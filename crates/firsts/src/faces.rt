@@ -10,9 +10,8 @@ ghost use Rattle.firsts.specs.Earlier.{spot_is, corner_is, names_face, slot_in, 
 
 use crate::earlier::{earlier, inners_before};
 use crate::fits::{Fits, told_earlier};
-use lattice::{Point, Record, Spot, adjacent_of, same_point};
+use lattice::{Point, Record, adjacent_of, same_point};
 use queries::chosen;
-use table::Looked;
 
 // A face: its four vertices in their order round, from one of them on. Round a vertex: itself, the adjacent point of a corner, the opposite, the next
 // adjacent point.
@@ -24,7 +23,7 @@ pub struct Face {
     pub next: Point,
 }
 
-// The place after j in a star of degree d, the last before the first.
+// The place after j in a star of degree d, the last before the first. By no `%`: a division at each corner would be slower.
 pub fn next_place(d: u8, j: u8) -> u8
     requires { j < d }
     ensures { (result ≡ next_place d j) × (result < d) }
@@ -50,12 +49,12 @@ fn turn(f: Face) -> Face
 }
 
 // Whether a corner's opposite is p.
-pub fn spot_is(s: Spot, p: Point) -> bool
+pub fn spot_is(s: Option<Point>, p: Point) -> bool
     ensures { result ≡ spot_is s p }
 {
     match s {
-        Spot::At(o) => same_point(o, p),
-        Spot::Nothing => false,
+        Some(o) => same_point(o, p),
+        None => false,
     }
 }
 
@@ -83,13 +82,10 @@ fn names_face(t: &[u8], u: Record, f: Face, n: usize) -> bool
     requires u_value { valid_of u ≡ true }
     ensures { result ≡ names_face t.now f u }
 {
-    let d = u.d;
-    let mut i = 0;
-    while i < d {
+    for i in 0..u.d {
         if corner_is(t, u, f, i, n) {
             return true;
         }
-        i += 1;
     }
     false
 }
@@ -100,8 +96,8 @@ fn face_in(t: &[u8], f: Face, s: usize, k: usize, n: usize) -> bool
     ensures { result ≡ face_in t.now k f s }
 {
     match earlier(t, s, k, n) {
-        Looked::Absent => false,
-        Looked::Held(u) => names_face(t, u, f, n),
+        None => false,
+        Some(u) => names_face(t, u, f, n),
     }
 }
 

@@ -1,10 +1,8 @@
 // What the other three vertices of a corner's face are known to have of it, by their strides alone.
-ghost use Rattle.std.specs.Prelude.{◌≡◌, true, ◌%◌, ◌<◌};
-ghost use Rattle.lattice.specs.declared.patterns.Spot.TheVariants.{At};
+ghost use Rattle.std.specs.Prelude.{◌≡◌, true, ◌%◌, ◌<◌, Some};
 ghost use Rattle.lattice.specs.RecordLaws.{Inner};
 ghost use Rattle.table.specs.Slots.{slots_of, slot_at};
 ghost use Rattle.table.specs.Order.{InOrder};
-ghost use Rattle.table.specs.declared.slots.Slot.TheVariants.{Holds};
 ghost use Rattle.firsts.specs.Earlier.{Round};
 ghost use Rattle.firsts.specs.Strides.{opposite_by, FitThere, FitsBy, ToldRound, told_earlier};
 
@@ -12,10 +10,9 @@ use crate::earlier::{Placed, earlier};
 use crate::faces::next_place;
 use crate::strides::{adjacents, back, fit, others, sides, stride};
 use lattice::Record;
-use table::Looked;
 
 // Of the vertices at the adjacent point, the opposite and the next adjacent point: 0 where nothing is known, 1 where they have their two sides of the
-// face, 2 where they name it too.
+// face, 2 where they name it too. No enum: `FitThere`, `Told` and `told_earlier`, which may not change, compare the numbers.
 #[derive(Clone, Copy)]
 pub struct Fits {
     pub adjacent: u8,
@@ -35,8 +32,8 @@ pub fn fit_in(t: &[u8], s: usize, there: bool, x: u8, y: u8, z: u8, n: usize) ->
         return 0;
     }
     match earlier(t, s, n, n) {
-        Looked::Absent => 0,
-        Looked::Held(u) => {
+        None => 0,
+        Some(u) => {
             if u.d == 0 {
                 return 0;
             }
@@ -100,9 +97,9 @@ pub fn fits_of(
 ) -> Fits
     requires in_order { InOrder t.now × ((n ≡ slots_of t.now) × (k < n)) }
     requires inner { Inner v × (j < v.d) }
-    requires k_value { slot_at t.now k ≡ Holds v }
+    requires k_value { slot_at t.now k ≡ Some v }
     requires round { Round t.now v j a o b }
-    requires second_value { opposite_by v j second ≡ At o.at }
+    requires second_value { opposite_by v j second ≡ Some o.at }
     ensures { ToldRound t.now v j a o b result }
 {
     let d = v.d;
@@ -112,14 +109,7 @@ pub fn fits_of(
     let vb = stride(adjacents(d), next_place(d, j), e, m);
     let ao = stride(sides(d, second), j, e, m);
     let bo = stride(others(d, second), j, e, m);
-    if ao < LEAST {
-        return Fits {
-            adjacent: 0,
-            opposite: 0,
-            next: 0,
-        };
-    }
-    if bo < LEAST {
+    if ao < LEAST || bo < LEAST {
         return Fits {
             adjacent: 0,
             opposite: 0,

@@ -13,7 +13,7 @@ mod faces;
 mod fits;
 mod strides;
 
-pub use choices::{Choice, choose};
+pub use choices::{Opposite, choose};
 pub use earlier::{Placed, inner_before, inners_before, next_placed, slot_of, with_slot};
 pub use faces::{Face, face_seen, next_place, spot_is};
 pub use fits::{Fits, fits_of};

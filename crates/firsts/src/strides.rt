@@ -1,7 +1,7 @@
 // Strides, the ways from a vertex to an adjacent point and from there to an opposite, each as one number: sixteen times the level, from 1 on, and the
 // direction. Whether another vertex has a corner with the points of a face is then a comparison of small numbers: no point is worked out, none
 // searched for.
-ghost use Rattle.std.specs.Prelude.{◌≡◌, ◌%◌, ◌≤◌, ◌<◌};
+ghost use Rattle.std.specs.Prelude.{◌≡◌, ◌%◌, ◌≤◌, ◌<◌, IfSome};
 ghost use Rattle.lattice.specs.RecordLaws.{Inner};
 ghost use Rattle.firsts.specs.Strides.{row_of, adjacent_row, side_row, other_row, stride_of, back_of, Fit};
 
@@ -49,7 +49,7 @@ pub fn others(d: u8, second: bool) -> u64
     }
 }
 
-// The stride at place j of a row, at orientation k and level n; 0 where there is none.
+// The stride at place j of a row, at orientation k and level n; 0, which `stride_of` has and no stride equals, where there is none.
 pub fn stride(row: u64, j: u8, k: u8, n: Level) -> u8
     requires { (j < 6) × ((k < 12) × (n.0 ≤ 12)) }
     ensures { (result ≡ stride_of row j k n.0) × (result % 16 < 12) }
@@ -91,19 +91,17 @@ fn place_near(d: u8, e: u8) -> u8
     ((places >> (4 * e)) % 16) as u8
 }
 
-// The place of a star's row that has this stride, or d. It is right whatever place is tried.
-fn place_of(row: u64, d: u8, k: u8, n: Level, c: u8) -> u8
+// The place of a star's row that has this stride, if it is the one that is tried. It is right whatever place is tried.
+fn place_of(row: u64, d: u8, k: u8, n: Level, c: u8) -> Option<u8>
     requires { (d ≤ 6) × ((k < 12) × (n.0 ≤ 12)) }
-    ensures { (result ≤ d) × (result < d → stride_of row result k n.0 ≡ c) }
+    ensures { IfSome result (λ i. (i < d) × (stride_of row i k n.0 ≡ c)) }
 {
     let i = place_near(d, round(c % 16 + 12 - k));
-    if d <= i {
-        return d;
+    if i < d && stride(row, i, k, n) == c {
+        Some(i)
+    } else {
+        None
     }
-    if stride(row, i, k, n) == c {
-        return i;
-    }
-    d
 }
 
 // Whether a corner of u has the strides x and y to its adjacent points and z from the first of them to an opposite: 2 where that is the first opposite,
@@ -115,10 +113,9 @@ pub fn fit(u: Record, x: u8, y: u8, z: u8) -> u8
     let d = u.d;
     let k = u.k;
     let n = u.n;
-    let i = place_of(adjacents(d), d, k, n, x);
-    if i == d {
+    let Some(i) = place_of(adjacents(d), d, k, n, x) else {
         return 0;
-    }
+    };
     if stride(adjacents(d), next_place(d, i), k, n) != y {
         return 0;
     }

@@ -9,6 +9,8 @@ ghost use Rattle.viewer.specs.Viewer.{write_off_of, write_obj_of};
 ghost use Rattle.census_text.specs.Census as spec;
 ghost use Rattle.census_text.specs.Census.{put, census_of, text_of, read_input_of};
 
+use crate::outcomes::{give_bytes, give_line};
+use lattice::{DONE, number_told};
 use tally::COUNTS;
 
 // Writes the full file, or 1, 13; written: its bytes, 0 if refused.
@@ -16,9 +18,7 @@ use tally::COUNTS;
 pub extern "C" fn fb_write_full(table: &[u8], out: &mut [u8], written: &mut u64) -> u8
     ensures { output_after result written.new out.new ≡ write_full_of table.now out.old }
 {
-    let file = writers::write_full(table, out);
-    *written = file.bytes;
-    file.number
+    give_bytes(writers::write_full(table, out), written)
 }
 
 // Writes the reduced file, or 1, 13; written: its bytes, 0 if refused.
@@ -26,9 +26,7 @@ pub extern "C" fn fb_write_full(table: &[u8], out: &mut [u8], written: &mut u64)
 pub extern "C" fn fb_write_reduced(table: &[u8], out: &mut [u8], written: &mut u64) -> u8
     ensures { output_after result written.new out.new ≡ write_reduced_of table.now out.old }
 {
-    let file = writers::write_reduced(table, out);
-    *written = file.bytes;
-    file.number
+    give_bytes(writers::write_reduced(table, out), written)
 }
 
 // Reads a full file into the table, or 1, 9, 10, 8, 11; line: the one at fault, else 0.
@@ -42,9 +40,7 @@ pub extern "C" fn fb_read_full(
     ensures { reader.tables_after result line.new table.new scratch.new
         ≡ reader.read_full_of table.old scratch.old file.now }
 {
-    let read = readers::read_full(table, scratch, file);
-    *line = read.line;
-    read.number
+    give_line(readers::read_full(table, scratch, file), line)
 }
 
 // Reads a reduced file into the table, or 1, 9, 10, 8, 11, 12; line: the one at fault, else 0.
@@ -58,9 +54,7 @@ pub extern "C" fn fb_read_reduced(
     ensures { reader.tables_after result line.new table.new scratch.new
         ≡ reader.read_reduced_of table.old scratch.old file.now }
 {
-    let read = readers::read_reduced(table, scratch, file);
-    *line = read.line;
-    read.number
+    give_line(readers::read_reduced(table, scratch, file), line)
 }
 
 // Writes what the census program writes for an input, or 13; the number is the one in the text. written: its bytes, 0 for 13. 128 bytes always suffice.
@@ -78,7 +72,7 @@ pub extern "C" fn fb_census(
 {
     let census = census_text::census(input, table, scratch, out);
     *written = census.written;
-    census.number
+    number_told(census.outcome)
 }
 
 // The census's numbers of a table, V E F d0 d3 d4 d5 d6; or 1, and all zeros.
@@ -87,7 +81,12 @@ pub extern "C" fn fb_counts(table: &[u8], numbers: &mut [u32; COUNTS]) -> u8
     ensures value { result ≡ (count_of table.now).number }
     ensures numbers_after { numbers.new ≡ (count_of table.now).counted }
 {
-    tally::count(table, numbers)
+    let counted = tally::count(table);
+    *numbers = tally::row(counted);
+    match counted {
+        Ok(_) => DONE,
+        Err(why) => why.number(),
+    }
 }
 
 // Writes the findings list joined with the plan, or 1, 15, 13; line: the malformed line, else 0; written: its bytes, 0 if refused.
@@ -101,10 +100,18 @@ pub extern "C" fn fb_findings(
 ) -> u8
     ensures { join_after result line.new written.new out.new ≡ join_of table.now list.now out.old }
 {
-    let joined = findings::join(table, list, out);
-    *line = joined.line;
-    *written = joined.bytes;
-    joined.number
+    match findings::join(table, list, out) {
+        Ok(bytes) => {
+            *line = 0;
+            *written = bytes;
+            DONE
+        }
+        Err(fault) => {
+            *line = fault.line;
+            *written = 0;
+            fault.why.number()
+        }
+    }
 }
 
 // Writes the OFF file, or 1, 7, 13; written: its bytes, 0 if refused.
@@ -112,9 +119,7 @@ pub extern "C" fn fb_findings(
 pub extern "C" fn fb_write_off(table: &[u8], out: &mut [u8], written: &mut u64) -> u8
     ensures { output_after result written.new out.new ≡ write_off_of table.now out.old }
 {
-    let file = viewer::write_off(table, out);
-    *written = file.bytes;
-    file.number
+    give_bytes(viewer::write_off(table, out), written)
 }
 
 // Writes the OBJ file, or 1, 7, 13; written: its bytes, 0 if refused.
@@ -122,9 +127,7 @@ pub extern "C" fn fb_write_off(table: &[u8], out: &mut [u8], written: &mut u64) 
 pub extern "C" fn fb_write_obj(table: &[u8], out: &mut [u8], written: &mut u64) -> u8
     ensures { output_after result written.new out.new ≡ write_obj_of table.now out.old }
 {
-    let file = viewer::write_obj(table, out);
-    *written = file.bytes;
-    file.number
+    give_bytes(viewer::write_obj(table, out), written)
 }
 
 // Salvages an old file, or 1, 20, 8, 11, 13; written, changed: the bytes of the full file and of the list of changes, 0 if refused.
@@ -141,8 +144,16 @@ pub extern "C" fn fb_salvage(
     ensures { salvage_after result written.new changed.new table.new scratch.new out.new changes.new
         ≡ salvage_of table.old scratch.old file.now out.old changes.old }
 {
-    let salvaged = salvage::salvage(table, scratch, file, out, changes);
-    *written = salvaged.written;
-    *changed = salvaged.changed;
-    salvaged.number
+    match salvage::salvage(table, scratch, file, out, changes) {
+        Ok(salvaged) => {
+            *written = salvaged.written;
+            *changed = salvaged.changed;
+            DONE
+        }
+        Err(why) => {
+            *written = 0;
+            *changed = 0;
+            why.number()
+        }
+    }
 }

@@ -10,5 +10,6 @@
 mod files;
 mod meshes;
 mod numbers;
+mod outcomes;
 mod points;
 mod vertices;

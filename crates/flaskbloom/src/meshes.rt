@@ -6,6 +6,8 @@ ghost use Rattle.bring.specs.Bring.{bring_after, bring_to_six};
 ghost use Rattle.outlines.specs.Outlines.{refine_after, refine_of};
 ghost use Rattle.outlines.specs.declared.values.Outline.TheVariants.{Disc, Line};
 
+use crate::outcomes::give_done;
+use lattice::{DONE, number_told};
 use outlines::Outline;
 
 // Lays hexagons into a cleared table, or 1, 2, 8; place: the first bad centre, else 0.
@@ -13,9 +15,16 @@ use outlines::Outline;
 pub extern "C" fn fb_base(table: &mut [u8], centres: &[i32], place: &mut u64) -> u8
     ensures { base_after result place.new table.new ≡ base_of table.old centres.now }
 {
-    let based = base::base(table, centres);
-    *place = based.place as u64;
-    based.number
+    match base::base(table, centres) {
+        Ok(()) => {
+            *place = 0;
+            DONE
+        }
+        Err(bad) => {
+            *place = bad.place as u64;
+            bad.why.number()
+        }
+    }
 }
 
 // Subdivides the vertex at [a, b, m], or 1, 3, 4, 5, 7, 8.
@@ -24,7 +33,7 @@ pub extern "C" fn fb_subdivide(table: &mut [u8], a: i32, b: i32, m: u8) -> u8
     ensures value { result ≡ (subdivide_of table.old a b m).number }
     ensures table_after { table.new ≡ (subdivide_of table.old a b m).bytes }
 {
-    mesh::subdivide(table, a, b, m)
+    number_told(mesh::subdivide(table, a, b, m))
 }
 
 // Subdivides the vertices at a, b, m, a, b, m, .. in turn, up to the first refusal; done: how many were.
@@ -34,9 +43,7 @@ pub extern "C" fn fb_subdivide_all(table: &mut [u8], points: &[i32], done: &mut 
     ensures done_after { done.new ≡ (subdivide_all_of table.old points.now).done }
     ensures table_after { table.new ≡ (subdivide_all_of table.old points.now).bytes }
 {
-    let made = mesh::subdivide_all(table, points);
-    *done = made.done;
-    made.number
+    give_done(mesh::subdivide_all(table, points), done)
 }
 
 // Brings the vertex at [a, b, m] to degree 6 by the subdivisions that this asks for, or 1, 3, 14, 5, 7, 16, 8, the table then as it was.
@@ -44,7 +51,7 @@ pub extern "C" fn fb_subdivide_all(table: &mut [u8], points: &[i32], done: &mut 
 pub extern "C" fn fb_bring_to_six(table: &mut [u8], scratch: &mut [u8], a: i32, b: i32, m: u8) -> u8
     ensures { bring_after result table.new scratch.new ≡ bring_to_six table.old scratch.old a b m }
 {
-    bring::bring(table, scratch, a, b, m)
+    number_told(bring::bring(table, scratch, a, b, m))
 }
 
 // Refines round a disc with centre x, y and radius, or 1, 17, 7, 8; done: how many passes were made, which stand.
@@ -63,9 +70,7 @@ pub extern "C" fn fb_refine_disc(
         ≡ refine_of table.old scratch.old (Disc x y radius) passes level }
 {
     let o = Outline::Disc(x, y, radius);
-    let refined = outlines::refine(table, scratch, o, passes, level);
-    *done = refined.done;
-    refined.number
+    give_done(outlines::refine(table, scratch, o, passes, level), done)
 }
 
 // Refines along the line p*x + q*y = s, in the same way.
@@ -84,7 +89,5 @@ pub extern "C" fn fb_refine_line(
         ≡ refine_of table.old scratch.old (Line p q s) passes level }
 {
     let o = Outline::Line(p, q, s);
-    let refined = outlines::refine(table, scratch, o, passes, level);
-    *done = refined.done;
-    refined.number
+    give_done(outlines::refine(table, scratch, o, passes, level), done)
 }

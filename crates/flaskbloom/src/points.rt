@@ -7,7 +7,7 @@ ghost use Rattle.queries.specs.Many.{neighbours_all_of, faces_all_of};
 ghost use Rattle.flaskbloom.specs.Numbers.{point_numbers, answer_numbers, record_of};
 
 use crate::numbers::point_numbers;
-use lattice::{ANSWER_NUMBERS, DONE, Depth, Level, Point, Record};
+use lattice::{ANSWER_NUMBERS, DONE, Depth, Level, Point, Record, number_told};
 
 // The normalised point. Always 0.
 #[unsafe(no_mangle)]
@@ -46,7 +46,7 @@ pub extern "C" fn fb_star(
     ensures value { result ≡ (star_of (record_of a b m d k n)).number }
     ensures points_after { points.new ≡ answer_numbers (star_of (record_of a b m d k n)) }
 {
-    lattice::star(points, record_of(a, b, m, d, k, n))
+    number_told(lattice::star(points, record_of(a, b, m, d, k, n)))
 }
 
 // The adjacent points of the vertex at [a, b, m], or 1, 3, 14, 7.
@@ -61,7 +61,7 @@ pub extern "C" fn fb_neighbours(
     ensures value { result ≡ (neighbours_of table.now a b m).number }
     ensures points_after { points.new ≡ answer_numbers (neighbours_of table.now a b m) }
 {
-    queries::neighbours(table, a, b, m, points)
+    number_told(queries::neighbours(table, a, b, m, points))
 }
 
 // The opposite of each corner of the vertex at [a, b, m], or 1, 3, 14, 7.
@@ -76,7 +76,7 @@ pub extern "C" fn fb_faces(
     ensures value { result ≡ (faces_of table.now a b m).number }
     ensures points_after { points.new ≡ answer_numbers (faces_of table.now a b m) }
 {
-    queries::faces(table, a, b, m, points)
+    number_told(queries::faces(table, a, b, m, points))
 }
 
 // What fb_neighbours gives for each of the points a, b, m, a, b, m, .., or 1, 13.
@@ -85,7 +85,7 @@ pub extern "C" fn fb_neighbours_all(table: &[u8], points: &[i32], answers: &mut 
     ensures value { result ≡ (neighbours_all_of table.now points.now answers.old).number }
     ensures answers_after { answers.new ≡ (neighbours_all_of table.now points.now answers.old).answers }
 {
-    queries::neighbours_all(table, points, answers)
+    number_told(queries::neighbours_all(table, points, answers))
 }
 
 // What fb_faces gives for each of the points a, b, m, a, b, m, .., or 1, 13.
@@ -94,5 +94,5 @@ pub extern "C" fn fb_faces_all(table: &[u8], points: &[i32], answers: &mut [i32]
     ensures value { result ≡ (faces_all_of table.now points.now answers.old).number }
     ensures answers_after { answers.new ≡ (faces_all_of table.now points.now answers.old).answers }
 {
-    queries::faces_all(table, points, answers)
+    number_told(queries::faces_all(table, points, answers))
 }

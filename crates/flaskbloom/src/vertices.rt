@@ -4,6 +4,7 @@ ghost use Rattle.engine.specs.Engine.{vertex_of};
 ghost use Rattle.engine.specs.Many.{record_row, vertices_of};
 
 use crate::numbers::record_numbers;
+use lattice::{DONE, number_told};
 
 // The record of the vertex at [a, b, m], or 2, 21, 3 and all zeros.
 #[unsafe(no_mangle)]
@@ -18,10 +19,16 @@ pub extern "C" fn fb_vertex(
     ensures value { result ≡ (vertex_of centres.now pairs.now a b m).number }
     ensures record_after { «record».new ≡ record_row (vertex_of centres.now pairs.now a b m).vertex }
 {
-    let v = engine::vertex(centres, pairs, a, b, m);
-    let number = v.number;
-    *record = record_numbers(v.vertex);
-    number
+    match engine::vertex(centres, pairs, a, b, m) {
+        Ok(v) => {
+            *record = record_numbers(v);
+            DONE
+        }
+        Err(why) => {
+            *record = [0; 6];
+            why.number()
+        }
+    }
 }
 
 // The records at many points, six numbers each, with one judgement of the lists, or 2, 21, 13.
@@ -35,5 +42,5 @@ pub extern "C" fn fb_vertices(
     ensures value { result ≡ (vertices_of centres.now pairs.now points.now records.old).number }
     ensures records_after { records.new ≡ (vertices_of centres.now pairs.now points.now records.old).rows }
 {
-    engine::vertices(centres, pairs, points, records)
+    number_told(engine::vertices(centres, pairs, points, records))
 }

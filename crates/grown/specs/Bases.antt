@@ -2,11 +2,10 @@
 -- hexagons round a corner (crate growth).
 -- `list-sheet` a good list gives the model's base · `base-sheet`, `base-model` so does a base that is accepted.
 -- Assumes nothing.
-use Rattle.std.specs.Prelude.{◌≡◌, ◌≢◌, Bool, ◌&&◌, ◌||◌, List, ℕ, ◌+◌, ◌*◌, ◌%◌, ◌/◌, ◌<◌, T, eqb, ℤ, ◌-ℤ◌}
+use Rattle.std.specs.Prelude.{◌≡◌, ◌≢◌, Bool, ◌&&◌, ◌||◌, List, ℕ, ◌+◌, ◌*◌, ◌%◌, ◌/◌, ◌<◌, T, eqb, ℤ, ◌-ℤ◌, Some, None}
 use Rattle.std.proofs.Math.Path.{refl, ap}
 use Rattle.std.proofs.Common.{sym, ◌∙◌, subst, arith}
 use Rattle.std.proofs.Math.Bool.{true, false, cond, not}
-use Rattle.std.proofs.Math.Option.{none, some}
 use Rattle.std.proofs.Math.Decide.{ℕ_discrete}
 use borrow.Author.Tests.{eq-eqb, ne_eqb, eqb-true}
 use Rattle.laws.specs.Rules.{◌≡?◌, ◌⇒◌, rule}
@@ -19,7 +18,6 @@ use Rattle.lattice.specs.declared.points.Point.{Point}
 use Rattle.geometry.specs.GeometryLaws.{turned_move}
 use Rattle.growth.specs.Sheets.{hexagon_round, inside_base, base_vertex, CentreSet, base_sheet, given_by}
 use Rattle.growth.specs.Hexagons.{unit-step, hexagon-centre, in-any, any-in, inside-all, all-inside, centre-in, centre-inside}
-use Rattle.table.specs.declared.entries.Looked.TheVariants.{Absent, Held}
 use Rattle.centres.specs.Centres.{GoodList}
 use Rattle.centres.specs.MarkLaws.{good-is}
 use Rattle.centres.specs.ModelLaws.{centre-good, list-model}
@@ -139,12 +137,12 @@ module _ (cs : List ℤ) (g : GoodList cs) where
             rw (inside, eq-eqb (class_of p) 0 c)
         go (no c) = rw (internal-same (base-depth cs p g h) c, ne_eqb (class_of p) 0 c)
 
-    pub list-sheet : as_option (cond (in_base cs p) (Held (base_record H p)) Absent) ≡ base_sheet H p
+    pub list-sheet : as_option (cond (in_base cs p) (Some (base_record H p)) None) ≡ base_sheet H p
     unfolding base_sheet
-    list-sheet = go (in_base cs p) refl ∙ ap (λ (b : Bool). cond b (some (base_vertex H p)) none) in-same
+    list-sheet = go (in_base cs p) refl ∙ ap (λ (b : Bool). cond b (Some (base_vertex H p)) None) in-same
       where
-        go : (b : Bool) → in_base cs p ≡ b → as_option (cond b (Held (base_record H p)) Absent) ≡ cond b (some (base_vertex H p)) none
-        go true h = ap some (vertex-same h)
+        go : (b : Bool) → in_base cs p ≡ b → as_option (cond b (Some (base_record H p)) None) ≡ cond b (Some (base_vertex H p)) None
+        go true h = ap Some (vertex-same h)
         go false h = refl
 
 -- ---- a base that is accepted

@@ -3,10 +3,9 @@
 -- each subdivision six slots are free: those of the six points that it adds. `Tabled` a sheet and the table that the calls made · `made-base`,
 -- `made-step`, `made`.
 -- Assumes nothing.
-use Rattle.std.specs.Prelude.{◌≡◌, Bool, true, cond, List, ℕ, ◌+◌, ◌≤◌, ◌<◌, ℤ}
+use Rattle.std.specs.Prelude.{◌≡◌, Bool, true, cond, List, ℕ, ◌+◌, ◌≤◌, ◌<◌, ℤ, Option, Some, None}
 use Rattle.std.proofs.Common.{sym, ◌∙◌, ap, subst, arith}
 use Rattle.std.proofs.Math.Path.{fun_ext}
-use Rattle.std.proofs.Math.Option.{some}
 use Rattle.laws.specs.Choices.{is_true}
 use Rattle.lattice.specs.declared.points.Point.{Point}
 use Rattle.lattice.specs.declared.records.Record.{Record}
@@ -18,8 +17,6 @@ use Rattle.table.specs.Entries.{look_up, records_of}
 use Rattle.table.specs.MapLaws.{lookup-point, looked-records, records-count}
 use Rattle.table.specs.Order.{InOrder}
 use Rattle.table.specs.Slots.{slots_of, free_slots}
-use Rattle.table.specs.declared.entries.Looked.{Looked}
-use Rattle.table.specs.declared.entries.Looked.TheVariants.{Absent, Held}
 use Rattle.base.specs.Base.{centres_in, is_listed, base_of}
 use Rattle.base.specs.BaseLaws.{BaseEnd, refused, short, done, base-end, base-accepts, base-order}
 use Rattle.base.specs.Vertices.{in_base, base_record, points_in}
@@ -72,9 +69,9 @@ module _ (t : List ℕ) (o : InOrder t) where
       sheet : (p : Point) → base_sheet (is_listed cs) p ≡ R p
       sheet p = ap (λ (K : Point → Bool). base_sheet K p) (fun_ext (base-numbers H b).same) ∙ sym (is p)
 
-      vertex : (p : Point) → in_base cs p ≡ true → R p ≡ some (base_record (is_listed cs) p)
+      vertex : (p : Point) → in_base cs p ≡ true → R p ≡ Some (base_record (is_listed cs) p)
       vertex p e =
-          sym (sheet p) ∙ sym (list-sheet cs (base-numbers H b).good p) ∙ ap (λ (x : Bool). as_option (cond x (Held (base_record (is_listed cs) p)) Absent)) e
+          sym (sheet p) ∙ sym (list-sheet cs (base-numbers H b).good p) ∙ ap (λ (x : Bool). as_option (cond x (Some (base_record (is_listed cs) p)) None)) e
 
       points : points_in cs (centres_in cs) ≤ count rs (in_base cs)
       points = count-base rs cs (centres_in cs) (λ p e. within p (base_record (is_listed cs) p) (vertex p e))
@@ -85,7 +82,7 @@ module _ (t : List ℕ) (o : InOrder t) where
       accepts : (base_of t cs).number ≡ 0
       accepts = base-accepts t cs o.fits (base-numbers H b).good (omega (arith, points, count-all rs (in_base cs), records-count t))
 
-  pub made-step : (R : Sheet) (v : Record) (R' : Sheet) → Tabled R → R v.at ≡ some v → v.d ≡ 6 → v.n.0 < 12 → UntornAt R v → Step R v R' → Covered R' rs
+  pub made-step : (R : Sheet) (v : Record) (R' : Sheet) → Tabled R → R v.at ≡ Some v → v.d ≡ 6 → v.n.0 < 12 → UntornAt R v → Step R v R' → Covered R' rs
       → Tabled R'
   made-step R v R' m x six low w s within =
       let r = accepted u v.at.a v.at.b v.at.m.0 yes-accepted in
@@ -106,7 +103,7 @@ module _ (t : List ℕ) (o : InOrder t) where
       is : sheet_of u ≡ R
       is = fun_ext m.same
 
-      held : look_up u v.at ≡ Held v
+      held : look_up u v.at ≡ Some v
       held = sheet-held (look_up u v.at) v (m.same v.at ∙ x)
 
       whole : UntornAt (sheet_of u) v
@@ -134,6 +131,6 @@ module _ (t : List ℕ) (o : InOrder t) where
       within : Covered (sheet_of t) rs
       within p r e = let h = sheet-held (look_up t p) r e in (r, looked-records t o p r h, lookup-point t o p r h)
 
-      alike : (l k : Looked) → as_option l ≡ as_option k → l ≡ k
-      alike Absent k e = sym (sheet-absent k (sym e))
-      alike (Held r) k e = sym (sheet-held k r (sym e))
+      alike : (l k : Option Record) → as_option l ≡ as_option k → l ≡ k
+      alike None k e = sym (sheet-absent k (sym e))
+      alike (Some r) k e = sym (sheet-held k r (sym e))

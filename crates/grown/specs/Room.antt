@@ -3,9 +3,8 @@
 -- how many of some points are new, `count-fresh` they are counted, `all-fresh` all are new · `count-base` the points of a base's hexagons ·
 -- `Covered`, `count-step` a subdivision has six more.
 -- Assumes nothing.
-use Rattle.std.specs.Prelude.{◌≡◌, refl, ◌⊎◌, Bool, true, false, cond, ◌||◌, ℕ, zero, suc, ◌+◌, ◌≤◌, ◌<◌, ℤ, length}
+use Rattle.std.specs.Prelude.{◌≡◌, refl, ◌⊎◌, Bool, true, false, cond, ◌||◌, ℕ, zero, suc, ◌+◌, ◌≤◌, ◌<◌, ℤ, length, Some, None}
 use Rattle.std.proofs.Common.{sym, ◌∙◌, ap, inl, inr, arith}
-use Rattle.std.proofs.Math.Option.{none, some}
 use mathlib.Core.List.Memᴰ
 use mathlib.Core.List.{List, [], ◌∷◌, Memᴰ}
 use Rattle.laws.specs.Each.{not-both, among-at, at-among}
@@ -166,18 +165,18 @@ count-base rs cs (suc n) h =
 
 -- the list has the points of the sheet
 abbrev pub Covered : Sheet → List Record → Type 0
-Covered R rs = (p : Point) (r : Record) → R p ≡ some r → Among rs p
+Covered R rs = (p : Point) (r : Record) → R p ≡ Some r → Among rs p
 
-none-there : (R : Sheet) (p : Point) → R p ≡ none → there R p ≡ false
+none-there : (R : Sheet) (p : Point) → R p ≡ None → there R p ≡ false
 unfolding there
 none-there R p e = ap is_there e
 
 module _ (R : Sheet) (v : Record) (R' : Sheet) (w : UntornAt R v) (s : Step R v R') where
   -- a subdivision keeps every point
-  pub step_keeps : (p : Point) (r : Record) → R p ≡ some r → (u : Record) × (R' p ≡ some u)
+  pub step_keeps : (p : Point) (r : Record) → R p ≡ Some r → (u : Record) × (R' p ≡ Some u)
   step_keeps p r x = go (point? p v.at) (growth.among (λ j. (new_of v j).at) p 6) (growth.among (adjacent_at v) p 6)
     where
-      go : Dec (p ≡ v.at) → Dec ((j : ℕ) × (j < 6) × (p ≡ (new_of v j).at)) → Dec ((j : ℕ) × (j < 6) × (p ≡ adjacent_at v j)) → (u : Record) × (R' p ≡ some u)
+      go : Dec (p ≡ v.at) → Dec ((j : ℕ) × (j < 6) × (p ≡ (new_of v j).at)) → Dec ((j : ℕ) × (j < 6) × (p ≡ adjacent_at v j)) → (u : Record) × (R' p ≡ Some u)
       go (yes e) b c = (centre_of v, ap R' e ∙ s.centre)
       go (no e) (yes (j, l, f)) c = (new_of v j, ap R' f ∙ s.new j l)
       go (no e) (no b) (yes (j, l, f)) = (update_of (back_of v.k j) r, ap R' f ∙ s.old j l r (ap R (sym f) ∙ x))

@@ -2,9 +2,8 @@
 -- `Accepted`, `accepted` what an accepted subdivision was and what it left · `vertex-accepted`, `vertex-short` a whole subdivision is
 -- accepted, or wants slots · `whole-accepted`, `whole-step` the same, asked by the record's own point.
 -- Assumes nothing.
-use Rattle.std.specs.Prelude.{◌≡◌, refl, true, not, List, ℕ, ◌+◌, ◌≤◌, ◌<◌, ℤ}
+use Rattle.std.specs.Prelude.{◌≡◌, refl, true, not, List, ℕ, ◌+◌, ◌≤◌, ◌<◌, ℤ, Option, Some, None}
 use Rattle.std.proofs.Common.{sym, ◌∙◌, ap, subst, arith}
-use Rattle.std.proofs.Math.Option.{none, some}
 use Rattle.laws.specs.Each.{each-upto}
 use Rattle.laws.specs.Rules.{upto}
 use Rattle.laws.specs.Choices.{is_true, of-true}
@@ -17,8 +16,6 @@ use Rattle.table.specs.Entries.{look_up, is_held}
 use Rattle.table.specs.MapLaws.{order-test}
 use Rattle.table.specs.Order.{InOrder}
 use Rattle.table.specs.Slots.{free_slots}
-use Rattle.table.specs.declared.entries.Looked.{Looked}
-use Rattle.table.specs.declared.entries.Looked.TheVariants.{Absent, Held}
 use Rattle.mesh.specs.Subdivide.{fits_at, adjacent_fits, new_fits, subdivided, MeshAfter, subdivide_vertex, subdivide_of}
 use Rattle.mesh.specs.SubdivideLaws.{old, subdivided-order, subdivided-free, subdivided-centre, subdivided-new, subdivided-old, subdivided-rest}
 use Rattle.mesh.specs.CallLaws.{vertex-0, vertex-8, call-vertex}
@@ -28,13 +25,13 @@ use Rattle.local.specs.Sheet.{as_option, sheet_of}
 use Rattle.mesh.specs.SubdivideLaws as table
 
 -- ---- what a table holds, and what its sheet says
-pub sheet-held : (l : Looked) (r : Record) → as_option l ≡ some r → l ≡ Held r
-sheet-held Absent r e = absurd (let z : ◌≡◌ {A = ℕ} 0 1 = cc in omega arith)
-sheet-held (Held q) r e = let x : q ≡ r = cc in ap Held x
+pub sheet-held : (l : Option Record) (r : Record) → as_option l ≡ Some r → l ≡ Some r
+sheet-held None r e = absurd (let z : ◌≡◌ {A = ℕ} 0 1 = cc in omega arith)
+sheet-held (Some q) r e = let x : q ≡ r = cc in ap Some x
 
-pub sheet-absent : (l : Looked) → as_option l ≡ none → l ≡ Absent
-sheet-absent Absent e = refl
-sheet-absent (Held q) e = absurd (let z : ◌≡◌ {A = ℕ} 0 1 = cc in omega arith)
+pub sheet-absent : (l : Option Record) → as_option l ≡ None → l ≡ None
+sheet-absent None e = refl
+sheet-absent (Some q) e = absurd (let z : ◌≡◌ {A = ℕ} 0 1 = cc in omega arith)
 
 -- ---- a table's subdivision as the model's
 module _ (t : List ℕ) (v : Record) (w : table.Intact t v) where
@@ -58,8 +55,8 @@ module _ (t : List ℕ) (v : Record) (w : table.Intact t v) where
 pub record Accepted (t : List ℕ) (a b : ℤ) (m : ℕ) : Type 0 where
   pub vertex : Record
   pub order : InOrder t
-  pub looked : look_up t (normal_of a b m) ≡ Held vertex
-  pub held : look_up t vertex.at ≡ Held vertex
+  pub looked : look_up t (normal_of a b m) ≡ Some vertex
+  pub held : look_up t vertex.at ≡ Some vertex
   pub six : vertex.d ≡ 6
   pub below : vertex.n.0 < 12
   pub whole : UntornAt (sheet_of t) vertex
@@ -92,7 +89,7 @@ accepted t a b m z = go (subdivision t a b m)
 
 -- ---- back: a whole one is accepted
 module _ (t : List ℕ) (o : InOrder t) (a b : ℤ) (m : ℕ) (v : Record)
-    (e : look_up t (normal_of a b m) ≡ Held v) (six : v.d ≡ 6) (low : v.n.0 < 12) (w : UntornAt (sheet_of t) v) where
+    (e : look_up t (normal_of a b m) ≡ Some v) (six : v.d ≡ 6) (low : v.n.0 < 12) (w : UntornAt (sheet_of t) v) where
   not_top : v.n.0 ≡ 12 → ⊥
   not_top h = omega arith
 
@@ -105,7 +102,7 @@ module _ (t : List ℕ) (o : InOrder t) (a b : ℤ) (m : ℕ) (v : Record)
           ap (fits_at v j) (sheet-held (look_up t (adjacent_at v j)) u l) ∙ is_true (accepts_of (back_of v.k j) v.n.0 u) f
 
   fresh : upto 6 (new_fits t v) ≡ true
-  fresh = each-upto (new_fits t v) 6 (λ j h. ap (λ (l : Looked). not (is_held l)) (sheet-absent (look_up t (new_of v j).at) (w.free j h)))
+  fresh = each-upto (new_fits t v) 6 (λ j h. ap (λ (l : Option Record). not (is_held l)) (sheet-absent (look_up t (new_of v j).at) (w.free j h)))
 
   ends : {x : MeshAfter} → x ≡ subdivide_vertex t v → x.number ≡ (subdivide_of t a b m).number
   ends h = ap (λ (x : MeshAfter). x.number) (h ∙ call-vertex t a b m (order-test t o) v e)
@@ -117,7 +114,7 @@ module _ (t : List ℕ) (o : InOrder t) (a b : ℤ) (m : ℕ) (v : Record)
   vertex-short few = sym (ends (vertex-8 t v six not_top fits fresh few))
 
 -- ---- asked by its own point
-module _ (t : List ℕ) (o : InOrder t) (v : Record) (e : look_up t v.at ≡ Held v) where
+module _ (t : List ℕ) (o : InOrder t) (v : Record) (e : look_up t v.at ≡ Some v) where
   module _ (six : v.d ≡ 6) (low : v.n.0 < 12) (w : UntornAt (sheet_of t) v) (room : 6 ≤ free_slots t) where
     pub whole-accepted : (subdivide_of t v.at.a v.at.b v.at.m.0).number ≡ 0
     whole-accepted = vertex-accepted t o v.at.a v.at.b v.at.m.0 v (own-looked t o v e) six low w room
@@ -129,5 +126,5 @@ module _ (t : List ℕ) (o : InOrder t) (v : Record) (e : look_up t v.at ≡ Hel
         let same : x.vertex ≡ v = sheet-same (sym x.looked ∙ own-looked t o v e) in
         subst (λ (u : Record). Step (sheet_of t) u (sheet_of (subdivide_of t v.at.a v.at.b v.at.m.0).bytes)) same x.step
       where
-        sheet-same : {x y : Record} → Held x ≡ Held y → x ≡ y
+        sheet-same : {x y : Record} → Some x ≡ Some y → x ≡ y
         sheet-same {x} {y} h = cc

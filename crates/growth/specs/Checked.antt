@@ -6,11 +6,11 @@
 -- `Sound` what a table's sheet has · `centres`, `counts_of` H and c · `kids` ·
 -- `closed_at` the sheet and the model agree (the rest of M3 is in specs/LocalGrown).
 -- Assumes nothing.
-use Rattle.std.specs.Prelude.{◌≡◌, ◌≢◌, Bool, ◌&&◌, eqb, ltb, leb}
+use Rattle.std.proofs.lemmas.Option.{none-some}
+use Rattle.std.specs.Prelude.{◌≡◌, ◌≢◌, Bool, ◌&&◌, eqb, ltb, leb, Option, Some, None}
 use Rattle.std.proofs.Math.Path.{refl, sym, ap, subst}
 use Rattle.std.proofs.Common.{◌∙◌, true≢false, eq-eqb, ne_eqb, ltb-true, ltb-false, lt-ltb, le-ltb}
 use Rattle.std.proofs.Math.Bool.{true, false, cond}
-use Rattle.std.proofs.Math.Option.{Option, none, some, none-ne-some}
 use Prim.Native.Nat.{ℕ, zero, suc, ◌+◌, ◌*◌, ◌%◌, ◌/◌, ◌-◌, ◌≤◌, ◌<◌}
 use native.Mathlib.Omega.{arith}
 use Rattle.std.proofs.Math.Decide.{ℕ_discrete}
@@ -45,7 +45,7 @@ use Rattle.growth.specs.Link as K
 
 -- what looking up in a table in order gives: valid records, each at its point
 abbrev pub Sound : Sheet → Type 0
-Sound R = (p : Point) (r : Record) → R p ≡ some r → (r.at ≡ p) × D.T (valid_of r)
+Sound R = (p : Point) (r : Record) → R p ≡ Some r → (r.at ≡ p) × D.T (valid_of r)
 
 -- "Degree 0 marks a boundary vertex; there k = n = 0."
 boundary : (r : Record) → D.T (valid_of r) → r.d ≡ 0 → (r.k ≡ 0) × (r.n.0 ≡ 0)
@@ -75,8 +75,8 @@ shallower p l = omega (arith, (rank_between p.at p.normal).0)
 -- ---- H and c
 -- the level of a vertex of degree 6, else 0
 abbrev pub level6 : Option Record → ℕ
-level6 none = 0
-level6 (some r) = cond (eqb r.d 6) r.n.0 0
+level6 None = 0
+level6 (Some r) = cond (eqb r.d 6) r.n.0 0
 
 unfoldable pub counts_of : Sheet → Counts
 counts_of R p = level6 (R p) - rank_of p
@@ -84,7 +84,7 @@ counts_of R p = level6 (R p) - rank_of p
 unfoldable pub centres : Sheet → Point → Bool
 centres R p = eqb p.m.0 0 && (eqb (class_of p) 0 && there R p)
 
-module _ (R : Sheet) (sound : Sound R) (local : (p : Point) (r : Record) → R p ≡ some r → Local R r) where
+module _ (R : Sheet) (sound : Sound R) (local : (p : Point) (r : Record) → R p ≡ Some r → Local R r) where
   abbrev H : Point → Bool
   H = centres R
 
@@ -92,11 +92,11 @@ module _ (R : Sheet) (sound : Sound R) (local : (p : Point) (r : Record) → R p
   c = at (counts_of R)
 
   -- the record of a point that is there, and what its test says of the point
-  pub found : (p : Point) → Here R p → (r : Record) × (R p ≡ some r) × (r.at ≡ p) × Local R r
+  pub found : (p : Point) → Here R p → (r : Record) × (R p ≡ Some r) × (r.at ≡ p) × Local R r
   found p h = let (r, e) = there-some R p h in (r, e, (sound p r e).0, local p r e)
 
   -- a direction of level n is a place of a star of degree 6 and level n
-  six-there : (p : Pt) (r : Record) (e : ℕ) → R p.at ≡ some r → r.d ≡ 6 → Dir e r.n.0 → Here R (move p e r.n.0).at
+  six-there : (p : Pt) (r : Record) (e : ℕ) → R p.at ≡ Some r → r.d ≡ 6 → Dir e r.n.0 → Here R (move p e r.n.0).at
   unfolding move
   six-there p r e x d dir =
       let s = sound p.at r x in
@@ -106,7 +106,7 @@ module _ (R : Sheet) (sound : Sound R) (local : (p : Point) (r : Record) → R p
       subst (Here R) (z ∙ ap (λ (q : Point). move_of q e r.n.0) s.0) (((local p.at r x).six d).1 (e / 2) l)
 
   -- ---- the stars of q at all levels from its rank to its level are there
-  down : (q : Pt) (r : Record) → R q.at ≡ some r → r.d ≡ 6 → (k i : ℕ) → i + k ≡ r.n.0 → rank q ≤ i → (g : ℕ) → Dir g i → Here R (move q g i).at
+  down : (q : Pt) (r : Record) → R q.at ≡ Some r → r.d ≡ 6 → (k i : ℕ) → i + k ≡ r.n.0 → rank q ≤ i → (g : ℕ) → Dir g i → Here R (move q g i).at
   down q r x d zero i e l g dg = let z : i ≡ r.n.0 = omega arith in subst (λ (n : ℕ). Here R (move q g n).at) (sym z) (six-there q r g x d (rw z at dg))
   down q r x d (suc k) i e l g dg = go (down q r x d k (suc i) (omega arith) (omega arith) a da)
     where
@@ -196,11 +196,11 @@ module _ (R : Sheet) (sound : Sound R) (local : (p : Point) (r : Record) → R p
       flag false n = le-ltb i (f + (0 - f)) (omega arith)
 
       go : (o : Option Record) → ltb i (f + (level6 o - f)) ≡ is_over i o
-      go none = le-ltb i (f + (0 - f)) (omega arith)
-      go (some u) = flag (eqb u.d 6) u.n.0
+      go None = le-ltb i (f + (0 - f)) (omega arith)
+      go (Some u) = flag (eqb u.d 6) u.n.0
 
   -- the level of a vertex of degree 6 is its rank and its count
-  level-is : (p : Pt) (r : Record) → R p.at ≡ some r → r.d ≡ 6 → rank p ≤ r.n.0 → rank p + c p ≡ r.n.0
+  level-is : (p : Pt) (r : Record) → R p.at ≡ Some r → r.d ≡ 6 → rank p ≤ r.n.0 → rank p + c p ≡ r.n.0
   unfolding counts_of rank
   level-is p r x d l =
       let e : level6 (R p.at) ≡ r.n.0 = ap level6 x ∙ ap (λ (b : Bool). cond b r.n.0 0) (eq-eqb r.d 6 d) in
@@ -208,7 +208,7 @@ module _ (R : Sheet) (sound : Sound R) (local : (p : Point) (r : Record) → R p
 
   module _ (p : Pt) where
     -- ---- what is there is present
-    here-ground : (r : Record) → R p.at ≡ some r → p.at.m.0 ≡ 0 → D.T (given_by H p.at)
+    here-ground : (r : Record) → R p.at ≡ Some r → p.at.m.0 ≡ 0 → D.T (given_by H p.at)
     here-ground r x m = go (ℕ_discrete (class_of p.at) 0)
       where
         s : r.at ≡ p.at
@@ -221,7 +221,7 @@ module _ (R : Sheet) (sound : Sound R) (local : (p : Point) (r : Record) → R p
             let (m', z') = hexagon-centre p.at m z t ht in
             any-in H p.at z t ht (there-centre (hexagon_round p.at t) m' z' (subst (λ (q : Point). Here R (hexagon_round q t)) s h))
 
-    here : (r : Record) (f : ℕ) → rank p ≡ f → R p.at ≡ some r → pres_at H c p f ≡ true
+    here : (r : Record) (f : ℕ) → rank p ≡ f → R p.at ≡ Some r → pres_at H c p f ≡ true
     unfolding pres_at rank
     here r zero f x = is_true (given_by H p.at) (here-ground r x (shallower p (omega arith)))
     here r (suc zero) f x = is_true (given_by H p.at) (here-ground r x (shallower p (omega arith)))
@@ -252,7 +252,7 @@ module _ (R : Sheet) (sound : Sound R) (local : (p : Point) (r : Record) → R p
     gone (suc (suc i)) f h = kids p i f (of-true (sym (T-over (creator_of p i) i (creator-rank p i f)) ∙ h))
 
     -- ---- internal: of a degree that is not 0
-    inside-ground : (r : Record) → R p.at ≡ some r → p.at.m.0 ≡ 0 → (D.T (inside_base H p.at) → r.d ≢ 0) × (r.d ≢ 0 → D.T (inside_base H p.at))
+    inside-ground : (r : Record) → R p.at ≡ Some r → p.at.m.0 ≡ 0 → (D.T (inside_base H p.at) → r.d ≢ 0) × (r.d ≢ 0 → D.T (inside_base H p.at))
     inside-ground r x m = go (ℕ_discrete (class_of p.at) 0)
       where
         s : r.at ≡ p.at
@@ -276,7 +276,7 @@ module _ (R : Sheet) (sound : Sound R) (local : (p : Point) (r : Record) → R p
                   (subst (λ (q : Point). Here R (hexagon_round q t)) s (f n t ht))),
             )
 
-    inside : (r : Record) (f : ℕ) → rank p ≡ f → R p.at ≡ some r → (int_at H p f ≡ true → r.d ≢ 0) × (r.d ≢ 0 → int_at H p f ≡ true)
+    inside : (r : Record) (f : ℕ) → rank p ≡ f → R p.at ≡ Some r → (int_at H p f ≡ true → r.d ≢ 0) × (r.d ≢ 0 → int_at H p f ≡ true)
     unfolding int_at
     inside r zero f x = let (a, b) = inside-ground r x (shallower p (omega arith)) in ((λ e. a (of-true e)), λ n. is_true (inside_base H p.at) (b n))
     inside r (suc zero) f x = let (a, b) = inside-ground r x (shallower p (omega arith)) in ((λ e. a (of-true e)), λ n. is_true (inside_base H p.at) (b n))
@@ -315,11 +315,11 @@ module _ (R : Sheet) (sound : Sound R) (local : (p : Point) (r : Record) → R p
     unfolding star_at
     star-zero = refl
 
-    rank-low : (r : Record) → R p.at ≡ some r → r.d ≡ 6 → rank p ≤ r.n.0
+    rank-low : (r : Record) → R p.at ≡ Some r → r.d ≡ 6 → rank p ≤ r.n.0
     unfolding rank
     rank-low r x d = subst (λ (q : Point). rank_of q ≤ r.n.0) (sound p.at r x).0 ((local p.at r x).six d).0
 
-    star-is : (r : Record) (f : ℕ) → rank p ≡ f → R p.at ≡ some r → r.d ≢ 0 → star_at c p f ≡ r
+    star-is : (r : Record) (f : ℕ) → rank p ≡ f → R p.at ≡ Some r → r.d ≢ 0 → star_at c p f ≡ r
     star-is r zero f x n =
         let s = (sound p.at r x).0 in
         let e = (local p.at r x).star n ∙ expected-zero r s f in
@@ -338,7 +338,7 @@ module _ (R : Sheet) (sound : Sound R) (local : (p : Point) (r : Record) → R p
             (birth_of p.at) (rank_of p.at - 1) r.n.0 (rank p + c p) (λ z. d (ap (λ (w : Record). w.d) e ∙ z))) ∙ sym e
 
     -- a boundary vertex has no more to it
-    edge : (r : Record) → R p.at ≡ some r → r.d ≡ 0 → r ≡ vertex p.at 0 0 0
+    edge : (r : Record) → R p.at ≡ Some r → r.d ≡ 0 → r ≡ vertex p.at 0 0 0
     edge r x d =
         let (s, v) = sound p.at r x in
         let (k, n) = boundary r v d in
@@ -351,19 +351,19 @@ module _ (R : Sheet) (sound : Sound R) (local : (p : Point) (r : Record) → R p
         at-rank : rec H c p ≡ look (pres_at H c p (rank p)) (int_at H p (rank p)) p.at (star_at c p (rank p))
         at-rank = rec-at H c p (rank p) refl
 
-        inner-edge : (r : Record) → R p.at ≡ some r → Dec (r.d ≡ 0) → (b : Bool) → int_at H p (rank p) ≡ b
-            → some r ≡ look true b p.at (star_at c p (rank p))
+        inner-edge : (r : Record) → R p.at ≡ Some r → Dec (r.d ≡ 0) → (b : Bool) → int_at H p (rank p) ≡ b
+            → Some r ≡ look true b p.at (star_at c p (rank p))
         inner-edge r x (yes d) true e = absurd ((inside r (rank p) refl x).0 e d)
-        inner-edge r x (yes d) false e = unfold look in ap some (edge r x d)
-        inner-edge r x (no d) true e = unfold look in ap some (sym (star-is r (rank p) refl x d))
+        inner-edge r x (yes d) false e = unfold look in ap Some (edge r x d)
+        inner-edge r x (no d) true e = unfold look in ap Some (sym (star-is r (rank p) refl x d))
         inner-edge r x (no d) false e = absurd (true≢false (sym ((inside r (rank p) refl x).1 d) ∙ e))
 
-        no_record : (b : Bool) → pres_at H c p (rank p) ≡ b → R p.at ≡ none → none ≡ look b (int_at H p (rank p)) p.at (star_at c p (rank p))
-        no_record true e x = let (r, y) = there-some R p.at (gone (rank p) refl e) in absurd (none-ne-some r (sym x ∙ y))
+        no_record : (b : Bool) → pres_at H c p (rank p) ≡ b → R p.at ≡ None → None ≡ look b (int_at H p (rank p)) p.at (star_at c p (rank p))
+        no_record true e x = let (r, y) = there-some R p.at (gone (rank p) refl e) in absurd (none-some r (sym x ∙ y))
         no_record false e x = unfold look in refl
 
         go : (o : Option Record) → R p.at ≡ o → R p.at ≡ rec H c p
-        go (some r) x =
+        go (Some r) x =
             x ∙ inner-edge r x (ℕ_discrete r.d 0) (int_at H p (rank p)) refl
             ∙ ap (λ (a : Bool). look a (int_at H p (rank p)) p.at (star_at c p (rank p))) (sym (here r (rank p) refl x)) ∙ sym at-rank
-        go none x = x ∙ no_record (pres_at H c p (rank p)) refl x ∙ sym at-rank
+        go None x = x ∙ no_record (pres_at H c p (rank p)) refl x ∙ sym at-rank

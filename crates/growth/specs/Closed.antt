@@ -3,11 +3,10 @@
 -- `Good` the counts there are ·
 -- `T-..` laws of T · `full-..` of degree 6 · `rec-at`, `rec-look` opening a record.
 -- Assumes nothing.
-use Rattle.std.specs.Prelude.{◌≡◌, ◌≢◌, Bool, true, false, ◌&&◌, ltb}
+use Rattle.std.specs.Prelude.{◌≡◌, ◌≢◌, Bool, true, false, ◌&&◌, ltb, Option, Some, None}
 use Rattle.std.proofs.Math.Path.{refl}
 use Rattle.std.proofs.Common.{sym, true≢false}
 use Rattle.std.proofs.Math.Bool.{cond}
-use Rattle.std.proofs.Math.Option.{Option, none, some}
 use Prim.Native.Nat.{ℕ, zero, suc, ◌+◌, ◌%◌, ◌≤◌, ◌<◌}
 use native.Mathlib.Omega.{arith}
 use borrow.Author.Tests.{ltb-true, ltb-false, lt-ltb, le-ltb}
@@ -20,9 +19,9 @@ use Rattle.growth.specs.Parents.{par, creator_of}
 
 -- present or not, internal or not
 unfoldable pub look : Bool → Bool → Point → Record → Option Record
-look false i p r = none
-look true false p r = some (vertex p 0 0 0)
-look true true p r = some r
+look false i p r = None
+look true false p r = Some (vertex p 0 0 0)
+look true true p r = Some r
 
 -- q was subdivided at level i
 unfoldable pub T : (Pt → ℕ) → Pt → ℕ → Bool
@@ -159,6 +158,6 @@ module _ (H : Point → Bool) where
   unfolding rec
   rec-at c p f e = rw e
 
-  pub rec-look : (c : Pt → ℕ) (p : Pt) (r : Record) → pres_at c p (rank p) ≡ true → int_at p (rank p) ≡ true → star_at c p (rank p) ≡ r → rec c p ≡ some r
+  pub rec-look : (c : Pt → ℕ) (p : Pt) (r : Record) → pres_at c p (rank p) ≡ true → int_at p (rank p) ≡ true → star_at c p (rank p) ≡ r → rec c p ≡ Some r
   unfolding rec look
   rec-look c p r a b s = rw (a, b, s)

@@ -2,11 +2,10 @@
 -- `base-is` the base is the mesh of no subdivision · `step-unique` a subdivision has one result · `Closed` to be the mesh of some H and c ·
 -- `grown-closed`, `closed-grown` M2.
 -- Assumes nothing.
-use Rattle.std.specs.Prelude.{◌≡◌, ◌≢◌, ◌⊎◌, Bool, true, ◌&&◌, length, T, eqb}
+use Rattle.std.specs.Prelude.{◌≡◌, ◌≢◌, ◌⊎◌, Bool, true, ◌&&◌, length, T, eqb, Some, None}
 use Rattle.std.proofs.Math.Path.{refl, ap, fun_ext}
 use Rattle.std.proofs.Common.{sym, ◌∙◌, subst, inl, inr, true≢false, arith}
 use Rattle.std.proofs.Math.Bool.{false, cond}
-use Rattle.std.proofs.Math.Option.{none, some}
 use mathlib.Core.List.Memᴰ
 use mathlib.Core.List.{List, [], ◌∷◌, Memᴰ}
 use Prim.Native.Nat.{ℕ, zero, suc, ◌+◌, ◌%◌, ◌≤◌, ◌<◌}
@@ -62,13 +61,13 @@ module _ (H : Point → Bool) where
   abbrev star : Point → Record
   star p = cond (eqb (class_of p) 0) (vertex p 3 0 0) (cond (eqb (class_of p) 1) (vertex p 6 0 0) (vertex p 3 2 0))
 
-  base_there : (p : Point) → eqb p.m.0 0 ≡ true → base_sheet H p ≡ cond (given_by H p) (some (cond (inside_base H p) (star p) (vertex p 0 0 0))) none
+  base_there : (p : Point) → eqb p.m.0 0 ≡ true → base_sheet H p ≡ cond (given_by H p) (Some (cond (inside_base H p) (star p) (vertex p 0 0 0))) None
   unfolding base_sheet
-  base_there p e = ap (λ (b : Bool). cond (b && given_by H p) (some (base_vertex H p)) none) e
+  base_there p e = ap (λ (b : Bool). cond (b && given_by H p) (Some (base_vertex H p)) None) e
 
-  base-none : (p : Point) → eqb p.m.0 0 ≡ false → base_sheet H p ≡ none
+  base-none : (p : Point) → eqb p.m.0 0 ≡ false → base_sheet H p ≡ None
   unfolding base_sheet
-  base-none p e = ap (λ (b : Bool). cond (b && given_by H p) (some (base_vertex H p)) none) e
+  base-none p e = ap (λ (b : Bool). cond (b && given_by H p) (Some (base_vertex H p)) None) e
 
   star-zero : (p : Pt) → rank p ≡ 0 → star_at nought p 0 ≡ star p.at
   unfolding star_at
@@ -161,7 +160,7 @@ grown-closed R (grow R₀ v R₁ g x d n w s) = go (grown-closed R₀ g)
               (subst (λ (R : Sheet). Step R v (mesh_of C.H (more v.at C.c))) (sym (fun_ext C.is)) (closed-step C.H C.c C.good v x' d));
         }
       where
-        x' : mesh_of C.H C.c v.at ≡ some v
+        x' : mesh_of C.H C.c v.at ≡ Some v
         x' = sym (C.is v.at) ∙ x
 
         level : v.n.0 ≡ rank_of v.at + C.c v.at
@@ -215,7 +214,7 @@ module _ (H : Point → Bool) (b : CentreSet H) where
   seq-grown l nil = start H (mesh_of H (λ _. 0)) b (base-is H)
   seq-grown l (next {l = k} q s f n) =
       let v : Record = vertex q.at 6 ((rank q + cnt k q) % 2) (rank q + cnt k q) in
-      let x : mesh_of H (counts k) q.at ≡ some v = record_is (counts k) H q ∙ ap (λ (c : Pt → ℕ). rec H c q) (counts-is k) ∙ One.rec-full H (cnt k) q f in
+      let x : mesh_of H (counts k) q.at ≡ Some v = record_is (counts k) H q ∙ ap (λ (c : Pt → ℕ). rec H c q) (counts-is k) ∙ One.rec-full H (cnt k) q f in
       let good = good-out H k (O.seq-good H k s) in
       grow (mesh_of H (counts k)) v (mesh_of H (more q.at (counts k))) (seq-grown k s) x refl n (closed-whole H (counts k) good v x refl)
       (closed-step H (counts k) good v x refl)

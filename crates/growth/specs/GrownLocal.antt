@@ -3,11 +3,10 @@
 -- creator is and the two others are adjacents of the creator at a level that it has had (`parents-there`).
 -- `there-is`, `over-is` · `parents-there` · `closed-local` M3.
 -- Assumes nothing.
-use Rattle.std.specs.Prelude.{◌≡◌, ◌≢◌, Bool, false, ◌&&◌, eqb}
+use Rattle.std.specs.Prelude.{◌≡◌, ◌≢◌, Bool, false, ◌&&◌, eqb, Some, None}
 use Rattle.std.proofs.Math.Path.{refl, sym, ap, subst}
 use Rattle.std.proofs.Common.{◌∙◌, eq-eqb}
 use Rattle.std.proofs.Math.Bool.{true, cond}
-use Rattle.std.proofs.Math.Option.{none, some}
 use Prim.Native.Nat.{ℕ, zero, suc, ◌+◌, ◌*◌, ◌%◌, ◌-◌, ◌≤◌, ◌<◌}
 use native.Mathlib.Omega.{arith}
 use Rattle.std.proofs.Math.Decide.{ℕ_discrete}
@@ -110,7 +109,7 @@ module _ (H : Point → Bool) (c : Counts) (good : M.Good H c) where
     unfolding mesh_of present_of internal_of
     ground-is =
         (λ i. cond (flag (given_by H p) (is_normal p && subdivided c (L.creator_of p) (rank_of p - 2)) i)
-        (some (cond (flag (inside_base H p) true i) star (vertex p 0 0 0))) none)
+        (Some (cond (flag (inside_base H p) true i) star (vertex p 0 0 0))) None)
         ∙ sym (K.look_is c H (given_by H p) (inside_base H p) p star)
       where
         flag : (x y : Bool) → cond (eqb p.m.0 0) x y ≡ x
@@ -122,7 +121,7 @@ module _ (H : Point → Bool) (c : Counts) (good : M.Good H c) where
     ground-in : Here R p → D.T (given_by H p)
     ground-in h = let (r, x) = there-some R p h in of-true (look-inv (given_by H p) (inside_base H p) p star r (sym ground-is ∙ x)).0
 
-    ground-inside : (r : Record) → R p ≡ some r → (D.T (inside_base H p) → r.d ≢ 0) × (r.d ≢ 0 → D.T (inside_base H p))
+    ground-inside : (r : Record) → R p ≡ Some r → (D.T (inside_base H p) → r.d ≢ 0) × (r.d ≢ 0 → D.T (inside_base H p))
     ground-inside r x =
         let y = sym ground-is ∙ x in (
           (λ h d. star-some p (rank_of p - 1) (rank_of p + c p)
@@ -137,7 +136,7 @@ module _ (H : Point → Bool) (c : Counts) (good : M.Good H c) where
   there-hexagon : (p : Point) → p.m.0 ≡ 0 → class_of p ≢ 0 → (t : ℕ) → t < 3 → Here R (hexagon_round p t) → D.T (H (hexagon_round p t))
   there-hexagon p m z t h k = let (m', z') = hexagon-centre p m z t h in subst D.T (centre-in H (hexagon_round p t) z') (ground-in (hexagon_round p t) m' k)
 
-  local-centre : (p : Point) (r : Record) → R p ≡ some r → p.m.0 ≡ 0 → class_of p ≡ 0 → (r.d ≢ 0) × ((j : ℕ) → j < 6 → Here R (move_of p (2 * j) 0))
+  local-centre : (p : Point) (r : Record) → R p ≡ Some r → p.m.0 ≡ 0 → class_of p ≡ 0 → (r.d ≢ 0) × ((j : ℕ) → j < 6 → Here R (move_of p (2 * j) 0))
   local-centre p r x m z =
       let k : D.T (H p) = subst D.T (centre-in H p z) (ground-in p m (some-there R p r x)) in (
         (ground-inside p m r x).0 (subst D.T (sym (centre-inside H p z)) k),
@@ -146,7 +145,7 @@ module _ (H : Point → Bool) (c : Counts) (good : M.Good H c) where
             (any-in H (move_of p (2 * j) 0) (corner-not p m z j h) t ht (subst (λ (q : Point). D.T (H q)) (sym e) k))),
       )
 
-  local-corner : (p : Point) (r : Record) → R p ≡ some r → p.m.0 ≡ 0 → class_of p ≢ 0
+  local-corner : (p : Point) (r : Record) → R p ≡ Some r → p.m.0 ≡ 0 → class_of p ≢ 0
       → ((t : ℕ) × (t < 3) × Here R (hexagon_round p t)) × (r.d ≢ 0 → (t : ℕ) → t < 3 → Here R (hexagon_round p t))
       × (((t : ℕ) → t < 3 → Here R (hexagon_round p t)) → r.d ≢ 0)
   local-corner p r x m z =
@@ -163,7 +162,7 @@ module _ (H : Point → Bool) (c : Counts) (good : M.Good H c) where
   star-at p zero e = omega arith
   star-at p (suc b) e = splits-some p.at (T (at c) (par p 0 b) b) (T (at c) (par p 1 b) b) (T (at c) (par p 2 b) b) (birth p) b (rank p + c p.at) e
 
-  local-deep : (p : Pt) (r : Record) (i : ℕ) → R p.at ≡ some r → rank p ≡ suc (suc i)
+  local-deep : (p : Pt) (r : Record) (i : ℕ) → R p.at ≡ Some r → rank p ≡ suc (suc i)
       → (r.d ≢ 0) × ((t : ℕ) → t < 3 → Here R (parent_of p.at t)) × D.T (over R (L.creator_of p.at) (rank_of p.at - 2))
   unfolding pres_at int_at rank
   local-deep p r i x f =
@@ -181,7 +180,7 @@ module _ (H : Point → Bool) (c : Counts) (good : M.Good H c) where
   par-over p t b ht f = let e : b ≡ rank_of p.at - 1 = omega arith in
       sym (over-is (par p t b) b (par-rank p t b ht f)) ∙ (λ j. over R (par-is p t b f j) (e j))
 
-  local-star : (p : Pt) (r : Record) (f : ℕ) → rank p ≡ f → R p.at ≡ some r → r.d ≢ 0
+  local-star : (p : Pt) (r : Record) (f : ℕ) → rank p ≡ f → R p.at ≡ Some r → r.d ≢ 0
       → r ≡ cond (eqb (rank_of p.at) 0) (vertex p.at 6 (r.n.0 % 2) r.n.0) (said_by R p.at r.n.0)
   unfolding rank birth star_at
   local-star p r zero f x n =
@@ -210,7 +209,7 @@ module _ (H : Point → Bool) (c : Counts) (good : M.Good H c) where
           (birth_of p.at) (rank_of p.at - 1) (rank_of p.at + c p.at) r.n.0 (λ z. d (ap (λ (w : Record). w.d) e ∙ z))
 
   -- ---- the whole test
-  pub closed-local : (r : Record) → R r.at ≡ some r → Local R r
+  pub closed-local : (r : Record) → R r.at ≡ Some r → Local R r
   unfolding rank expected
   closed-local r x =
       let p : Pt = record { at = r.at; normal = record-normal H c r.at r x } in

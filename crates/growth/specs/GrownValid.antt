@@ -2,11 +2,11 @@
 -- what has grown, and no new record is out of range.
 -- Why: the corners of a centre within 250 are within 251, and a subdivision makes valid records (the lattice's SubdivisionLaws).
 -- Assumes nothing.
-use Rattle.std.specs.Prelude.{◌≡◌, Bool, ◌&&◌, ℕ, ◌*◌, ◌^◌, ◌≤◌, ◌<◌, eqb, leb, ◌+ℤ◌, nat_abs}
+use Rattle.std.proofs.lemmas.Option.{none-some, same_Some}
+use Rattle.std.specs.Prelude.{◌≡◌, Bool, ◌&&◌, ℕ, ◌*◌, ◌^◌, ◌≤◌, ◌<◌, eqb, leb, ◌+ℤ◌, nat_abs, Some, None}
 use Rattle.std.proofs.Math.Path.{refl, ap, subst}
 use Rattle.std.proofs.Common.{sym, ◌∙◌, arith, leb→le, eq-eqb}
 use Rattle.std.proofs.Math.Bool.{true, false, cond}
-use Rattle.std.proofs.Math.Option.{none, some, none-ne-some, some-injective}
 use Rattle.std.proofs.Math.Decide.{ℕ_discrete}
 use Rattle.std.proofs.Math.Dec.{T, eqb→eq}
 use Rattle.laws.specs.Bools.{and_left, and_right, and_both}
@@ -87,16 +87,16 @@ module _ (H : Point → Bool) (b : CentreSet H) where
   unfolding base_sheet
   base-sound p r x = go (eqb p.m.0 0 && given_by H p) refl x
     where
-      go : (t : Bool) → (eqb p.m.0 0 && given_by H p) ≡ t → cond t (some (base_vertex H p)) none ≡ some r → (r.at ≡ p) × T (valid_of r)
-      go false e y = absurd (none-ne-some r y)
+      go : (t : Bool) → (eqb p.m.0 0 && given_by H p) ≡ t → cond t (Some (base_vertex H p)) None ≡ Some r → (r.at ≡ p) × T (valid_of r)
+      go false e y = absurd (none-some r y)
       go true e y =
-          let z : base_vertex H p ≡ r = some-injective (base_vertex H p) r y in
+          let z : base_vertex H p ≡ r = same_Some (base_vertex H p) r y in
           let (a, s) = base-vertex p in
           let m = eqb→eq p.m.0 0 (and_left (eqb p.m.0 0) (given_by H p) (of-true e)) in
           let g = base-sited p m (and_right (eqb p.m.0 0) (given_by H p) (of-true e)) in
           (ap (λ (w : Record). w.at) (sym z) ∙ a, subst (λ (w : Record). T (valid_of w)) z (valid-made (base_vertex H p) (subst Sited (sym a) g) s))
 
-  pub base-some : (p : Point) × ((r : Record) × (base_sheet H p ≡ some r))
+  pub base-some : (p : Point) × ((r : Record) × (base_sheet H p ≡ Some r))
   unfolding base_sheet
   base-some =
       let (p, h) = b.some-centre in
@@ -104,13 +104,13 @@ module _ (H : Point → Bool) (b : CentreSet H) where
         p,
         (
           base_vertex H p,
-          ap (λ (t : Bool). cond t (some (base_vertex H p)) none) (is_true (eqb p.m.0 0 && given_by H p)
+          ap (λ (t : Bool). cond t (Some (base_vertex H p)) None) (is_true (eqb p.m.0 0 && given_by H p)
               (and_both (eqb p.m.0 0) (given_by H p) (of-true (eq-eqb p.m.0 0 m)) (subst T (sym (centre-in H p z)) h))),
         ),
       )
 
 -- ---- a subdivision
-module _ (R R' : Sheet) (v : Record) (sound : Sound R) (x : R v.at ≡ some v) (six : v.d ≡ 6) (below : v.n.0 < 12) (w : UntornAt R v)
+module _ (R R' : Sheet) (v : Record) (sound : Sound R) (x : R v.at ≡ Some v) (six : v.d ≡ 6) (below : v.n.0 < 12) (w : UntornAt R v)
     (s : Step R v R') where
   valid : T (valid_of v)
   valid = (sound v.at v x).1
@@ -122,8 +122,8 @@ module _ (R R' : Sheet) (v : Record) (sound : Sound R) (x : R v.at ≡ some v) (
   step-sound p r y = go (point? p v.at) (among (λ j. (new_of v j).at) p 6) (among (adjacent_at v) p 6)
     where
       -- what is there is the record z
-      is : (z : Record) → R' p ≡ some z → z.at ≡ p → T (valid_of z) → (r.at ≡ p) × T (valid_of r)
-      is z e a t = let f : z ≡ r = some-injective z r (sym e ∙ y) in (ap (λ (q : Record). q.at) (sym f) ∙ a, subst (λ (q : Record). T (valid_of q)) f t)
+      is : (z : Record) → R' p ≡ Some z → z.at ≡ p → T (valid_of z) → (r.at ≡ p) × T (valid_of r)
+      is z e a t = let f : z ≡ r = same_Some z r (sym e ∙ y) in (ap (λ (q : Record). q.at) (sym f) ∙ a, subst (λ (q : Record). T (valid_of q)) f t)
 
       go : Dec (p ≡ v.at) → Dec ((j : ℕ) × (j < 6) × (p ≡ (new_of v j).at)) → Dec ((j : ℕ) × (j < 6) × (p ≡ adjacent_at v j)) → (r.at ≡ p) × T (valid_of r)
       go (yes e) b c = is (centre_of v) (ap R' e ∙ s.centre) (sym e) (centre-valid v valid six below)
@@ -139,6 +139,6 @@ pub grown-sound : (R : Sheet) → GrownSheet R → Sound R
 grown-sound R (start H R' b e) = λ p r x. base-sound H b p r (sym (e p) ∙ x)
 grown-sound R (grow R₀ v R₁ g x d n w s) = step-sound R₀ R₁ v (grown-sound R₀ g) x d n w s
 
-pub grown-some : (R : Sheet) → GrownSheet R → (p : Point) × ((r : Record) × (R p ≡ some r))
+pub grown-some : (R : Sheet) → GrownSheet R → (p : Point) × ((r : Record) × (R p ≡ Some r))
 grown-some R (start H R' b e) = let (p, (r, x)) = base-some H b in (p, (r, e p ∙ x))
 grown-some R (grow R₀ v R₁ g x d n w s) = (v.at, (centre_of v, s.centre))

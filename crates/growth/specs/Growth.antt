@@ -7,10 +7,9 @@
 --   M4  `grown-adjacent`                         what a reduced file leaves out is restored
 --   and `step-unique`, `grown-valid`, `grown-some`, `grown-alike`, `grown-whole`, `grown-neighbours`, `order-free`.
 -- Assumes nothing.
-use Rattle.std.specs.Prelude.{◌≡◌, refl, ◌≢◌, ◌⊎◌, Bool, true, false, ◌&&◌, ℕ, ◌+◌, ◌*◌, ◌%◌, ◌<◌, T}
+use Rattle.std.specs.Prelude.{◌≡◌, refl, ◌≢◌, ◌⊎◌, Bool, true, false, ◌&&◌, ℕ, ◌+◌, ◌*◌, ◌%◌, ◌<◌, T, Option, Some}
 use Rattle.std.proofs.Common.{sym, ◌∙◌, ap, subst, inl, inr, arith}
 use Rattle.std.proofs.Math.Path.{fun_ext}
-use Rattle.std.proofs.Math.Option.{Option, some}
 use mathlib.Core.List.Memᴰ
 use mathlib.Core.List.{List, [], ◌∷◌, Memᴰ}
 use Rattle.laws.specs.Bools.{and_left, and_right, and_both}
@@ -32,7 +31,7 @@ use Rattle.growth.specs.GrownLaws as Laws
 use Rattle.growth.specs.GrownValid as Valid
 
 -- ---- M1: in the mesh of H and c a subdivision is not torn, and gives the mesh with one more; the counts stay good
-pub grow-step : (H : Point → Bool) (c : Counts) (v : Record) → Good H c → mesh_of H c v.at ≡ some v → v.d ≡ 6
+pub grow-step : (H : Point → Bool) (c : Counts) (v : Record) → Good H c → mesh_of H c v.at ≡ Some v → v.d ≡ 6
     → UntornAt (mesh_of H c) v × Step (mesh_of H c) v (mesh_of H (more v.at c)) × Good H (more v.at c)
 grow-step H c v good x d = (closed-whole H c good v x d, closed-step H c good v x d, closed-good H c good v x d)
 
@@ -51,7 +50,7 @@ closed-grown = Laws.closed-grown
 pub grown-valid : (R : Sheet) → GrownSheet R → Sound R
 grown-valid = Valid.grown-sound
 
-pub grown-some : (R : Sheet) → GrownSheet R → (p : Point) × ((r : Record) × (R p ≡ some r))
+pub grown-some : (R : Sheet) → GrownSheet R → (p : Point) × ((r : Record) × (R p ≡ Some r))
 grown-some = Valid.grown-some
 
 -- two sheets that answer alike are grown alike
@@ -59,21 +58,21 @@ pub grown-alike : (R R' : Sheet) → ((p : Point) → R p ≡ R' p) → GrownShe
 grown-alike R R' e g = subst GrownSheet (fun_ext e) g
 
 -- ---- M3: grown is that every record passes the local test
-pub grown-passes : (R : Sheet) → GrownSheet R → (p : Point) (r : Record) → R p ≡ some r → T (local_test R r)
+pub grown-passes : (R : Sheet) → GrownSheet R → (p : Point) (r : Record) → R p ≡ Some r → T (local_test R r)
 grown-passes R g p r x =
     let m = grown-closed R g in
     let e : R ≡ mesh_of m.H m.c = fun_ext m.is in
-    let y : R r.at ≡ some r = ap R (grown-valid R g p r x).0 ∙ x in
+    let y : R r.at ≡ Some r = ap R (grown-valid R g p r x).0 ∙ x in
     local-tested R r (subst (λ (S : Sheet). Local S r) (sym e) (closed-local m.H m.c m.good r (sym (m.is r.at) ∙ y)))
 
-pub passes-grown : (R : Sheet) → Sound R → Bounded R → (p : Point) (r : Record) → R p ≡ some r
-    → ((p : Point) (r : Record) → R p ≡ some r → T (local_test R r)) → GrownSheet R
+pub passes-grown : (R : Sheet) → Sound R → Bounded R → (p : Point) (r : Record) → R p ≡ Some r
+    → ((p : Point) (r : Record) → R p ≡ Some r → T (local_test R r)) → GrownSheet R
 passes-grown R sound bounded p r x all = closed-grown R (checked-closed R sound (λ p r x. tested R r (all p r x)) bounded p r x)
 
 -- ---- the same, of a sheet that is given by a list of valid records, no point twice
 pub record Listed (R : Sheet) (rs : List Record) : Type 0 where
-  pub holds : (r : Record) → Memᴰ r rs → R r.at ≡ some r
-  pub held : (p : Point) (r : Record) → R p ≡ some r → (r.at ≡ p) × Memᴰ r rs
+  pub holds : (r : Record) → Memᴰ r rs → R r.at ≡ Some r
+  pub held : (p : Point) (r : Record) → R p ≡ Some r → (r.at ≡ p) × Memᴰ r rs
   pub valid : (r : Record) → Memᴰ r rs → T (valid_of r)
 
 -- each of them passes
@@ -140,28 +139,28 @@ module _ (R : Sheet) (g : GrownSheet R) where
   at-mesh p o x = sym (mesh.is p) ∙ x
 
   -- no subdivision is torn
-  pub grown-whole : (v : Record) → R v.at ≡ some v → v.d ≡ 6 → UntornAt R v
+  pub grown-whole : (v : Record) → R v.at ≡ Some v → v.d ≡ 6 → UntornAt R v
   grown-whole v x d = subst (λ (S : Sheet). UntornAt S v) (sym (fun_ext mesh.is))
-      (closed-whole mesh.H mesh.c mesh.good v (at-mesh v.at (some v) x) d)
+      (closed-whole mesh.H mesh.c mesh.good v (at-mesh v.at (Some v) x) d)
 
   -- M4: every adjacent of a vertex of degree 6 is there, and one of degree 3 "as d 3, level n, orientation (6+2j+k) mod 4"
-  pub grown-adjacent : (v : Record) → R v.at ≡ some v → v.d ≡ 6 → (j : ℕ) → j < 6
-      → (u : Record) × (R (adjacent_at v j) ≡ some u) × (u.d ≡ 3 → u ≡ vertex (adjacent_at v j) 3 ((6 + 2 * j + v.k) % 4) v.n.0)
+  pub grown-adjacent : (v : Record) → R v.at ≡ Some v → v.d ≡ 6 → (j : ℕ) → j < 6
+      → (u : Record) × (R (adjacent_at v j) ≡ Some u) × (u.d ≡ 3 → u ≡ vertex (adjacent_at v j) 3 ((6 + 2 * j + v.k) % 4) v.n.0)
   grown-adjacent v x d j h =
-      let (u, y, f) = closed-adjacent mesh.H mesh.c mesh.good v (at-mesh v.at (some v) x) d j h in
+      let (u, y, f) = closed-adjacent mesh.H mesh.c mesh.good v (at-mesh v.at (Some v) x) d j h in
       (u, mesh.is (adjacent_at v j) ∙ y, f)
 
   -- no neighbour query is torn
-  pub grown-neighbours : (r : Record) → R r.at ≡ some r → r.d ≢ 0 → (j : ℕ) → j < r.d → (u : Record) × (R (adjacent_at r j) ≡ some u)
+  pub grown-neighbours : (r : Record) → R r.at ≡ Some r → r.d ≢ 0 → (j : ℕ) → j < r.d → (u : Record) × (R (adjacent_at r j) ≡ Some u)
   grown-neighbours r x n j h =
-      let t = closed-neighbours mesh.H mesh.c mesh.good r (at-mesh r.at (some r) x) (grown-valid R g r.at r x).1 n j h in
+      let t = closed-neighbours mesh.H mesh.c mesh.good r (at-mesh r.at (Some r) x) (grown-valid R g r.at r x).1 n j h in
       let (u, y) = there-some (mesh_of mesh.H mesh.c) (adjacent_at r j) t in
       (u, mesh.is (adjacent_at r j) ∙ y)
 
 -- ---- the order of two subdivisions does not matter
 -- v is subdivided, and R' is the result
 pub record Made (R : Sheet) (v : Record) (R' : Sheet) : Type 0 where
-  pub held : R v.at ≡ some v
+  pub held : R v.at ≡ Some v
   pub six : v.d ≡ 6
   pub step : Step R v R'
 

@@ -2,11 +2,10 @@
 -- there is no record.
 -- `record_is`, `full_is`, `record-none` · `good-in` counts that are good, in the closed form · `more-is` one more subdivision.
 -- Assumes nothing.
-use Rattle.std.specs.Prelude.{◌≡◌, ◌&&◌, ltb}
+use Rattle.std.specs.Prelude.{◌≡◌, ◌&&◌, ltb, Some, None}
 use Rattle.std.proofs.Math.Path.{refl, sym, ap}
 use Rattle.std.proofs.Common.{◌∙◌, true≢false}
 use Rattle.std.proofs.Math.Bool.{Bool, true, false, cond}
-use Rattle.std.proofs.Math.Option.{none, some}
 use Prim.Native.Nat.{ℕ, zero, suc, ◌+◌, ◌*◌, ◌-◌, ◌≤◌}
 use native.Mathlib.Omega.{arith}
 use Rattle.std.proofs.Math.Dec.{eqb}
@@ -98,7 +97,7 @@ module _ (c : Counts) where
     int_is p (suc zero) f = rw (shallow p (omega arith))
     int_is p (suc (suc i)) f = rw (deep p i f)
 
-    pub look_is : (a i : Bool) (p : Point) (r : Record) → look a i p r ≡ cond a (some (cond i r (vertex p 0 0 0))) none
+    pub look_is : (a i : Bool) (p : Point) (r : Record) → look a i p r ≡ cond a (Some (cond i r (vertex p 0 0 0))) None
     unfolding look
     look_is false i p r = refl
     look_is true false p r = refl
@@ -110,10 +109,10 @@ module _ (c : Counts) where
         sym (rec-at H (at c) p (rank p) refl ∙ (λ j. look (pres-is p (rank p) refl j) (int_is p (rank p) refl j) p.at (star-is p (rank p) refl j))
         ∙ look_is (present_of H c p.at) (internal_of H p.at) p.at (star_record c p.at (rank_of p.at - 1) (rank_of p.at + c p.at)))
 
-    pub record-none : (p : Point) → is_normal p ≡ false → mesh_of H c p ≡ none
+    pub record-none : (p : Point) → is_normal p ≡ false → mesh_of H c p ≡ None
     unfolding mesh_of present_of
     record-none p e =
-        ap (λ (b : Bool). cond b (some (cond (internal_of H p) (star_record c p (rank_of p - 1) (rank_of p + c p)) (vertex p 0 0 0))) none)
+        ap (λ (b : Bool). cond b (Some (cond (internal_of H p) (star_record c p (rank_of p - 1) (rank_of p + c p)) (vertex p 0 0 0))) None)
         (gone (eqb p.m.0 0) refl)
       where
         gone : (b : Bool) → eqb p.m.0 0 ≡ b → present_of H c p ≡ false

@@ -2,8 +2,7 @@
 -- `there`, `over` what looking a point up tells · `local_test` the test, as code computes it ·
 -- `Local` what it says, in the words of the model (specs/LocalTests has that it does).
 -- Assumes nothing.
-use Rattle.std.specs.Prelude.{◌≡◌, ◌≢◌, Bool, true, false, cond, ◌&&◌, ◌||◌, not, ℕ, ◌*◌, ◌-◌, ◌%◌, ◌≤◌, ◌<◌, T, eqb, ltb, leb}
-use Rattle.std.proofs.Math.Option.{Option, none, some}
+use Rattle.std.specs.Prelude.{◌≡◌, ◌≢◌, Bool, true, false, cond, ◌&&◌, ◌||◌, not, ℕ, ◌*◌, ◌-◌, ◌%◌, ◌≤◌, ◌<◌, T, eqb, ltb, leb, Option, Some, None}
 use Rattle.laws.specs.Rules.{upto}
 use Rattle.lattice.specs.Stars.{adjacent_at}
 use Rattle.lattice.specs.Points.{class_of}
@@ -15,12 +14,12 @@ use Rattle.growth.specs.Model.{by_splits}
 
 -- ---- what looking a point up tells
 abbrev pub is_there : Option Record → Bool
-is_there none = false
-is_there (some u) = true
+is_there None = false
+is_there (Some u) = true
 
 abbrev pub is_over : ℕ → Option Record → Bool
-is_over b none = false
-is_over b (some u) = eqb u.d 6 && ltb b u.n.0
+is_over b None = false
+is_over b (Some u) = eqb u.d 6 && ltb b u.n.0
 
 -- p is there
 unfoldable pub there : Sheet → Point → Bool

@@ -2,11 +2,10 @@
 -- A centre is in range since its six corners are valid, and there is a centre since from any point the way leads down, parent by parent, to depth 0.
 -- `Bounded` a list holds all its points · `checked-closed` M3, one half.
 -- Assumes nothing.
-use Rattle.std.specs.Prelude.{◌≡◌, ◌⊎◌, Bool, ◌&&◌, ℕ, zero, suc, ◌+◌, ◌*◌, ◌-◌, ◌^◌, ◌≤◌, ◌<◌, T, leb, ℤ, pos, negsuc, ◌+ℤ◌}
+use Rattle.std.specs.Prelude.{◌≡◌, ◌⊎◌, Bool, ◌&&◌, ℕ, zero, suc, ◌+◌, ◌*◌, ◌-◌, ◌^◌, ◌≤◌, ◌<◌, T, leb, ℤ, pos, negsuc, ◌+ℤ◌, Option, Some, None}
 use Rattle.std.proofs.Math.Path.{refl, ap, subst}
 use Rattle.std.proofs.Common.{sym, ◌∙◌, inl, inr, true≢false, arith, le→leb}
 use Rattle.std.proofs.Math.Bool.{true, false, cond}
-use Rattle.std.proofs.Math.Option.{Option, none, some}
 use mathlib.Core.List.Memᴰ
 use mathlib.Core.List.{List, [], ◌∷◌, Memᴰ}
 use Rattle.std.proofs.Math.Decide.{ℕ_discrete}
@@ -44,7 +43,7 @@ use Rattle.growth.specs.Checked as K
 
 -- a list holds all points that are there
 abbrev pub Bounded : Sheet → Type 0
-Bounded R = (l : List Point) × ((p : Point) (r : Record) → R p ≡ some r → Memᴰ p l)
+Bounded R = (l : List Point) × ((p : Point) (r : Record) → R p ≡ Some r → Memᴰ p l)
 
 -- ---- a set of points that a list bounds is listed
 sieve : (Point → Bool) → List Point → List Point
@@ -105,29 +104,29 @@ unit-a p j m h z =
           ∙ ap (λ (x : ℤ). x +ℤ (one (2 * j)).b) (times-one p.b (0 - p.m.0) (omega arith)),
     )
 
-module _ (R : Sheet) (good : Sound R) (local : (p : Point) (r : Record) → R p ≡ some r → Local R r) (bounded : Bounded R) where
+module _ (R : Sheet) (good : Sound R) (local : (p : Point) (r : Record) → R p ≡ Some r → Local R r) (bounded : Bounded R) where
   checked-is : (p : Point) → R p ≡ mesh_of (centres R) (counts_of R) p
   checked-is p = go (is_normal p) refl (R p) refl
     where
       go : (b : Bool) → is_normal p ≡ b → (o : Option Record) → R p ≡ o → R p ≡ mesh_of (centres R) (counts_of R) p
       go true e o x = let q : Pt = record { at = p; normal = of-true e } in K.closed_at R good local q ∙ sym (record_is (counts_of R) (centres R) q)
-      go false e none x = x ∙ sym (record-none (counts_of R) (centres R) p e)
-      go false e (some r) x =
+      go false e None x = x ∙ sym (record-none (counts_of R) (centres R) p e)
+      go false e (Some r) x =
           let (s, v) = good p r x in
           absurd (true≢false (sym (is_true (is_normal p) (subst (λ (q : Point). T (is_normal q)) s (sited r v).normal)) ∙ e))
 
   -- what has been subdivided is there, of degree 6
-  counted : (q : Point) → 0 < counts_of R q → (r : Record) × (R q ≡ some r) × (r.d ≡ 6) × (rank_of q + counts_of R q ≡ r.n.0)
+  counted : (q : Point) → 0 < counts_of R q → (r : Record) × (R q ≡ Some r) × (r.d ≡ 6) × (rank_of q + counts_of R q ≡ r.n.0)
   unfolding counts_of
   counted q h = go (R q) refl h
     where
       go : (o : Option Record) → R q ≡ o → 0 < level6 o - rank_of q
-          → (r : Record) × (R q ≡ some r) × (r.d ≡ 6) × (rank_of q + (level6 (R q) - rank_of q) ≡ r.n.0)
-      go none x h = absurd (omega arith)
-      go (some r) x h = by (eqb r.d 6) refl h
+          → (r : Record) × (R q ≡ Some r) × (r.d ≡ 6) × (rank_of q + (level6 (R q) - rank_of q) ≡ r.n.0)
+      go None x h = absurd (omega arith)
+      go (Some r) x h = by (eqb r.d 6) refl h
         where
           by : (b : Bool) → eqb r.d 6 ≡ b → 0 < cond b r.n.0 0 - rank_of q
-              → (r : Record) × (R q ≡ some r) × (r.d ≡ 6) × (rank_of q + (level6 (R q) - rank_of q) ≡ r.n.0)
+              → (r : Record) × (R q ≡ Some r) × (r.d ≡ 6) × (rank_of q + (level6 (R q) - rank_of q) ≡ r.n.0)
           by true e h = (r, x, eqb-true r.d 6 e, (let z : level6 (R q) ≡ r.n.0 = ap level6 x ∙ ap (λ (b : Bool). cond b r.n.0 0) e in omega arith))
           by false e h = absurd (omega arith)
 
@@ -198,7 +197,7 @@ module _ (R : Sheet) (good : Sound R) (local : (p : Point) (r : Record) → R p 
           let lp = par-rank p 0 (suc i) (omega arith) e in
           ih (par p 0 (suc i)) (omega arith) (subst (Here R) (ap (λ (q : Point). parent_of q 0) s ∙ sym (par-is p 0 (suc i) e)) d)
 
-  checked-base : (p : Point) (r : Record) → R p ≡ some r → CentreSet (centres R)
+  checked-base : (p : Point) (r : Record) → R p ≡ Some r → CentreSet (centres R)
   checked-base p r x =
       let (s, v) = good p r x in
       let q : Pt = record { at = p; normal = subst (λ (y : Point). T (is_normal y)) s (sited r v).normal } in
@@ -216,7 +215,7 @@ module _ (R : Sheet) (good : Sound R) (local : (p : Point) (r : Record) → R p 
       }
 
   -- M3, one half
-  pub checked-closed : (p : Point) (r : Record) → R p ≡ some r → Closed R
+  pub checked-closed : (p : Point) (r : Record) → R p ≡ Some r → Closed R
   checked-closed p r x =
       record {
         H = centres R;

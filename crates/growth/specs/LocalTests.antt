@@ -1,11 +1,10 @@
 -- The test of one record and what it says are one: `tested`, `local-tested`. `there-some`, `some-there` what `there` says; `over-six`, `six-over` what
 -- `over` says.
 -- Assumes nothing.
-use Rattle.std.specs.Prelude.{◌≡◌, refl, ◌≢◌, ◌⊎◌, true, false, cond, ◌&&◌, ◌||◌, not, eqb, ltb, leb}
+use Rattle.std.specs.Prelude.{◌≡◌, refl, ◌≢◌, ◌⊎◌, true, false, cond, ◌&&◌, ◌||◌, not, eqb, ltb, leb, Option, Some, None}
 use Rattle.std.proofs.Common.{sym, ◌∙◌, ap, inl, inr, arith, eqb→eq, leb→le, ltb→lt, le→leb, lt→ltb, T_not, eq-eqb}
 use Rattle.std.proofs.Math.Path.{subst}
 use Rattle.std.proofs.Math.Bool.{Bool}
-use Rattle.std.proofs.Math.Option.{Option, none, some}
 use Prim.Native.Nat.{ℕ, zero, suc, ◌*◌, ◌-◌, ◌%◌, ◌≤◌, ◌<◌}
 use Rattle.std.proofs.Math.Decide.{ℕ_discrete}
 use Rattle.std.proofs.Math.Dec.{T, not_T}
@@ -23,27 +22,27 @@ use Rattle.growth.specs.Local.{is_there, is_over, there, over, centre_test, corn
 use Rattle.growth.specs.Local.{Here, Local}
 
 -- ---- lookups
-pub there-some : (R : Sheet) (p : Point) → Here R p → (r : Record) × (R p ≡ some r)
+pub there-some : (R : Sheet) (p : Point) → Here R p → (r : Record) × (R p ≡ Some r)
 unfolding there
 there-some R p t = go (R p) refl t
   where
-    go : (o : Option Record) → R p ≡ o → T (is_there o) → (r : Record) × (R p ≡ some r)
-    go none e t = absurd t
-    go (some r) e t = (r, e)
+    go : (o : Option Record) → R p ≡ o → T (is_there o) → (r : Record) × (R p ≡ Some r)
+    go None e t = absurd t
+    go (Some r) e t = (r, e)
 
-pub some-there : (R : Sheet) (p : Point) (r : Record) → R p ≡ some r → Here R p
+pub some-there : (R : Sheet) (p : Point) (r : Record) → R p ≡ Some r → Here R p
 unfolding there
 some-there R p r e = subst (λ (o : Option Record). T (is_there o)) (sym e) tt
 
-pub over-six : (R : Sheet) (q : Point) (b : ℕ) → T (over R q b) → (u : Record) × (R q ≡ some u) × (u.d ≡ 6) × (b < u.n.0)
+pub over-six : (R : Sheet) (q : Point) (b : ℕ) → T (over R q b) → (u : Record) × (R q ≡ Some u) × (u.d ≡ 6) × (b < u.n.0)
 unfolding over
 over-six R q b t = go (R q) refl t
   where
-    go : (o : Option Record) → R q ≡ o → T (is_over b o) → (u : Record) × (R q ≡ some u) × (u.d ≡ 6) × (b < u.n.0)
-    go none e t = absurd t
-    go (some u) e t = (u, e, eqb→eq u.d 6 (and_left (eqb u.d 6) (ltb b u.n.0) t), ltb→lt b u.n.0 (and_right (eqb u.d 6) (ltb b u.n.0) t))
+    go : (o : Option Record) → R q ≡ o → T (is_over b o) → (u : Record) × (R q ≡ Some u) × (u.d ≡ 6) × (b < u.n.0)
+    go None e t = absurd t
+    go (Some u) e t = (u, e, eqb→eq u.d 6 (and_left (eqb u.d 6) (ltb b u.n.0) t), ltb→lt b u.n.0 (and_right (eqb u.d 6) (ltb b u.n.0) t))
 
-pub six-over : (R : Sheet) (q : Point) (b : ℕ) (u : Record) → R q ≡ some u → u.d ≡ 6 → b < u.n.0 → T (over R q b)
+pub six-over : (R : Sheet) (q : Point) (b : ℕ) (u : Record) → R q ≡ Some u → u.d ≡ 6 → b < u.n.0 → T (over R q b)
 unfolding over
 six-over R q b u e d l = subst (λ (o : Option Record). T (is_over b o)) (sym e)
     (and_both (eqb u.d 6) (ltb b u.n.0) (of-true (eq-eqb u.d 6 d)) (lt→ltb b u.n.0 l))

@@ -3,8 +3,7 @@
 -- `more` one more subdivision · `Good`, `Low`, `Finite` which c there are.
 -- Ranks, birth orientations, parents and creators are the lattice's (its specs/Ranks).
 -- Assumes nothing.
-use Rattle.std.specs.Prelude.{Bool, true, false, cond, ◌&&◌, ℕ, ◌+◌, ◌-◌, ◌%◌, ◌≤◌, ◌<◌, T, eqb, ltb}
-use Rattle.std.proofs.Math.Option.{none, some}
+use Rattle.std.specs.Prelude.{Bool, true, false, cond, ◌&&◌, ℕ, ◌+◌, ◌-◌, ◌%◌, ◌≤◌, ◌<◌, T, eqb, ltb, Some, None}
 use mathlib.Core.List.{List, Memᴰ}
 use Rattle.laws.specs.Rules.{run}
 use Rattle.lattice.specs.PointLaws.{alike}
@@ -52,7 +51,7 @@ star_record c p b n =
 -- "The records."
 unfoldable pub mesh_of : (Point → Bool) → Counts → Sheet
 unfolding present_of internal_of by_splits subdivided
-mesh_of H c p = cond (present_of H c p) (some (cond (internal_of H p) (star_record c p (rank_of p - 1) (rank_of p + c p)) (vertex p 0 0 0))) none
+mesh_of H c p = cond (present_of H c p) (Some (cond (internal_of H p) (star_record c p (rank_of p - 1) (rank_of p + c p)) (vertex p 0 0 0))) None
 
 -- ---- which c there are
 -- one more subdivision of q

@@ -4,11 +4,10 @@
 -- `slots`). The parents are there (specs/GrownLocal); and what lies beside a subdivided parent was made by it (`beside-left`, `beside-right`).
 -- `closed-neighbours`.
 -- Assumes nothing.
-use Rattle.std.specs.Prelude.{◌≡◌, ◌≢◌, Bool, cond, eqb}
+use Rattle.std.specs.Prelude.{◌≡◌, ◌≢◌, Bool, cond, eqb, Some}
 use Rattle.std.proofs.Math.Path.{refl, ap}
 use Rattle.std.proofs.Common.{sym, ◌∙◌, subst, arith, le_trans}
 use Rattle.std.proofs.Math.Bool.{true, false}
-use Rattle.std.proofs.Math.Option.{some}
 use Prim.Native.Nat.{ℕ, zero, suc, ◌+◌, ◌*◌, ◌%◌, ◌≤◌, ◌<◌}
 use Rattle.std.proofs.Math.Decide.{ℕ_discrete}
 use Rattle.lattice.specs.Records.{orientations_of, valid_of}
@@ -183,7 +182,7 @@ module _ (H : Point → Bool) (c : Counts) (good : M.Good H c) where
       go false false false true = omega arith
       go false false false false = omega arith
 
-  pub closed-neighbours : (r : Record) → mesh_of H c r.at ≡ some r → D.T (valid_of r) → r.d ≢ 0 → (j : ℕ) → j < r.d → Here (mesh_of H c) (adjacent_at r j)
+  pub closed-neighbours : (r : Record) → mesh_of H c r.at ≡ Some r → D.T (valid_of r) → r.d ≢ 0 → (j : ℕ) → j < r.d → Here (mesh_of H c) (adjacent_at r j)
   unfolding move star_at
   closed-neighbours r x v n j h = go (ℕ_discrete r.d 6) (rank p) refl
     where

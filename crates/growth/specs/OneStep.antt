@@ -6,11 +6,10 @@
 -- `centre` q itself · `new` · `old` · `rest` · `absent`, `there` nothing is torn · `present-old` the adjacents of q are there ·
 -- `good-bump` the counts stay good · `six` a record of degree 6.
 -- Assumes nothing.
-use Rattle.std.specs.Prelude.{◌≡◌, ◌≢◌, ◌⊎◌, Bool}
+use Rattle.std.specs.Prelude.{◌≡◌, ◌≢◌, ◌⊎◌, Bool, Some, None}
 use Rattle.std.proofs.Math.Path.{refl, sym, ap}
 use Rattle.std.proofs.Common.{◌∙◌, inl, inr, true≢false}
 use Rattle.std.proofs.Math.Bool.{true, false}
-use Rattle.std.proofs.Math.Option.{none, some}
 use Prim.Native.Nat.{ℕ, zero, suc, ◌+◌, ◌*◌, ◌%◌, ◌/◌, ◌≤◌, ◌<◌}
 use native.Mathlib.Omega.{arith}
 use Rattle.std.proofs.Math.Decide.{ℕ_discrete}
@@ -40,7 +39,7 @@ module _ (H : Point → Bool) (c : Pt → ℕ) where
       let (x, y, z) = splits-six q.at (T c (par q 0 b) b) (T c (par q 1 b) b) (T c (par q 2 b) b) (birth q) b (rank q + c q) six in
       (rw (i, x, y, z), unfold by_splits in rw (x, y, z))
 
-  pub six : (q : Pt) (r : Record) → rec H c q ≡ some r → r.d ≡ 6
+  pub six : (q : Pt) (r : Record) → rec H c q ≡ Some r → r.d ≡ 6
       → (pres_at H c q (rank q) ≡ true) × (full_at H c q (rank q) ≡ true) × (r ≡ vertex q.at 6 ((rank q + c q) % 2) (rank q + c q))
   six q r h d =
       let (a, i, e) = look-inside (pres_at H c q (rank q)) (int_at H q (rank q)) q.at (star_at c q (rank q)) r (sym (rec-at H c q (rank q) refl) ∙ h)
@@ -61,7 +60,7 @@ module _ (H : Point → Bool) (c : Pt → ℕ) where
   star-full q zero h = refl
   star-full q (suc b) h = let (i, x, y, z) = full-all H c q b h in rw (x, y, z)
 
-  pub rec-full : (q : Pt) → full_at H c q (rank q) ≡ true → rec H c q ≡ some (vertex q.at 6 ((rank q + c q) % 2) (rank q + c q))
+  pub rec-full : (q : Pt) → full_at H c q (rank q) ≡ true → rec H c q ≡ Some (vertex q.at 6 ((rank q + c q) % 2) (rank q + c q))
   rec-full q h = rec-look H c q (vertex q.at 6 ((rank q + c q) % 2) (rank q + c q)) (present-full q (rank q) refl h) (int-of-full H c q (rank q) h)
       (star-full q (rank q) h)
 
@@ -136,7 +135,7 @@ module _ (H : Point → Bool) (c : Pt → ℕ) (q : Pt) (n : ℕ) (h : n ≡ ran
       let s : (t : ℕ) → t < 3 → T c' (par q t b) b ≡ true = λ t ht. T-same c q (par q t b) b (omega arith) ∙ full-par H c q b t ht full in
       rw (s 0 (omega arith), s 1 (omega arith), s 2 (omega arith), level-up)
 
-  pub centre : pres_at H c q (rank q) ≡ true → full_at H c q (rank q) ≡ true → rec H c' q ≡ some (vertex q.at 6 (suc n % 2) (suc n))
+  pub centre : pres_at H c q (rank q) ≡ true → full_at H c q (rank q) ≡ true → rec H c' q ≡ Some (vertex q.at 6 (suc n % 2) (suc n))
   centre pr full =
       rec-look H c' q (vertex q.at 6 (suc n % 2) (suc n)) (pres-low q (rank q) (omega arith) ∙ pr) (int-of-full H c q (rank q) full)
       (star-centre (rank q) (omega arith) full)
@@ -191,7 +190,7 @@ module _ (H : Point → Bool) (c : Pt → ℕ) (q : Pt) (n : ℕ) (h : n ≡ ran
             let b : move p a (suc n) ≡ move q ((e + 1) % 12) n = aside-l q p e n a he refl (x ∙ sym (plus8' e he.0)) in
             rw b (young ((e + 1) % 12) (turn1 e n he))
 
-    pub new : (e : ℕ) → Dir e (suc n) → rec H c' (move q e (suc n)) ≡ some (vertex (move q e (suc n)).at 3 ((e + 6) % 4) (suc n))
+    pub new : (e : ℕ) → Dir e (suc n) → rec H c' (move q e (suc n)) ≡ Some (vertex (move q e (suc n)).at 3 ((e + 6) % 4) (suc n))
     unfolding pres_at int_at star_at by_splits look
     new e he =
         let p : Pt = move q e (suc n) in
@@ -242,14 +241,14 @@ module _ (H : Point → Bool) (c : Pt → ℕ) (q : Pt) (n : ℕ) (h : n ≡ ran
           let p : Pt = move q e n in
           accept-split p.at (birth p) n ((e + 6) % 12) (birth-lt p) (λ t. T c (par p t n) n) ((e + 6) % 12 / 4) (rank p + c p) (below3 (e + 6)) old-k old-off
 
-      pub old : (r : Record) → rec H c (move q e n) ≡ some r → rec H c' (move q e n) ≡ some (update_of ((e + 6) % 12) r)
+      pub old : (r : Record) → rec H c (move q e n) ≡ Some r → rec H c' (move q e n) ≡ Some (update_of ((e + 6) % 12) r)
       old r x =
           let p : Pt = move q e n in
           rec-at H c' p (suc n) old-rank ∙ ap (λ (a : Bool). look a (int_at H p (suc n)) p.at (star_at c' p (suc n))) (pres-low p (suc n) (omega arith))
           ∙ look-update (pres_at H c p (suc n)) (int_at H p (suc n)) p.at (star_at c p (suc n)) (star_at c' p (suc n)) r ((e + 6) % 12)
           (sym (rec-at H c p (suc n) old-rank) ∙ x) old-star
 
-      pub there : full_at H c q (rank q) ≡ true → (r : Record) × (rec H c (move q e n) ≡ some r) × (accepts_of ((e + 6) % 12) n r ≡ true)
+      pub there : full_at H c q (rank q) ≡ true → (r : Record) × (rec H c (move q e n) ≡ Some r) × (accepts_of ((e + 6) % 12) n r ≡ true)
       there full =
           let p : Pt = move q e n in
           let (r, x, y) = look-accept (int_at H p (suc n)) p.at (star_at c p (suc n)) ((e + 6) % 12) n old-accept in (
@@ -260,7 +259,7 @@ module _ (H : Point → Bool) (c : Pt → ℕ) (q : Pt) (n : ℕ) (h : n ≡ ran
           )
 
       -- M4: one of degree 3 has the level of q, and its orientation is the direction back
-      pub old-three : (r : Record) → rec H c (move q e n) ≡ some r → r.d ≡ 3 → r ≡ vertex (move q e n).at 3 ((e + 6) % 4) n
+      pub old-three : (r : Record) → rec H c (move q e n) ≡ Some r → r.d ≡ 3 → r ≡ vertex (move q e n).at 3 ((e + 6) % 4) n
       unfolding star_at
       old-three r x d =
           let p : Pt = move q e n in
@@ -271,7 +270,7 @@ module _ (H : Point → Bool) (c : Pt → ℕ) (q : Pt) (n : ℕ) (h : n ≡ ran
           ∙ ap (λ (k : ℕ). vertex p.at 3 k n) (out-birth q e n he (omega arith))
 
   -- ---- the new points were not there
-  pub absent : (e : ℕ) → Dir e (suc n) → rec H c (move q e (suc n)) ≡ none
+  pub absent : (e : ℕ) → Dir e (suc n) → rec H c (move q e (suc n)) ≡ None
   unfolding pres_at look
   absent e he =
       rec-at H c (move q e (suc n)) (suc (suc n)) (out-rank q e (suc n) he (omega arith)) ∙ rw (creator-new q e n he (omega arith), T-off c q n h)

@@ -2,8 +2,7 @@
 -- `UntornAt` a subdivision is not torn · `Step` what a subdivision makes · `base_sheet` the sheet of a base, `CentreSet` which sets of centres are one ·
 -- `GrownSheet` made by a base and subdivisions.
 -- Assumes nothing.
-use Rattle.std.specs.Prelude.{◌≡◌, ◌≢◌, Bool, cond, ◌&&◌, ◌||◌, false, List, [], ◌∷◌, ℕ, ◌+◌, ◌*◌, ◌<◌, T, eqb, leb, nat_abs}
-use Rattle.std.proofs.Math.Option.{Option, none, some}
+use Rattle.std.specs.Prelude.{◌≡◌, ◌≢◌, Bool, cond, ◌&&◌, ◌||◌, false, List, [], ◌∷◌, ℕ, ◌+◌, ◌*◌, ◌<◌, T, eqb, leb, nat_abs, Option, Some, None}
 use Rattle.laws.specs.Rules.{run}
 use Rattle.lattice.specs.PointLaws.{alike}
 use Rattle.lattice.specs.Points.{class_of}
@@ -24,14 +23,14 @@ vertex p d k n = record { at = p; d = d; k = k; n = record { 0 = n } }
 -- point is already there."
 -- the subdivision of v is not torn
 pub record UntornAt (R : Sheet) (v : Record) : Type 0 where
-  pub there : (j : ℕ) → j < 6 → (u : Record) × (R (adjacent_at v j) ≡ some u) × T (accepts_of (back_of v.k j) v.n.0 u)
-  pub free : (j : ℕ) → j < 6 → R (new_of v j).at ≡ none
+  pub there : (j : ℕ) → j < 6 → (u : Record) × (R (adjacent_at v j) ≡ Some u) × T (accepts_of (back_of v.k j) v.n.0 u)
+  pub free : (j : ℕ) → j < 6 → R (new_of v j).at ≡ None
 
 -- ---- "Subdivision of v (d 6, orientation k, level n)": it takes R to R'
 pub record Step (R : Sheet) (v : Record) (R' : Sheet) : Type 0 where
-  pub centre : R' v.at ≡ some (centre_of v)
-  pub new : (j : ℕ) → j < 6 → R' (new_of v j).at ≡ some (new_of v j)
-  pub old : (j : ℕ) → j < 6 → (u : Record) → R (adjacent_at v j) ≡ some u → R' (adjacent_at v j) ≡ some (update_of (back_of v.k j) u)
+  pub centre : R' v.at ≡ Some (centre_of v)
+  pub new : (j : ℕ) → j < 6 → R' (new_of v j).at ≡ Some (new_of v j)
+  pub old : (j : ℕ) → j < 6 → (u : Record) → R (adjacent_at v j) ≡ Some u → R' (adjacent_at v j) ≡ Some (update_of (back_of v.k j) u)
   -- "All else is untouched."
   pub rest : (p : Point) → p ≢ v.at → ((j : ℕ) → j < 6 → p ≢ (new_of v j).at) → ((j : ℕ) → j < 6 → p ≢ adjacent_at v j) → R' p ≡ R p
 
@@ -53,7 +52,7 @@ abbrev pub base_vertex : (Point → Bool) → Point → Record
 base_vertex H p = cond (inside_base H p) (cond (eqb (class_of p) 0) (vertex p 3 0 0) (cond (eqb (class_of p) 1) (vertex p 6 0 0) (vertex p 3 2 0))) (vertex p 0 0 0)
 
 unfoldable pub base_sheet : (Point → Bool) → Sheet
-base_sheet H p = cond (eqb p.m.0 0 && given_by H p) (some (base_vertex H p)) none
+base_sheet H p = cond (eqb p.m.0 0 && given_by H p) (Some (base_vertex H p)) None
 
 -- "centres [a, b] with a, b in -250..250 and a-b divisible by 3"
 abbrev pub centre_test : Point → Bool
@@ -75,4 +74,4 @@ pub record CentreSet (H : Point → Bool) : Type 0 where
 -- ("room enough" asks nothing of a sheet)
 pub data GrownSheet : Sheet → Type 0 where
   start : (H : Point → Bool) (R : Sheet) → CentreSet H → ((p : Point) → R p ≡ base_sheet H p) → GrownSheet R
-  grow : (R : Sheet) (v : Record) (R' : Sheet) → GrownSheet R → R v.at ≡ some v → v.d ≡ 6 → v.n.0 < 12 → UntornAt R v → Step R v R' → GrownSheet R'
+  grow : (R : Sheet) (v : Record) (R' : Sheet) → GrownSheet R → R v.at ≡ Some v → v.d ≡ 6 → v.n.0 < 12 → UntornAt R v → Step R v R' → GrownSheet R'

@@ -3,10 +3,10 @@
 -- read by places.
 -- `six-record` a record of degree 6 · `closed-whole`, `closed-step`, `closed-good` M1 · `closed-adjacent` M4.
 -- Assumes nothing.
-use Rattle.std.specs.Prelude.{◌≡◌, ◌≢◌, Bool, true, false}
+use Rattle.std.proofs.lemmas.Option.{none-some}
+use Rattle.std.specs.Prelude.{◌≡◌, ◌≢◌, Bool, true, false, Option, Some}
 use Rattle.std.proofs.Math.Path.{refl, ap, subst}
 use Rattle.std.proofs.Common.{sym, ◌∙◌}
-use Rattle.std.proofs.Math.Option.{Option, some, none-ne-some}
 use Prim.Native.Nat.{ℕ, suc, ◌+◌, ◌*◌, ◌%◌, ◌/◌, ◌<◌}
 use native.Mathlib.Omega.{arith}
 use Rattle.std.proofs.Math.Dec.{T}
@@ -28,12 +28,12 @@ use Rattle.growth.specs.Closed as C
 use Rattle.growth.specs.OneStep as One
 
 -- a point with a record is normalised
-pub record-normal : (H : Point → Bool) (c : Counts) (p : Point) (r : Record) → mesh_of H c p ≡ some r → T (is_normal p)
+pub record-normal : (H : Point → Bool) (c : Counts) (p : Point) (r : Record) → mesh_of H c p ≡ Some r → T (is_normal p)
 record-normal H c p r h = go (is_normal p) refl
   where
     go : (b : Bool) → is_normal p ≡ b → T b
     go true e = tt
-    go false e = absurd (none-ne-some r (sym (record-none c H p e) ∙ h))
+    go false e = absurd (none-some r (sym (record-none c H p e) ∙ h))
 
 pub more-other : (q p : Point) (c : Counts) → p ≢ q → more q c p ≡ c p
 unfolding more same?
@@ -100,14 +100,14 @@ module _ (H : Point → Bool) (c : Counts) where
   closed : (q : Pt) (o : Option Record) → mesh_of H c q.at ≡ o → rec H (at c) q ≡ o
   closed q o h = sym (record_is c H q) ∙ h
 
-  pub six-record : (v : Record) → mesh_of H c v.at ≡ some v → v.d ≡ 6 → Six H c v
+  pub six-record : (v : Record) → mesh_of H c v.at ≡ Some v → v.d ≡ 6 → Six H c v
   unfolding rank
   six-record v h d = go (record-normal H c v.at v h)
     where
       go : T (is_normal v.at) → Six H c v
       go t =
           let q : Pt = record { at = v.at; normal = t } in
-          let (a, f, e) = One.six H (at c) q v (closed q (some v) h) d in
+          let (a, f, e) = One.six H (at c) q v (closed q (Some v) h) d in
           record { normal = t; full = of-true (sym (full_is c H q) ∙ f); is = e }
 
   -- M1 by the parts of the vertex: q its point, n its level
@@ -131,17 +131,17 @@ module _ (H : Point → Bool) (c : Counts) where
     step-at : Step (mesh_of H c) (centre q n) (mesh_of H (more q.at c))
     step-at =
         record {
-          centre = after q ∙ One.centre H (at c) q n h (One.present-full H (at c) q (rank q) refl full) full ∙ ap some (sym (centre-is q n));
+          centre = after q ∙ One.centre H (at c) q n h (One.present-full H (at c) q (rank q) refl full) full ∙ ap Some (sym (centre-is q n));
           new = λ j l.
               let e = 2 * j + (n % 2 + 1) % 2 in
               ap (mesh_of H (more q.at c)) (new-at q n j l) ∙ after (move q e (suc n)) ∙ One.new H (at c) q n h (good-in c H good) e (place-next q n j l)
-              ∙ ap some (sym (new_is q n j l));
+              ∙ ap Some (sym (new_is q n j l));
           old = λ j l u x.
               let e = 2 * j + n % 2 in
               ap (mesh_of H (more q.at c)) (adjacent-is q n j l) ∙ after (move q e n)
               ∙ One.old H (at c) q n h (good-in c H good) e (place-dir q n j l) u
-              (closed (move q e n) (some u) (ap (mesh_of H c) (sym (adjacent-is q n j l)) ∙ x))
-              ∙ ap (λ (k : ℕ). some (update_of k u)) (sym (back_is q n j));
+              (closed (move q e n) (Some u) (ap (mesh_of H c) (sym (adjacent-is q n j l)) ∙ x))
+              ∙ ap (λ (k : ℕ). Some (update_of k u)) (sym (back_is q n j));
           rest = λ p x y z. untouched p x y z (is_normal p) refl;
         }
       where
@@ -159,7 +159,7 @@ module _ (H : Point → Bool) (c : Counts) where
             ∙ sym (record_is c H s)
 
   -- ---- M1
-  module _ (good : Good H c) (v : Record) (x : mesh_of H c v.at ≡ some v) (d : v.d ≡ 6) where
+  module _ (good : Good H c) (v : Record) (x : mesh_of H c v.at ≡ Some v) (d : v.d ≡ 6) where
     abbrev point : Six H c v → Pt
     point s = record { at = v.at; normal = s.normal }
 
@@ -201,14 +201,14 @@ module _ (H : Point → Bool) (c : Counts) where
 
     -- M4: every adjacent is there, and one of degree 3 is what the reduced reader restores
     pub closed-adjacent : (j : ℕ) → j < 6
-        → (u : Record) × (mesh_of H c (adjacent_at v j) ≡ some u) × (u.d ≡ 3 → u ≡ vertex (adjacent_at v j) 3 ((6 + 2 * j + v.k) % 4) v.n.0)
+        → (u : Record) × (mesh_of H c (adjacent_at v j) ≡ Some u) × (u.d ≡ 3 → u ≡ vertex (adjacent_at v j) 3 ((6 + 2 * j + v.k) % 4) v.n.0)
     unfolding rank
     closed-adjacent j l =
         let s = six-record v x d in
-        subst (λ (w : Record). (u : Record) × (mesh_of H c (adjacent_at w j) ≡ some u)
+        subst (λ (w : Record). (u : Record) × (mesh_of H c (adjacent_at w j) ≡ Some u)
         × (u.d ≡ 3 → u ≡ vertex (adjacent_at w j) 3 ((6 + 2 * j + w.k) % 4) w.n.0)) (sym s.is) (here s)
       where
-        here : (s : Six H c v) → (u : Record) × (mesh_of H c (adjacent_at (centre (point s) (rank_of v.at + c v.at)) j) ≡ some u)
+        here : (s : Six H c v) → (u : Record) × (mesh_of H c (adjacent_at (centre (point s) (rank_of v.at + c v.at)) j) ≡ Some u)
             × (u.d ≡ 3 → u ≡ vertex (adjacent_at (centre (point s) (rank_of v.at + c v.at)) j) 3 ((6 + 2 * j + (rank_of v.at + c v.at) % 2) % 4)
             (rank_of v.at + c v.at))
         here s =

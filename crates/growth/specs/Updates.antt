@@ -2,11 +2,11 @@
 -- says (`update-split`), and none of these records tears the subdivision (`accept-split`). The direction k' that is filled is k + 4t for parent t.
 -- `look-..` what a record says when it is there · `splits-..` what a degree says of the parents.
 -- Assumes nothing.
-use Rattle.std.specs.Prelude.{◌≡◌, ◌≢◌, Bool}
+use Rattle.std.proofs.lemmas.Option.{none-some}
+use Rattle.std.specs.Prelude.{◌≡◌, ◌≢◌, Bool, Some}
 use Rattle.std.proofs.Math.Path.{refl}
 use Rattle.std.proofs.Common.{sym, ap, true≢false}
 use Rattle.std.proofs.Math.Bool.{true, false}
-use Rattle.std.proofs.Math.Option.{some, none-ne-some}
 use Prim.Native.Nat.{ℕ, zero, suc, ◌+◌, ◌*◌, ◌%◌, ◌<◌}
 use native.Mathlib.Omega.{arith}
 use Rattle.std.proofs.Math.Numerals.{add-one}
@@ -138,34 +138,34 @@ splits-at p false true true k b n = refl
 splits-at p true true true k b n = refl
 
 -- ---- what it says that a record is there
-pub look-inv : (a i : Bool) (p : Point) (s r : Record) → look a i p s ≡ some r → (a ≡ true) × (i ≡ true → r ≡ s) × (i ≡ false → r ≡ vertex p 0 0 0)
+pub look-inv : (a i : Bool) (p : Point) (s r : Record) → look a i p s ≡ Some r → (a ≡ true) × (i ≡ true → r ≡ s) × (i ≡ false → r ≡ vertex p 0 0 0)
 unfolding look
-look-inv false i p s r h = absurd (none-ne-some r h)
+look-inv false i p s r h = absurd (none-some r h)
 look-inv true false p s r h = (refl, (λ x. absurd (true≢false (sym x))), λ x. cc)
 look-inv true true p s r h = (refl, (λ x. cc), λ x. absurd (true≢false x))
 
-pub look-here : (a i : Bool) (p : Point) (s : Record) → a ≡ true → (r : Record) × (look a i p s ≡ some r)
+pub look-here : (a i : Bool) (p : Point) (s : Record) → a ≡ true → (r : Record) × (look a i p s ≡ Some r)
 unfolding look
 look-here true true p s h = (s, refl)
 look-here true false p s h = (vertex p 0 0 0, refl)
 look-here false i p s h = absurd (true≢false (sym h))
 
 -- a record with a star is internal
-pub look-inside : (a i : Bool) (p : Point) (s r : Record) → look a i p s ≡ some r → r.d ≢ 0 → (a ≡ true) × (i ≡ true) × (r ≡ s)
+pub look-inside : (a i : Bool) (p : Point) (s r : Record) → look a i p s ≡ Some r → r.d ≢ 0 → (a ≡ true) × (i ≡ true) × (r ≡ s)
 look-inside a i p s r h d = go i refl
   where
     go : (b : Bool) → i ≡ b → (a ≡ true) × (i ≡ true) × (r ≡ s)
     go true e = let v = look-inv a i p s r h in (v.0, e, v.1 e)
     go false e = absurd (d (ap (λ (x : Record). x.d) ((look-inv a i p s r h).2 e)))
 
-pub look-update : (a i : Bool) (p : Point) (s s' r : Record) (k' : ℕ) → look a i p s ≡ some r → update_of k' s ≡ s' → look a i p s' ≡ some (update_of k' r)
+pub look-update : (a i : Bool) (p : Point) (s s' r : Record) (k' : ℕ) → look a i p s ≡ Some r → update_of k' s ≡ s' → look a i p s' ≡ Some (update_of k' r)
 unfolding look update_of
-look-update false i p s s' r k' h u = absurd (none-ne-some r h)
+look-update false i p s s' r k' h u = absurd (none-some r h)
 look-update true false p s s' r k' h u = let e : r ≡ vertex p 0 0 0 = cc in rw e
 look-update true true p s s' r k' h u = let e : s ≡ r = cc in rw (← u, e)
 
 pub look-accept : (i : Bool) (p : Point) (s : Record) (k' n : ℕ) → accepts_of k' n s ≡ true
-    → (r : Record) × (look true i p s ≡ some r) × (accepts_of k' n r ≡ true)
+    → (r : Record) × (look true i p s ≡ Some r) × (accepts_of k' n r ≡ true)
 unfolding look accepts_of
 look-accept true p s k' n h = (s, refl, h)
 look-accept false p s k' n h = (vertex p 0 0 0, refl, refl)

@@ -2,7 +2,7 @@
 -- `far-bounded` its corners have second opposites · `arm-light`, `near-light`, `far-light` an arm's sum can be taken ·
 -- `ArmsPut` a star's row as it is filled arm by arm, `arms_start`, `arms_more`, `arms_end`.
 -- Assumes nothing.
-use Rattle.std.specs.Prelude.{◌≡◌, refl, true, false, List, ℕ, ◌+◌, ◌*◌, ◌≤◌, ◌<◌, ◌-◌, ◌^◌, max, ℤ, neg_ℤ, ◌+ℤ◌}
+use Rattle.std.specs.Prelude.{◌≡◌, refl, true, false, List, ℕ, ◌+◌, ◌*◌, ◌≤◌, ◌<◌, ◌-◌, ◌^◌, max, ℤ, neg_ℤ, ◌+ℤ◌, Option, Some, None}
 use Rattle.std.proofs.Common.{sym, ◌∙◌, ap, subst, arith, ne_eqb}
 use Rattle.std.proofs.Math.Decide.{ℕ_discrete}
 use Rattle.std.proofs.lemmas.List.Edits.{sets}
@@ -22,8 +22,6 @@ use Rattle.lattice.specs.RecordLaws.{Inner, inner-small}
 use Rattle.lattice.specs.Rows.{held}
 use Rattle.lattice.specs.Stars.{scale_of, step_of, adjacent_at, second_at, nowhere, given}
 use Rattle.lattice.specs.Terms.{added_of, Light, terms-light}
-use Rattle.lattice.specs.declared.patterns.Spot.{Spot}
-use Rattle.lattice.specs.declared.patterns.Spot.TheVariants.{At, Nothing}
 use Rattle.lattice.specs.declared.points.Point.{Point}
 use Rattle.lattice.specs.declared.points.Terms.{Terms}
 use Rattle.lattice.specs.declared.records.Record.{Record}
@@ -123,18 +121,18 @@ module _ (v : Record) (j : ℕ) where
   near_next = column-next (λ r. r.first) firsts v j
 
 -- ---- each corner of a regular star has a second opposite
-abbrev at_test : Spot → Test
-at_test (At p) = 0 ≤? 0
-at_test Nothing = 1 ≤? 0
+abbrev at_test : Option Point → Test
+at_test (Some p) = 0 ≤? 0
+at_test None = 1 ≤? 0
 
-at_held : (s : Spot) → Means (at_test s) → s ≡ At (held s)
-at_held (At p) m = refl
-at_held Nothing m = absurd (omega (arith, m))
+at_held : (s : Option Point) → Means (at_test s) → s ≡ Some (held s)
+at_held (Some p) m = refl
+at_held None m = absurd (omega (arith, m))
 
-second-there : (d : ℕ) → regular_of d ≡ true → (j : ℕ) → j < d → (pattern_of d j).second ≡ At (held (pattern_of d j).second)
+second-there : (d : ℕ) → regular_of d ≡ true → (j : ℕ) → j < d → (pattern_of d j).second ≡ Some (held (pattern_of d j).second)
 unfolding pattern_of rows_of three four five six
 second-there d e j =
-    regular-by (λ d. j < d → (pattern_of d j).second ≡ At (held (pattern_of d j).second))
+    regular-by (λ d. j < d → (pattern_of d j).second ≡ Some (held (pattern_of d j).second))
     (λ h. at_held _ (rule 3 (λ j. at_test (pattern_of 3 j).second) tt j h))
     (λ h. at_held _ (rule 6 (λ j. at_test (pattern_of 6 j).second) tt j h))
     d
@@ -144,17 +142,17 @@ module _ (v : Record) (e : regular_of v.d ≡ true) (j : ℕ) (h : j < v.d) wher
   abbrev p : Point
   p = orient v.k (held (pattern_of v.d j).second)
 
-  second-held : second_opposite_of v.d v.k j ≡ At p
+  second-held : second_opposite_of v.d v.k j ≡ Some p
   second-held = ap (on_spot (orient v.k)) (second-there v.d e j h)
 
   far-is : far_arm v j ≡ arm_by v p
-  far-is = ap (λ (s : Spot). arm_by v (held s)) second-held
+  far-is = ap (λ (s : Option Point). arm_by v (held s)) second-held
 
-  pub second-by-arm : second_at v j ≡ At (added_of (far_arm v j))
-  second-by-arm = ap (on_spot (step_of v.at v.n)) second-held ∙ ap (λ (w : Terms). At (added_of w)) (sym far-is)
+  pub second-by-arm : second_at v j ≡ Some (added_of (far_arm v j))
+  second-by-arm = ap (on_spot (step_of v.at v.n)) second-held ∙ ap (λ (w : Terms). Some (added_of w)) (sym far-is)
 
   pub far-bounded : Inner v → Near v.n (held (second_opposite_of v.d v.k j))
-  far-bounded i = subst (λ (s : Spot). Near v.n (held s)) (sym second-held) (second-near v i j h p second-held)
+  far-bounded i = subst (λ (s : Option Point). Near v.n (held s)) (sym second-held) (second-near v i j h p second-held)
 
 pub far-next : (v : Record) (j : ℕ) (e : regular_of v.d ≡ true) → j + 1 < v.d → next_arm v.d (far_arm v j) ≡ far_arm v (j + 1)
 far-next v j e h =

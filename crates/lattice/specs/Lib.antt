@@ -3,6 +3,7 @@ pub mod Points
 pub mod Records
 pub mod Patterns
 pub mod Stars
+pub mod Refusals
 pub mod AnswerRows
 pub mod Rows
 pub mod Terms
@@ -18,6 +19,7 @@ pub mod PatternLaws
 pub mod RowLaws
 pub mod NumberedRows
 pub mod StarLaws
+pub mod RefusalLaws
 pub mod AnswerRowLaws
 pub mod ArmLaws
 pub mod Places

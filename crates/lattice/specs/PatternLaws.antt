@@ -3,17 +3,15 @@
 -- 0 is turned to 0 · `adjacent-close`, `first-close`, `second-close` the bounds of the pattern points ·
 -- `adjacent-near`, `first-near`, `second-near` the same at any orientation and level.
 -- Assumes nothing.
-use Rattle.std.specs.Prelude.{◌≡◌, refl, ℕ, zero, suc, ◌+◌, ◌%◌, ◌/◌, ◌≤◌, ◌<◌, pos, ◌+ℤ◌, nat_abs}
+use Rattle.std.specs.Prelude.{◌≡◌, refl, ℕ, zero, suc, ◌+◌, ◌%◌, ◌/◌, ◌≤◌, ◌<◌, pos, ◌+ℤ◌, nat_abs, Option, Some, None}
 use Rattle.std.proofs.Common.{ap, subst, arith}
 use Rattle.laws.specs.Linear.{same, told-≡, ‵, ◌⊕◌, ◌⊝◌, ⊟, ◌⊗◌}
 use Rattle.laws.specs.Rules.{Test, ◌≤?◌, ◌≡?◌, ◌≡ᶻ?◌, ◌&◌, Means, ◌⇒◌, rule2}
-use Rattle.lattice.specs.declared.patterns.Spot.TheVariants.{At, Nothing}
 use Rattle.lattice.specs.Patterns.{orient, Row, three, four, five, six, rows_of, pattern_of, on_spot, adjacent_of, first_opposite_of, second_opposite_of}
 use Rattle.lattice.specs.Bounds.{Hex, hex-turn60, hex-turn30, Near}
 use Rattle.lattice.specs.Points.{turn60_of, turn30_of, turns, pt}
 use Rattle.lattice.specs.declared.points.Point.{Point}
 use Rattle.lattice.specs.declared.records.Level.{Level}
-use Rattle.lattice.specs.declared.patterns.Spot.{Spot}
 use Rattle.lattice.specs.RecordLaws.{Inner}
 use Rattle.lattice.specs.declared.records.Record.{Record}
 
@@ -84,9 +82,9 @@ abbrev near_test : Point → Test
 near_test p =
     nat_abs p.a ≤? 4 & nat_abs p.b ≤? 4 & nat_abs (p.a +ℤ p.b) ≤? 4 & p.m.0 ≤? 1 & (p.a ≡ᶻ? pos 0 & p.b ≡ᶻ? pos 0 ⇒ 1 ≡? 0)
 
-abbrev near_spot : Spot → Test
-near_spot (At p) = near_test p
-near_spot Nothing = 0 ≤? 0
+abbrev near_spot : Option Point → Test
+near_spot (Some p) = near_test p
+near_spot None = 0 ≤? 0
 
 abbrev near_row : Row → Test
 near_row r = near_test r.adjacent & near_test r.first & near_spot r.second
@@ -113,13 +111,13 @@ module _ (d j : ℕ) (l : 3 ≤ d) (h : d ≤ 6) (k : j < d) where
   pub first-close : Close (pattern_of d j).first
   first-close = close (pattern_of d j).first (row_near d j l h k).1.0
 
-  pub second-close : (p : Point) → (pattern_of d j).second ≡ At p → Close p
-  second-close p e = close p (subst (λ (s : Spot). Means (near_spot s)) e (row_near d j l h k).1.1)
+  pub second-close : (p : Point) → (pattern_of d j).second ≡ Some p → Close p
+  second-close p e = close p (subst (λ (s : Option Point). Means (near_spot s)) e (row_near d j l h k).1.1)
 
-spot-inj : {p q : Point} → At p ≡ At q → p ≡ q
+spot-inj : {p q : Point} → Some p ≡ Some q → p ≡ q
 spot-inj {p} {q} e = cc
 
-spot-none : {p : Point} → Nothing ≡ At p → ⊥
+spot-none : {p : Point} → None ≡ Some p → ⊥
 spot-none {p} e = let z : ◌≡◌ {A = ℕ} 0 1 = cc in omega arith
 
 -- turned to an orientation whose parity is the level's, such a point can be stepped by
@@ -134,9 +132,9 @@ module _ (r : Record) (i : Inner r) (j : ℕ) (h : j < r.d) where
   pub first-near : Near r.n (first_opposite_of r.d r.k j)
   first-near = close-near r.k r.n (first-close r.d j i.low i.top h) i.parity i.level
 
-  pub second-near : (p : Point) → second_opposite_of r.d r.k j ≡ At p → Near r.n p
+  pub second-near : (p : Point) → second_opposite_of r.d r.k j ≡ Some p → Near r.n p
   second-near p e = go (pattern_of r.d j).second refl e
     where
-      go : (s : Spot) → (pattern_of r.d j).second ≡ s → on_spot (orient r.k) s ≡ At p → Near r.n p
-      go (At q) f g = subst (Near r.n) (spot-inj g) (close-near r.k r.n (second-close r.d j i.low i.top h q f) i.parity i.level)
-      go Nothing f g = absurd (spot-none g)
+      go : (s : Option Point) → (pattern_of r.d j).second ≡ s → on_spot (orient r.k) s ≡ Some p → Near r.n p
+      go (Some q) f g = subst (Near r.n) (spot-inj g) (close-near r.k r.n (second-close r.d j i.low i.top h q f) i.parity i.level)
+      go None f g = absurd (spot-none g)

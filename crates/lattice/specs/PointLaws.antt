@@ -1,10 +1,11 @@
 -- The laws of points, of normalising and of turns.
--- `same_refl`, `same_true`, `same-ne`, `same_or_not` the test of two points · `alike`, `alike-eq`, `same_alike` the same as a rule that is computed ·
--- `normal-step`, `normal-stop`, `normal-zero` one step of normalising ·
+-- `same_refl`, `same_true`, `same-ne`, `same_or_not` the test of two points, `same-derived` as `==` makes it · `alike`, `alike-eq`, `same_alike` the same as a
+-- rule that is computed · `normal-step`, `normal-stop`, `normal-zero` one step of normalising ·
 -- `turns-suc`, `turns-zero`, `turns-three` turns.
 -- Assumes nothing.
 use Rattle.std.specs.Prelude.{◌≡◌, refl, ◌≢◌, Bool, true, false, ◌&&◌, ℕ, zero, suc, ◌+◌, ◌<◌, ◌-◌, eqb, ℤ, neg_ℤ, pos}
-use Rattle.std.proofs.Common.{sym, ap, ◌∙◌, arith, eq-eqb, eqb-true, add-one}
+use Rattle.std.proofs.Common.{sym, ap, ◌∙◌, arith, eq-eqb, eqb-true, add-one, int_eq}
+use Rattle.std.proofs.lemmas.Bool.Decides.{Decides-and, Decides-like, Decides-int_eq, Decides-eqb, same_from_decides}
 use Rattle.std.specs.Int.Signed.{quot_z}
 use Rattle.laws.specs.Rules.{Test, ◌≡?◌, ◌≡ᶻ?◌, ◌&◌, Means, run, eq_z, eq_z→eq, eq_z-refl}
 use Rattle.laws.specs.Choices.{of-true, is_true, is_false}
@@ -38,6 +39,14 @@ same_or_not p q = go (same_point p q) refl
     go : (b : Bool) → same_point p q ≡ b → Dec (p ≡ q)
     go true e = yes (same_true p q e)
     go false e = no (λ x. not-both (ap (same_point p) (sym x) ∙ same_refl p) e)
+
+-- what `==` answers at two points
+pub same-derived : (p q : Point) → int_eq p.a q.a && (int_eq p.b q.b && eqb p.m.0 q.m.0) ≡ same_point p q
+same-derived p q =
+    let fields = Decides-and _ _ (Decides-int_eq p.a q.a) (Decides-and _ _ (Decides-int_eq p.b q.b) (Decides-eqb p.m.0 q.m.0)) in
+    same_from_decides _ _
+    (Decides-like _ (λ e. λ i. pt (e.0 i) (e.1.0 i) (e.1.1 i)) (λ e. (λ i. (e i).a, (λ i. (e i).b, λ i. (e i).m.0))) fields)
+    (same_true p q, λ e. ap (same_point p) (sym e) ∙ same_refl p)
 
 -- the same as a rule that is computed
 abbrev pub alike : Point → Point → Test

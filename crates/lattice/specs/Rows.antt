@@ -2,24 +2,22 @@
 -- `part_of` a point of a row · `point_of` a point in bytes · `orient_row` a row at orientation 0 or 1 · `table_of` a degree's table, `number_in`, `point_in` what
 -- is read in it, `TableRule` its rule. Their laws: RowLaws.
 -- Assumes nothing.
-use Rattle.std.specs.Prelude.{List, [], ◌∷◌, ◌≡◌, ℕ, zero, suc, ◌+◌, ◌*◌, ◌%◌, ◌/◌, ◌<◌, ℤ, pos, nat_abs, T, get_or}
+use Rattle.std.specs.Prelude.{List, [], ◌∷◌, ◌≡◌, ℕ, zero, suc, ◌+◌, ◌*◌, ◌%◌, ◌/◌, ◌<◌, ℤ, pos, nat_abs, T, get_or, Option, Some, None}
 use Rattle.std.specs.Int.Signed.{non_neg}
 use Rattle.std.specs.Int.{w8}
 use Rattle.std.proofs.Common.{Fits, to_z, of_z}
-use Rattle.lattice.specs.declared.patterns.Spot.TheVariants.{At, Nothing}
 use Rattle.lattice.specs.Patterns.{Row, rows_of, pattern_of, orient, on_spot}
 use Rattle.lattice.specs.Points.{pt}
 use Rattle.lattice.specs.declared.points.Point.{Point}
 use Rattle.lattice.specs.declared.patterns.P.{P}
-use Rattle.lattice.specs.declared.patterns.Spot.{Spot}
 
 -- the vertex itself: it stands where there is no second opposite
 abbrev pub own : Point
 own = pt (pos 0) (pos 0) 0
 
-abbrev pub held : Spot → Point
-held (At p) = p
-held Nothing = own
+abbrev pub held : Option Point → Point
+held (Some p) = p
+held None = own
 
 -- a row's points: 0 the adjacent one, 1 and 2 the opposites
 abbrev pub part_of : ℕ → Row → Point

@@ -1,7 +1,7 @@
 -- Document 01, "The twelve directions": the star of a record, and what the star call answers.
 -- What the promises cite: `adjacent_at`, `first_at`, `second_at` (place j of a record's star), `star_of` (the call).
 -- Assumes nothing.
-use Rattle.std.specs.Prelude.{ℕ, ◌+◌, ◌/◌, eqb, ltb, cond, [], ◌∷◌, pos}
+use Rattle.std.specs.Prelude.{ℕ, ◌+◌, ◌/◌, eqb, ltb, cond, [], ◌∷◌, pos, Option}
 use Rattle.lattice.specs.Patterns.{on_spot, adjacent_of, first_opposite_of, second_opposite_of}
 use Rattle.lattice.specs.Records.{valid_of}
 use Rattle.lattice.specs.Points.{pt, sum_of}
@@ -9,7 +9,6 @@ use Rattle.lattice.specs.declared.points.Point.{Point}
 use Rattle.lattice.specs.declared.records.Record.{Record}
 use Rattle.lattice.specs.declared.records.Level.{Level}
 use Rattle.lattice.specs.declared.stars.Answer.{Answer}
-use Rattle.lattice.specs.declared.patterns.Spot.{Spot}
 
 -- "each pattern point, with its m raised by half of n rounded down": n is the star's level
 abbrev pub scale_of : Level → Point → Point
@@ -25,7 +24,7 @@ adjacent_at r j = step_of r.at r.n (adjacent_of r.d r.k j)
 abbrev pub first_at : Record → ℕ → Point
 first_at r j = step_of r.at r.n (first_opposite_of r.d r.k j)
 
-abbrev pub second_at : Record → ℕ → Spot
+abbrev pub second_at : Record → ℕ → Option Point
 second_at r j = on_spot (step_of r.at r.n) (second_opposite_of r.d r.k j)
 
 -- ---- the star call

@@ -7,25 +7,21 @@
 #![tactic(auto)]
 
 mod arms;
-mod numbers;
 mod patterns;
 mod points;
 mod ranks;
 mod records;
+mod refusals;
 mod rows;
 mod stars;
 mod updates;
 
 pub use arms::{far_arm, first_arm, near_arm, next_arm, regular};
-pub use numbers::{
-    AT_THE_RIM, BAD_FINDING, BAD_LIST, BAD_OUTLINE, BOUNDARY, DONE, LAST_LEVEL, NO_RECORD, NO_ROOM,
-    NOT_ABOVE, NOT_GROWN, NOT_IN_ORDER, NOT_LEFT, NOT_SIX, NOT_VALID, REDUNDANT, SHORT, TORN,
-    TWO_RECORDS,
-};
-pub use patterns::{Spot, foremost};
-pub use points::{Depth, Point, Terms, added, both3, normalise, same_point, turn60};
+pub use patterns::foremost;
+pub use points::{Depth, Point, Terms, added, both3, normalise, power, same_point, turn60};
 pub use ranks::{birth, class, moved, parent, rank};
 pub use records::{Level, Record, blank, size, valid};
+pub use refusals::{DONE, Fault, Refusal, Stopped, number_told};
 pub use rows::{ANSWER_NUMBERS, point_at, put_point, refuse_row};
 pub use stars::{Answer, adjacent_of, first_of, ring, second_of, star};
 pub use updates::{accepts, back, born, centre, updated};

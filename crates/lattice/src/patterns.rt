@@ -4,16 +4,9 @@ ghost use Rattle.std.specs.Prelude.{◌≡◌, ◌+◌, ◌*◌, ◌%◌, ◌/�
 ghost use Rattle.lattice.specs.Points.{turn60_of, turns};
 ghost use Rattle.lattice.specs.Patterns.{pattern_of, adjacent_of, first_opposite_of, second_opposite_of};
 ghost use Rattle.lattice.specs.Bounds.{Hex};
-ghost use Rattle.lattice.specs.Rows.{held, point_of, part_of, orient_row};
+ghost use Rattle.lattice.specs.Rows.{held, point_of, part_of, orient_row, table_of};
 
 use crate::points::{Depth, Point};
-
-// A point that may be missing.
-#[derive(Clone, Copy)]
-pub enum Spot {
-    At(Point),
-    Nothing,
-}
 
 // A point [a, b, m] in bytes: every numerator of the tables is within 6 of zero.
 #[derive(Clone, Copy)]
@@ -78,40 +71,17 @@ const FIRST: usize = 1;
 
 const SECOND: usize = 2;
 
-// Point c of row i of the table of degree 3: 0 the adjacent one, 1 and 2 the opposites.
-fn three(i: usize, c: usize) -> P
-    requires { (i < 6) × (c < 3) }
-    ensures { point_of result ≡ part_of c (orient_row (i % 2) (pattern_of 3 (i / 2))) }
+// The table of degree d.
+fn table(d: u8) -> &'static [[i8; 9]]
+    requires { (3 ≤ d) × (d ≤ 6) }
+    ensures { result.now ≡ table_of d }
 {
-    let rows = THREE;
-    P(rows[i][3 * c], rows[i][3 * c + 1], rows[i][3 * c + 2] as u8)
-}
-
-// Of degree 4.
-fn four(i: usize, c: usize) -> P
-    requires { (i < 8) × (c < 3) }
-    ensures { point_of result ≡ part_of c (orient_row (i % 2) (pattern_of 4 (i / 2))) }
-{
-    let rows = FOUR;
-    P(rows[i][3 * c], rows[i][3 * c + 1], rows[i][3 * c + 2] as u8)
-}
-
-// Of degree 5.
-fn five(i: usize, c: usize) -> P
-    requires { (i < 10) × (c < 3) }
-    ensures { point_of result ≡ part_of c (orient_row (i % 2) (pattern_of 5 (i / 2))) }
-{
-    let rows = FIVE;
-    P(rows[i][3 * c], rows[i][3 * c + 1], rows[i][3 * c + 2] as u8)
-}
-
-// Of degree 6.
-fn six(i: usize, c: usize) -> P
-    requires { (i < 12) × (c < 3) }
-    ensures { point_of result ≡ part_of c (orient_row (i % 2) (pattern_of 6 (i / 2))) }
-{
-    let rows = SIX;
-    P(rows[i][3 * c], rows[i][3 * c + 1], rows[i][3 * c + 2] as u8)
+    match d {
+        3 => &THREE,
+        4 => &FOUR,
+        5 => &FIVE,
+        _ => &SIX,
+    }
 }
 
 // Point c of place j of degree d, at orientation 1 where k is odd, else at orientation 0.
@@ -121,12 +91,8 @@ fn pattern(d: u8, k: u8, j: u8, c: usize) -> P
     ensures { point_of result ≡ part_of c (orient_row (k % 2) (pattern_of d j)) }
 {
     let i = (2 * j + k % 2) as usize;
-    match d {
-        3 => three(i, c),
-        4 => four(i, c),
-        5 => five(i, c),
-        _ => six(i, c),
-    }
+    let row = &table(d)[i];
+    P(row[3 * c], row[3 * c + 1], row[3 * c + 2] as u8)
 }
 
 // Turned by 60 degrees, in bytes: widened before, the tables would be compiled to numbers of four bytes.
@@ -143,10 +109,8 @@ fn turned(p: P, k: u8) -> P
     ensures { point_of result ≡ turns (k / 2) (point_of p) }
 {
     let mut q = p;
-    let mut i: u8 = 1;
-    while i < k {
+    for _ in 0..k / 2 {
         q = turn(q);
-        i = i + 2;
     }
     q
 }
@@ -195,15 +159,13 @@ pub fn farther(d: u8, k: u8, j: u8) -> Point
 }
 
 // The second opposite of corner j, or none. Asked past the turns: before them, the compiler would make branches of the table.
-pub fn second_opposite(d: u8, k: u8, j: u8) -> Spot
+pub fn second_opposite(d: u8, k: u8, j: u8) -> Option<Point>
     requires { (3 ≤ d) × ((d ≤ 6) × (j < d)) }
     ensures { result ≡ second_opposite_of d k j }
 {
     let p = farther(d, k, j);
-    if p.a == 0 {
-        if p.b == 0 {
-            return Spot::Nothing;
-        }
+    if p.a == 0 && p.b == 0 {
+        return None;
     }
-    Spot::At(p)
+    Some(p)
 }

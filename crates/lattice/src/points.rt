@@ -5,10 +5,10 @@ ghost use Rattle.lattice.specs.Terms.{terms_of, added_of, Light};
 ghost use Rattle.lattice.specs.Bounds.{Small};
 
 // How often the denominator holds the factor 3. It belongs to a point and never changes.
-#[derive(Clone, Copy)]
+#[derive(Clone, Copy, PartialEq, Eq)]
 pub struct Depth(pub u8);
 
-#[derive(Clone, Copy)]
+#[derive(Clone, Copy, PartialEq, Eq)]
 pub struct Point {
     pub a: i32,
     pub b: i32,
@@ -19,7 +19,7 @@ pub struct Point {
 pub fn same_point(p: Point, q: Point) -> bool
     ensures { result ≡ same_point p q }
 {
-    (p.a == q.a) & (p.b == q.b) & (p.m.0 == q.m.0)
+    p == q
 }
 
 // 3 divides both.
@@ -35,19 +35,16 @@ pub fn normalise(a: i32, b: i32, m: u8) -> Point
 {
     let mut x = a;
     let mut y = b;
-    let mut d = m;
-    while 0 < d {
-        if both3(x, y) {
-            x = x / 3;
-            y = y / 3;
-            d = d - 1;
-        } else {
+    for d in (0..m).rev() {
+        if !both3(x, y) {
             return Point {
                 a: x,
                 b: y,
-                m: Depth(d),
+                m: Depth(d + 1),
             };
         }
+        x = x / 3;
+        y = y / 3;
     }
     Point {
         a: x,
@@ -69,27 +66,15 @@ pub fn turn60(p: Point) -> Point
     }
 }
 
+// The powers of 3 from the power 0 on, read where they stand: a star asks for two of them at each place.
+static POWERS: [i32; 8] = [1, 3, 9, 27, 81, 243, 729, 2187];
+
 // 3 to the k.
-fn power(k: u8) -> i32
+pub fn power(k: u8) -> i32
     requires { k < 8 }
     ensures { result ≡ pos (3 ^ k) }
 {
-    match k {
-        0 => 1,
-        1 => 3,
-        2 => 9,
-        3 => 27,
-        4 => 81,
-        5 => 243,
-        6 => 729,
-        _ => 2187,
-    }
-}
-
-fn deeper(m: u8, n: u8) -> u8
-    ensures { result ≡ max m n }
-{
-    if m < n { n } else { m }
+    POWERS[k as usize]
 }
 
 // Two points over one denominator, to be added: [a, b, m] and [x, y, m].
@@ -116,7 +101,7 @@ pub fn brought(a: i32, b: i32, m: Depth, x: i32, y: i32, n: Depth) -> Terms
 {
     let i = m.0;
     let j = n.0;
-    let d = deeper(i, j);
+    let d = i.max(j);
     let s = power(d - i);
     let t = power(d - j);
     Terms {

@@ -14,8 +14,7 @@ use crate::stars::step;
 fn left3(x: i32) -> u8
     ensures { (result ≡ mod_z x 3) × (result < 3) }
 {
-    let r = x % 3;
-    if r < 0 { (r + 3) as u8 } else { r as u8 }
+    x.rem_euclid(3) as u8
 }
 
 // What a - b leaves on division by 3.
@@ -26,6 +25,7 @@ pub fn class(p: Point) -> u8
 }
 
 // The least level at which the point can be subdivided.
+#[tactic(auto, unfolding(crate::specs::Ranks::rank_of))]
 pub fn rank(p: Point) -> Level
     requires { p.m.0 ≤ 7 }
     ensures { result.0 ≡ rank_of p }

@@ -3,14 +3,14 @@ ghost use Rattle.std.specs.Prelude.{◌≡◌, ◌&&◌, ◌*◌, ◌^◌, ◌�
 ghost use Rattle.lattice.specs.Points.{normal_at};
 ghost use Rattle.lattice.specs.Records.{within, orientations_of, suits_of, valid_at, valid_of, nobody};
 
-use crate::points::{Depth, Point, both3};
+use crate::points::{Depth, Point, both3, power};
 
 // The level of a star. It belongs to the star and may rise; a depth is no level.
-#[derive(Clone, Copy)]
+#[derive(Clone, Copy, PartialEq, Eq)]
 pub struct Level(pub u8);
 
 // A vertex: its point, degree, orientation and level. Degree 0 marks a boundary vertex.
-#[derive(Clone, Copy)]
+#[derive(Clone, Copy, PartialEq, Eq)]
 pub struct Record {
     pub at: Point,
     pub d: u8,
@@ -34,12 +34,11 @@ pub fn blank() -> Record
     }
 }
 
-// The size of a number, without its sign: i64 holds that of the least i32 too.
+// The size of a number, without its sign.
 pub fn size(x: i32) -> u32
     ensures { result ≡ nat_abs x }
 {
-    let w = x as i64;
-    if w < 0 { (-w) as u32 } else { w as u32 }
+    x.unsigned_abs()
 }
 
 // The most that a numerator may be at depth m: 251 times a power of 3.
@@ -47,15 +46,7 @@ fn range(m: u8) -> u32
     requires { m ≤ 6 }
     ensures { result ≡ 251 * 3 ^ m }
 {
-    match m {
-        0 => 251,
-        1 => 753,
-        2 => 2259,
-        3 => 6777,
-        4 => 20331,
-        5 => 60993,
-        _ => 182979,
-    }
+    251 * (power(m) as u32)
 }
 
 // Both numerators of depth m lie in a record's range.
@@ -71,10 +62,7 @@ fn in_range(a: i32, b: i32, m: u8) -> bool
 fn is_normal(a: i32, b: i32, m: u8) -> bool
     ensures { result ≡ normal_at a b m }
 {
-    if m == 0 {
-        return true;
-    }
-    !both3(a, b)
+    m == 0 || !both3(a, b)
 }
 
 // How many orientations the degrees 0, 1, .. 6 have, four bits each from the lowest on: 4, 12, 12, 2 those of 3, 4, 5, 6.
@@ -97,28 +85,13 @@ fn suits(d: u8, k: u8, n: u8) -> bool
     if d == 0 {
         return k == 0 && n == 0;
     }
-    if orientations(d) <= k {
-        return false;
-    }
-    if 12 < n {
-        return false;
-    }
-    k % 2 == n % 2
+    k < orientations(d) && n <= 12 && k % 2 == n % 2
 }
 
 fn valid_at(a: i32, b: i32, m: u8, d: u8, k: u8, n: u8) -> bool
     ensures { result ≡ valid_at a b m d k n }
 {
-    if !is_normal(a, b, m) {
-        return false;
-    }
-    if 6 < m {
-        return false;
-    }
-    if !in_range(a, b, m) {
-        return false;
-    }
-    suits(d, k, n)
+    is_normal(a, b, m) && m <= 6 && in_range(a, b, m) && suits(d, k, n)
 }
 
 // Whether a record is valid.

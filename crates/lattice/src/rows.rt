@@ -3,10 +3,12 @@ ghost use Rattle.std.specs.Prelude.{◌≡◌, ◌+◌, ◌≤◌, ◌<◌};
 ghost use Rattle.std.proofs.lemmas.List.Edits.{sets};
 ghost use Rattle.lattice.specs.AnswerRows.{point_numbers, answer_numbers};
 ghost use Rattle.lattice.specs.RecordLaws.{Inner};
+ghost use Rattle.lattice.specs.Refusals.{number_of};
 ghost use Rattle.lattice.specs.Stars.{adjacent_at, given, refused};
 
 use crate::points::{Depth, Point};
 use crate::records::Record;
+use crate::refusals::Refusal;
 
 // A count, and six points of three numbers.
 pub const ANSWER_NUMBERS: usize = 19;
@@ -42,10 +44,10 @@ pub fn point_at(row: &[i32; ANSWER_NUMBERS], v: Record, j: u8) -> Point
 }
 
 // A refusal: count 0 and all zeros.
-pub fn refuse_row(out: &mut [i32; ANSWER_NUMBERS], number: u8) -> u8
-    ensures value { result ≡ number }
-    ensures out_after { out.new ≡ answer_numbers (refused number) }
+pub fn refuse_row(out: &mut [i32; ANSWER_NUMBERS], why: Refusal) -> Result<(), Refusal>
+    ensures value { result ≡ Err why }
+    ensures out_after { out.new ≡ answer_numbers (refused (number_of why)) }
 {
     *out = [0; ANSWER_NUMBERS];
-    number
+    Err(why)
 }

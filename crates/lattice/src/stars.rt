@@ -7,15 +7,17 @@ ghost use Rattle.lattice.specs.Points.{pt};
 ghost use Rattle.lattice.specs.Stars.{given, step_of, adjacent_at, first_at, second_at, star_of, nowhere};
 ghost use Rattle.lattice.specs.Bounds.{Small, Near};
 ghost use Rattle.lattice.specs.RecordLaws.{Inner};
+ghost use Rattle.lattice.specs.Refusals.{number_told};
 
 use crate::arms::{first_arm, next_arm, regular};
-use crate::numbers::{BOUNDARY, DONE, NOT_VALID};
-use crate::patterns::{Spot, adjacent, first_opposite, second_opposite};
+use crate::patterns::{adjacent, first_opposite, second_opposite};
 use crate::points::{Depth, Point, added, sum};
 use crate::records::{Level, Record, valid};
+use crate::refusals::Refusal;
 use crate::rows::{ANSWER_NUMBERS, put_point, refuse_row};
 
-// What the star call and the queries answer: document 01's number, the count, and six points of which the unused are [0, 0, 0].
+// What the star call and the queries answer: document 01's number, the count, and six points of which the unused are [0, 0, 0]. It is no Result: `star_of`
+// and `query_of`, which promises cite, give it, and no code makes one.
 #[derive(Clone, Copy)]
 pub struct Answer {
     pub number: u8,
@@ -67,7 +69,7 @@ pub fn first_of(r: Record, j: u8) -> Point
 }
 
 // The second opposite of corner j, or none.
-pub fn second_of(r: Record, j: u8) -> Spot
+pub fn second_of(r: Record, j: u8) -> Option<Point>
     requires { Inner r × (j < r.d) }
     ensures { result ≡ second_at r j }
 {
@@ -75,11 +77,11 @@ pub fn second_of(r: Record, j: u8) -> Spot
     let m = v.m;
     let n = r.n;
     match second_opposite(r.d, r.k, j) {
-        Spot::At(p) => {
+        Some(p) => {
             let q = p.m;
-            Spot::At(step(v.a, v.b, m, n, p.a, p.b, q))
+            Some(step(v.a, v.b, m, n, p.a, p.b, q))
         }
-        Spot::Nothing => Spot::Nothing,
+        None => None,
     }
 }
 
@@ -90,36 +92,32 @@ fn put_regular(out: &mut [i32; ANSWER_NUMBERS], v: Record)
     requires out_value { out.old ≡ six_numbers v.d (λ i. nowhere) }
     ensures { out.new ≡ answer_numbers (given v) }
 {
-    let d = v.d;
     let mut w = first_arm(v);
-    let mut j: u8 = 0;
-    while j < d {
+    for j in 0..v.d {
         put_point(out, 3 * (j as usize) + 1, added(w));
         w = next_arm(w, v.d);
-        j += 1;
     }
 }
 
-// Puts the adjacent points of any star.
+// Puts the adjacent points of any star. One function for this and `put_regular` would be no plainer: they share the loop alone. What `adjacent_of` does stands
+// here itself, since a struct that crosses a call is copied whole.
 fn put_each(out: &mut [i32; ANSWER_NUMBERS], v: Record)
     requires inner { Inner v }
     requires out_value { out.old ≡ six_numbers v.d (λ i. nowhere) }
     ensures { out.new ≡ answer_numbers (given v) }
 {
     let d = v.d;
-    let mut j = 0;
-    while j < d {
+    for j in 0..d {
         let at = v.at;
         let m = at.m;
         let n = v.n;
-        let p = adjacent(v.d, v.k, j);
+        let p = adjacent(d, v.k, j);
         let q = p.m;
         put_point(
             out,
             3 * (j as usize) + 1,
             step(at.a, at.b, m, n, p.a, p.b, q),
         );
-        j += 1;
     }
 }
 
@@ -139,18 +137,18 @@ pub fn ring(out: &mut [i32; ANSWER_NUMBERS], v: Record)
 }
 
 // The star of any six fields, in a lent row: 9 where they are no valid record, 14 where the degree is 0, else the adjacent points in star order.
-// The number is given back; refused, the row is all zeros.
-pub fn star(out: &mut [i32; ANSWER_NUMBERS], r: Record) -> u8
-    ensures value { result ≡ (star_of r).number }
+// Refused, the row is all zeros.
+pub fn star(out: &mut [i32; ANSWER_NUMBERS], r: Record) -> Result<(), Refusal>
+    ensures value { number_told result ≡ (star_of r).number }
     ensures out_after { out.new ≡ answer_numbers (star_of r) }
 {
     if !valid(r) {
-        return refuse_row(out, NOT_VALID);
+        return refuse_row(out, Refusal::NotValid);
     }
     let d = r.d;
     if d == 0 {
-        return refuse_row(out, BOUNDARY);
+        return refuse_row(out, Refusal::Boundary);
     }
     ring(out, r);
-    DONE
+    Ok(())
 }

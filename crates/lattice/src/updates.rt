@@ -57,6 +57,7 @@ fn four_turn(back: u8, k: u8) -> u8
 }
 
 // An old adjacent vertex after the subdivision, back being its direction to the centre.
+#[tactic(auto, unfolding(crate::specs::Subdivision::update_of))]
 pub fn updated(back: u8, u: Record) -> Record
     requires { (back < 12) × (u.n.0 < 255) }
     ensures { result ≡ update_of back u }
@@ -106,16 +107,10 @@ fn has_rule(back: u8, d: u8, k: u8) -> bool
 }
 
 // An old adjacent vertex that tears nothing: a boundary vertex, or one of level n with a rule.
+#[tactic(auto, unfolding(crate::specs::Subdivision::accepts_of))]
 pub fn accepts(back: u8, n: Level, u: Record) -> bool
     requires { u.k < 252 }
     ensures { result ≡ accepts_of back n.0 u }
 {
-    let d = u.d;
-    if d == 0 {
-        return true;
-    }
-    if u.n.0 != n.0 {
-        return false;
-    }
-    has_rule(back, d, u.k)
+    u.d == 0 || (u.n == n && has_rule(back, u.d, u.k))
 }

@@ -2,7 +2,7 @@
 -- `mod_below` · `rem-neg`, `rem-pos` from the machine's remainder · `rem-asked`, `sum-cast`, `sum_is`, `rem-cast`, `rem_is` the same at 64 bits ·
 -- `left3-parts`, `left3-plus`, `left3-minus` a number, a sum and a difference by 3.
 -- Assumes nothing.
-use Rattle.std.specs.Prelude.{◌≡◌, refl, ◌⊎◌, true, false, ℕ, zero, suc, ◌%◌, ◌≤◌, ◌<◌, ◌-◌, ◌^◌, ◌+◌, ◌*◌, ◌/◌, ℤ, neg_ℤ, pos, negsuc, ◌+ℤ◌, nat_abs, ◌-ℤ◌, T}
+use Rattle.std.specs.Prelude.{◌≡◌, refl, ◌⊎◌, true, false, ℕ, zero, suc, ◌%◌, ◌≤◌, ◌<◌, ◌-◌, ◌^◌, ◌+◌, ◌*◌, ◌/◌, ℤ, neg_ℤ, pos, negsuc, ◌+ℤ◌, nat_abs, ◌-ℤ◌, T, None}
 use Rattle.std.proofs.Common.{sym, ◌∙◌, subst, ap, inl, inr, ⊎_elim, arith, ltb-true, le-ltb, mod-lt, mod-eq_of_lt, SFits, to_z, of_z, Fits, to_z-of_z}
 use Rattle.std.proofs.Math.IntN.{sub_ℕ}
 use Rattle.std.specs.Int.Signed.{quot_z, rem_z, lt_z, non_neg, mag_rem}
@@ -10,7 +10,6 @@ use Rattle.std.proofs.Math.Nat.{suc-mod, mod_self, mul-mod_right}
 use Rattle.std.proofs.Math.Facts.{to_z_pos}
 use Rattle.std.specs.Int.{w64}
 use Rattle.std.proofs.Math.Decide.{dec_lt}
-use Rattle.std.proofs.Math.Option.{none}
 use Rattle.laws.specs.Sizes.{fits, mag-quot}
 use Rattle.laws.specs.Parts.{up, dn, add_is, minus_is}
 
@@ -125,7 +124,7 @@ left3-parts (negsuc x) = go (x % 3) refl
     go (suc zero) e = omega arith
     go (suc (suc k)) e =
         let two : 0 + 2 * suc x ≡ 3 * (2 * (x / 3) + 2) = omega arith in
-        let none : (0 + 2 * suc x) % 3 ≡ 0 = ap (λ (n : ℕ). n % 3) two ∙ mul-mod_right 3 (2 * (x / 3) + 2) in
+        let None : (0 + 2 * suc x) % 3 ≡ 0 = ap (λ (n : ℕ). n % 3) two ∙ mul-mod_right 3 (2 * (x / 3) + 2) in
         omega arith
 
 -- what a sum leaves

@@ -2,7 +2,7 @@
 -- `parents-there`, `parents-creator`, `parents-star`, `root-star` the tests of growth, by the parents · `creator-first`, `creator-second`,
 -- `creator-third`, `creator-any` · `told-by` what the parents say, by the number of those subdivided.
 -- Assumes nothing.
-use Rattle.std.specs.Prelude.{◌≡◌, refl, Bool, cond, ◌&&◌, List, ℕ, ◌+◌, ◌*◌, ◌-◌, ◌%◌, ◌≤◌, ◌<◌, eqb, ltb, get_or}
+use Rattle.std.specs.Prelude.{◌≡◌, refl, Bool, cond, ◌&&◌, List, ℕ, ◌+◌, ◌*◌, ◌-◌, ◌%◌, ◌≤◌, ◌<◌, eqb, ltb, get_or, Option, Some, None}
 use Rattle.std.proofs.Math.Path.{sym, ap}
 use Rattle.std.proofs.Common.{◌∙◌, arith}
 use Rattle.std.proofs.Math.Bool.{true, false, and-true, and_comm}
@@ -17,26 +17,24 @@ use Rattle.growth.specs.Sheets.{vertex}
 use Rattle.growth.specs.Model.{by_splits}
 use Rattle.growth.specs.Local.{is_there, is_over, there, over, star_test, expected}
 use Rattle.table.specs.Entries.{look_up}
-use Rattle.table.specs.declared.entries.Looked.{Looked}
-use Rattle.table.specs.declared.entries.Looked.TheVariants.{Absent, Held}
 use Rattle.local.specs.Sheet.{as_option, sheet_of}
-use Rattle.local.specs.Rings.{one}
+use Rattle.std.specs.Int.{from_bool}
 use Rattle.local.specs.Parents.{stand_of, stand_at, parent_at, parents_of, seen, split, all_there, all_split, creator_in, creator_over}
 use Rattle.local.specs.Parents.{splits_in, degrees, turns, same_star, like_star, told_in}
 use Rattle.local.specs.declared.parents.Parents.{Parents}
 
 -- ---- what is there, and what was subdivided, by its number
-seen-is : (l : Looked) → seen (stand_of l) ≡ is_there (as_option l)
-seen-is Absent = refl
-seen-is (Held u) = go (eqb u.d 6)
+seen-is : (l : Option Record) → seen (stand_of l) ≡ is_there (as_option l)
+seen-is None = refl
+seen-is (Some u) = go (eqb u.d 6)
   where
     go : (b : Bool) → seen (cond b (u.n.0 + 2) 1) ≡ true
     go true = lt-ltb 0 (u.n.0 + 2) (omega arith)
     go false = refl
 
-split-is : (b : ℕ) (l : Looked) → split b (stand_of l) ≡ is_over b (as_option l)
-split-is b Absent = le-ltb (b + 2) 0 (omega arith)
-split-is b (Held u) = go (eqb u.d 6)
+split-is : (b : ℕ) (l : Option Record) → split b (stand_of l) ≡ is_over b (as_option l)
+split-is b None = le-ltb (b + 2) 0 (omega arith)
+split-is b (Some u) = go (eqb u.d 6)
   where
     go : (six : Bool) → split b (cond six (u.n.0 + 2) 1) ≡ six && ltb b u.n.0
     go true = same_test (ltb (b + 2) (u.n.0 + 2)) (ltb b u.n.0)
@@ -119,7 +117,7 @@ module _ (p : Point) (s : Parents) where
 
 -- ---- what the parents say, by the number of those subdivided
 abbrev number : Bool → Bool → Bool → ℕ
-number x y z = one x + 2 * one y + 4 * one z
+number x y z = from_bool x + 2 * from_bool y + 4 * from_bool z
 
 all_split_lem : (p : Point) (k b n : ℕ) (x y z : Bool) → number x y z ≡ 7 → by_splits p x y z k b n ≡ vertex p 6 (n % 2) n
 unfolding by_splits

@@ -3,16 +3,14 @@
 -- what the tests ask of them, which are growth's own (specs/ParentLaws) · `splits_in` which of them were subdivided, as a number, `degrees`, `turns`
 -- what follows from it · `same_star`.
 -- Assumes nothing.
-use Rattle.std.specs.Prelude.{Bool, cond, ◌&&◌, List, [], ◌∷◌, ℕ, ◌+◌, ◌*◌, ◌-◌, ◌≤◌, ◌<◌, eqb, ltb}
+use Rattle.std.specs.Prelude.{Bool, cond, ◌&&◌, List, [], ◌∷◌, ℕ, ◌+◌, ◌*◌, ◌-◌, ◌≤◌, ◌<◌, eqb, ltb, Option, Some, None}
 use Rattle.lattice.specs.Bounds.{Small}
 use Rattle.lattice.specs.Ranks.{rank_of, birth_of, parent_of}
 use Rattle.lattice.specs.declared.points.Point.{Point}
 use Rattle.lattice.specs.declared.records.Record.{Record}
 use Rattle.growth.specs.Model.{by_splits}
 use Rattle.table.specs.Entries.{look_up}
-use Rattle.table.specs.declared.entries.Looked.{Looked}
-use Rattle.table.specs.declared.entries.Looked.TheVariants.{Absent, Held}
-use Rattle.local.specs.Rings.{one}
+use Rattle.std.specs.Int.{from_bool}
 use Rattle.local.specs.declared.parents.Parents.{Parents}
 
 -- a point that has parents
@@ -22,9 +20,9 @@ pub record Born (p : Point) : Type 0 where
   pub rank : 0 < rank_of p
 
 -- what was looked up, as a number: 0 nothing, n + 2 a record of degree 6 and level n, else 1
-abbrev pub stand_of : Looked → ℕ
-stand_of Absent = 0
-stand_of (Held u) = cond (eqb u.d 6) (u.n.0 + 2) 1
+abbrev pub stand_of : Option Record → ℕ
+stand_of None = 0
+stand_of (Some u) = cond (eqb u.d 6) (u.n.0 + 2) 1
 
 abbrev pub stand_at : List ℕ → Point → ℕ
 stand_at t p = stand_of (look_up t p)
@@ -61,7 +59,7 @@ creator_over p s = split (rank_of p - 2) (creator_in p s)
 
 -- which of them were subdivided at level b: the first counts 1, the second 2, the third 4
 abbrev pub splits_in : Parents → ℕ → ℕ
-splits_in s b = one (split b s.first) + 2 * one (split b s.second) + 4 * one (split b s.third)
+splits_in s b = from_bool (split b s.first) + 2 * from_bool (split b s.second) + 4 * from_bool (split b s.third)
 
 -- by that number, where not all were: the degree, and the turn since birth
 abbrev pub degrees : List ℕ

@@ -1,9 +1,10 @@
 -- Three points round one, in every fourth direction, and how many of them are there: the hexagons round a corner, and the corners of a centre that
 -- are not its parents.
--- `one` · `ring_of` how many · `ring-all` all three · `ringed`, `ring-corner` what a corner asks, by that number · `ring-none`, `ring-boundary`,
+-- `ring_of` how many · `ring-all` all three · `ringed`, `ring-corner` what a corner asks, by that number · `ring-none`, `ring-boundary`,
 -- `ring_cut`, `ring-whole` its cases.
 -- Assumes nothing.
 use Rattle.std.specs.Prelude.{◌≡◌, refl, Bool, true, false, cond, ◌&&◌, ◌||◌, not, ℕ, ◌+◌, ◌≤◌, ◌<◌, eqb, ltb}
+use Rattle.std.specs.Int.{from_bool}
 use Rattle.std.proofs.Common.{sym, eq-eqb, ne_eqb, lt-ltb, le-ltb}
 use Rattle.std.proofs.Math.Bool.{and-true}
 use Rattle.lattice.specs.Ranks.{move_of}
@@ -11,13 +12,10 @@ use Rattle.lattice.specs.declared.points.Point.{Point}
 use Rattle.growth.specs.Sheets.{Sheet}
 use Rattle.growth.specs.Local.{there}
 
-abbrev pub one : Bool → ℕ
-one b = cond b 1 0
-
 abbrev pub ring_of : Sheet → Point → ℕ → ℕ
-ring_of R p e = one (there R (move_of p e 0)) + one (there R (move_of p (e + 4) 0)) + one (there R (move_of p (e + 8) 0))
+ring_of R p e = from_bool (there R (move_of p e 0)) + from_bool (there R (move_of p (e + 4) 0)) + from_bool (there R (move_of p (e + 8) 0))
 
-pub ring-all : (x y z : Bool) → eqb (one x + one y + one z) 3 ≡ x && (y && z)
+pub ring-all : (x y z : Bool) → eqb (from_bool x + from_bool y + from_bool z) 3 ≡ x && (y && z)
 ring-all true true true = refl
 ring-all true true false = refl
 ring-all true false true = refl
@@ -31,7 +29,8 @@ ring-all false false false = refl
 abbrev pub ringed : ℕ → Bool → Bool
 ringed h boundary = cond (eqb h 0) false (cond boundary (ltb h 3) (not (ltb h 3)))
 
-pub ring-corner : (x y z boundary : Bool) → (x || (y || z)) && cond (z && (y && (x && true))) (not boundary) boundary ≡ ringed (one x + one y + one z) boundary
+pub ring-corner : (x y z boundary : Bool)
+    → (x || (y || z)) && cond (z && (y && (x && true))) (not boundary) boundary ≡ ringed (from_bool x + from_bool y + from_bool z) boundary
 ring-corner true true true true = refl
 ring-corner true true true false = refl
 ring-corner true true false true = refl

@@ -1,7 +1,8 @@
 -- The records of a table judged slot by slot.
--- `judged_at` a slot judged · `is_some` there is one · `some_more`, `pass-more` one slot more · `passes-failed`, `passes-all` the two ends.
+-- `judged_at` a slot judged · `has_any` there is one · `some_more`, `pass-more` one slot more · `passes-failed`, `passes-all` the two ends.
 -- Assumes nothing.
-use Rattle.std.specs.Prelude.{◌≡◌, refl, Bool, true, false, ◌&&◌, ◌||◌, List, [], ◌∷◌, ◌++◌, ℕ, zero, suc, ◌+◌, ◌-◌, ◌<◌}
+use Rattle.std.specs.Prelude.{◌≡◌, refl, Bool, true, false, ◌&&◌, ◌||◌, Option, Some, None, is_some, unwrap_or, List, [], ◌∷◌, ◌++◌}
+use Rattle.std.specs.Prelude.{ℕ, zero, suc, ◌+◌, ◌-◌, ◌<◌}
 use Rattle.std.proofs.Math.Path.{sym, ap}
 use Rattle.std.proofs.Common.{◌∙◌, arith}
 use Rattle.std.proofs.Math.Bool.{and_assoc, and-true}
@@ -13,24 +14,21 @@ use Rattle.growth.specs.Growth.{all_pass, grown_test}
 use Rattle.table.specs.Slots.{slot_at, slots_of}
 use Rattle.table.specs.Entries.{listed, records_below, records_of}
 use Rattle.table.specs.MapLaws.{records-none, records-more}
-use Rattle.table.specs.declared.slots.Slot.{Slot}
-use Rattle.table.specs.declared.slots.Slot.TheVariants.{Free, Holds}
 use Rattle.local.specs.Sheet.{sheet_of, passes_all}
-use Rattle.local.specs.declared.checks.Judged.{Judged}
 
-abbrev pub judged_slot : List ℕ → Slot → Judged
-judged_slot t Free = record { holds = false; passes = true }
-judged_slot t (Holds r) = record { holds = true; passes = local_test (sheet_of t) r }
+abbrev pub judged_slot : List ℕ → Option Record → Option Bool
+judged_slot t None = None
+judged_slot t (Some r) = Some (local_test (sheet_of t) r)
 
--- slot i: whether it holds a record, and whether it is free or its record passes
-unfoldable pub judged_at : List ℕ → ℕ → Judged
+-- slot i: whether its record passes, if it holds one
+unfoldable pub judged_at : List ℕ → ℕ → Option Bool
 judged_at t i = judged_slot t (slot_at t i)
 
-abbrev pub is_some : List Record → Bool
-is_some [] = false
-is_some (r ∷ rs) = true
+abbrev pub has_any : List Record → Bool
+has_any [] = false
+has_any (r ∷ rs) = true
 
-some-append : (xs ys : List Record) → is_some (xs ++ ys) ≡ is_some xs || is_some ys
+some-append : (xs ys : List Record) → has_any (xs ++ ys) ≡ has_any xs || has_any ys
 some-append [] ys = refl
 some-append (x ∷ xs) ys = refl
 
@@ -43,57 +41,57 @@ module _ (t : List ℕ) where
   abbrev pub pass_below : ℕ → Bool
   pass_below k = all_pass (sheet_of t) (records_below t k)
 
-  judged-some : (s : Slot) → is_some (listed s) ≡ (judged_slot t s).holds
-  judged-some Free = refl
-  judged-some (Holds r) = refl
+  judged-some : (s : Option Record) → has_any (listed s) ≡ is_some (judged_slot t s)
+  judged-some None = refl
+  judged-some (Some r) = refl
 
-  judged-pass : (s : Slot) → all_pass (sheet_of t) (listed s) ≡ (judged_slot t s).passes
-  judged-pass Free = refl
-  judged-pass (Holds r) = and-true (local_test (sheet_of t) r)
+  judged-pass : (s : Option Record) → all_pass (sheet_of t) (listed s) ≡ unwrap_or (judged_slot t s) true
+  judged-pass None = refl
+  judged-pass (Some r) = and-true (local_test (sheet_of t) r)
 
-  pub some-none : is_some (records_below t 0) ≡ false
-  some-none = ap is_some (records-none t)
+  pub some-none : has_any (records_below t 0) ≡ false
+  some-none = ap has_any (records-none t)
 
   pub pass-none : pass_below 0 ≡ true
   pass-none = ap (all_pass (sheet_of t)) (records-none t)
 
-  pub some_more : (i : ℕ) → is_some (records_below t i) || (judged_at t i).holds ≡ is_some (records_below t (i + 1))
+  pub some_more : (i : ℕ) → has_any (records_below t i) || is_some (judged_at t i) ≡ has_any (records_below t (i + 1))
   unfolding judged_at
   some_more i =
-      sym (ap is_some (records-more t i) ∙ some-append (records_below t i) (listed (slot_at t i))
-      ∙ ap (λ (b : Bool). is_some (records_below t i) || b) (judged-some (slot_at t i)))
+      sym (ap has_any (records-more t i) ∙ some-append (records_below t i) (listed (slot_at t i))
+      ∙ ap (λ (b : Bool). has_any (records_below t i) || b) (judged-some (slot_at t i)))
 
-  pub pass-more : (i : ℕ) → pass_below i && (judged_at t i).passes ≡ pass_below (i + 1)
+  pub pass-more : (i : ℕ) → pass_below i && unwrap_or (judged_at t i) true ≡ pass_below (i + 1)
   unfolding judged_at
   pass-more i =
       sym (ap (all_pass (sheet_of t)) (records-more t i)
       ∙ pass-append (sheet_of t) (records_below t i) (listed (slot_at t i)) ∙ ap (λ (b : Bool). pass_below i && b) (judged-pass (slot_at t i)))
 
   -- a slot that fails, whatever comes after it
-  later : (i k : ℕ) → (judged_at t i).passes ≡ false → pass_below (i + 1 + k) ≡ false
+  later : (i k : ℕ) → unwrap_or (judged_at t i) true ≡ false → pass_below (i + 1 + k) ≡ false
   later i zero e =
       let z : i + 1 + 0 ≡ i + 1 = omega arith in
       ap pass_below z ∙ sym (pass-more i) ∙ ap (λ (b : Bool). pass_below i && b) e ∙ and-false (pass_below i)
   later i (suc k) e =
       let z : i + 1 + suc k ≡ i + 1 + k + 1 = omega arith in
-      ap pass_below z ∙ sym (pass-more (i + 1 + k)) ∙ ap (λ (b : Bool). b && (judged_at t (i + 1 + k)).passes) (later i k e)
+      ap pass_below z ∙ sym (pass-more (i + 1 + k)) ∙ ap (λ (b : Bool). b && unwrap_or (judged_at t (i + 1 + k)) true) (later i k e)
 
-  passed : (rs : List Record) → is_some rs && all_pass (sheet_of t) rs ≡ grown_test (sheet_of t) rs
+  passed : (rs : List Record) → has_any rs && all_pass (sheet_of t) rs ≡ grown_test (sheet_of t) rs
   passed [] = refl
   passed (r ∷ rs) = refl
 
-  all-passed : is_some (records_of t) && pass_below (slots_of t) ≡ passes_all t
+  all-passed : has_any (records_of t) && pass_below (slots_of t) ≡ passes_all t
   unfolding passes_all
   all-passed = passed (records_of t)
 
   -- so ends the pass over the slots: at one that fails, or after the last
-  pub passes-failed : (i : ℕ) → i < slots_of t → (judged_at t i).passes ≡ false → false ≡ passes_all t
+  pub passes-failed : (i : ℕ) → i < slots_of t → unwrap_or (judged_at t i) true ≡ false → false ≡ passes_all t
   passes-failed i h e =
       let z : slots_of t ≡ i + 1 + (slots_of t - (i + 1)) = omega arith in
-      sym (and-false (is_some (records_of t)))
-      ∙ ap (λ (b : Bool). is_some (records_of t) && b) (sym (ap pass_below z ∙ later i (slots_of t - (i + 1)) e)) ∙ all-passed
+      sym (and-false (has_any (records_of t)))
+      ∙ ap (λ (b : Bool). has_any (records_of t) && b) (sym (ap pass_below z ∙ later i (slots_of t - (i + 1)) e)) ∙ all-passed
 
-  pub passes-all : (k : ℕ) → k ≡ slots_of t → pass_below k ≡ true → is_some (records_below t k) ≡ passes_all t
+  pub passes-all : (k : ℕ) → k ≡ slots_of t → pass_below k ≡ true → has_any (records_below t k) ≡ passes_all t
   passes-all k e h =
-      sym (and-true (is_some (records_below t k)))
-      ∙ ap (λ (b : Bool). is_some (records_below t k) && b) (sym h) ∙ ap (λ (k : ℕ). is_some (records_below t k) && pass_below k) e ∙ all-passed
+      sym (and-true (has_any (records_below t k)))
+      ∙ ap (λ (b : Bool). has_any (records_below t k) && b) (sym h) ∙ ap (λ (k : ℕ). has_any (records_below t k) && pass_below k) e ∙ all-passed

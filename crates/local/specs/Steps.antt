@@ -13,7 +13,7 @@ use Rattle.lattice.specs.Ranks.{rank_of, birth_of, parent_of}
 use Rattle.lattice.specs.RankBounds.{rank-top, birth-parity}
 use Rattle.lattice.specs.declared.points.Point.{Point}
 use Rattle.geometry.specs.RankLaws.{times-one}
-use Rattle.local.specs.Rings.{one}
+use Rattle.std.specs.Int.{from_bool}
 use Rattle.local.specs.BornLaws.{rank-least}
 
 -- the step in direction e
@@ -65,6 +65,6 @@ parent-by p j h = parent-step p j h
 
 -- lowest terms, by whether a first third comes out
 pub lowest-terms : (x y : ℤ) (m : ℕ) (w : Bool) → by3 x && by3 y ≡ w → 0 < m
-    → normal_of (cond w (quot_z x (pos 3)) x) (cond w (quot_z y (pos 3)) y) (m - one w) ≡ normal_of x y m
+    → normal_of (cond w (quot_z x (pos 3)) x) (cond w (quot_z y (pos 3)) y) (m - from_bool w) ≡ normal_of x y m
 lowest-terms x y m true e h = normal-step x y m h e
 lowest-terms x y m false e h = let z : m - 0 ≡ m = omega arith in ap (normal_of x y) z

@@ -10,7 +10,7 @@ ghost use Rattle.local.specs.Slots.{judged_at};
 use crate::lookups::adjacents_there;
 use crate::places::place_passes;
 use lattice::{Record, rank};
-use table::{Slot, read_slot};
+use table::read_slot;
 
 // What degree 6 asks: a level of at least the rank, and all six adjacents.
 fn six_passes(t: &[u8], r: Record, n: usize) -> bool
@@ -34,36 +34,17 @@ fn passes(t: &[u8], r: Record, n: usize) -> bool
     requires t_value { in_order_of t.now ≡ true }
     ensures { result ≡ local_test (sheet_of t.now) r }
 {
-    if !place_passes(t, r, n) {
-        return false;
-    }
-    six_passes(t, r, n)
+    place_passes(t, r, n) && six_passes(t, r, n)
 }
 
-// A slot: whether it holds a record, and whether it is free or its record passes.
-#[derive(Clone, Copy)]
-pub struct Judged {
-    pub holds: bool,
-    pub passes: bool,
-}
-
-fn judge(t: &[u8], i: usize, n: usize) -> Judged
+// Whether the record in slot i passes, if one is there.
+fn judge(t: &[u8], i: usize, n: usize) -> Option<bool>
     requires { InOrder t.now × ((n ≡ slots_of t.now) × (i < n)) }
     ensures { result ≡ judged_at t.now i }
 {
-    let s = read_slot(t, i);
-    match s {
-        Slot::Free => Judged {
-            holds: false,
-            passes: true,
-        },
-        Slot::Holds(r) => {
-            let ok = passes(t, r, n);
-            Judged {
-                holds: true,
-                passes: ok,
-            }
-        }
+    match read_slot(t, i) {
+        None => None,
+        Some(r) => Some(passes(t, r, n)),
     }
 }
 
@@ -72,15 +53,14 @@ pub fn all_pass(t: &[u8], n: usize) -> bool
     requires { InOrder t.now × (n ≡ slots_of t.now) }
     ensures { result ≡ passes_all t.now }
 {
-    let mut i = 0;
     let mut any = false;
-    while i < n {
-        let v = judge(t, i, n);
-        if !v.passes {
-            return false;
+    for i in 0..n {
+        if let Some(good) = judge(t, i, n) {
+            if !good {
+                return false;
+            }
+            any = true;
         }
-        any = any | v.holds;
-        i += 1;
     }
     any
 }

@@ -8,17 +8,10 @@ ghost use Rattle.growth.specs.Local.{there};
 ghost use Rattle.table.specs.Slots.{Table};
 ghost use Rattle.table.specs.Order.{in_order_of};
 ghost use Rattle.local.specs.Sheet.{sheet_of};
-ghost use Rattle.local.specs.Rings.{one, ring_of};
+ghost use Rattle.local.specs.Rings.{ring_of};
 
 use lattice::{ANSWER_NUMBERS, Level, Point, Record, moved, point_at, ring};
 use table::{is_there, stands};
-
-// 1 for true, 0 for false.
-pub fn bit(b: bool) -> u8
-    ensures { (result ≡ one b) × (result ≤ 1) }
-{
-    if b { 1 } else { 0 }
-}
 
 // How many of three points are there: those one unit from p in direction e and in every fourth from it on.
 pub fn ring_count(t: &[u8], p: Point, e: u8, n: usize) -> u8
@@ -29,7 +22,7 @@ pub fn ring_count(t: &[u8], p: Point, e: u8, n: usize) -> u8
     let x = is_there(t, moved(p, e, Level(0)), n);
     let y = is_there(t, moved(p, e + 4, Level(0)), n);
     let z = is_there(t, moved(p, e + 8, Level(0)), n);
-    bit(x) + bit(y) + bit(z)
+    u8::from(x) + u8::from(y) + u8::from(z)
 }
 
 // All six adjacents of a record of degree 6 are there.
@@ -40,13 +33,11 @@ pub fn adjacents_there(t: &[u8], r: Record, n: usize) -> bool
 {
     let mut row = [0; ANSWER_NUMBERS];
     ring(&mut row, r);
-    let mut j: u8 = 0;
-    while j < 6 {
+    for j in 0..6 {
         let q = point_at(&row, r, j);
         if !stands(t, q.a, q.b, q.m.0, n) {
             return false;
         }
-        j += 1;
     }
     true
 }

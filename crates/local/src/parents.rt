@@ -6,12 +6,12 @@ ghost use Rattle.table.specs.Slots.{Table};
 ghost use Rattle.local.specs.Steps.{step_by};
 ghost use Rattle.local.specs.Parents.{Born, stand_of, stand_at, parent_at, parents_of, seen, split, all_there, all_split, creator_in, creator_over, splits_in};
 
-use crate::lookups::bit;
 use crate::steps::stepped;
-use lattice::{Depth, Point, birth, foremost, parent, rank, turn60};
-use table::{Looked, look_up};
+use lattice::{Depth, Point, Record, birth, foremost, parent, rank, turn60};
+use table::look_up;
 
 // The parents of a point, in their order: 0 where none is there, n + 2 where it has degree 6 and level n, else 1.
+// No enum: which it is cannot be foreseen, and `told_in` adds up what the numbers say with no branch.
 #[derive(Clone, Copy)]
 pub struct Parents {
     pub first: u32,
@@ -20,12 +20,12 @@ pub struct Parents {
 }
 
 // What was looked up, as such a number.
-fn stand(l: Looked) -> u32
+fn stand(l: Option<Record>) -> u32
     ensures { result ≡ stand_of l }
 {
     match l {
-        Looked::Absent => 0,
-        Looked::Held(u) => { if u.d == 6 { (u.n.0 as u32) + 2 } else { 1 } }
+        None => 0,
+        Some(u) => { if u.d == 6 { u32::from(u.n.0) + 2 } else { 1 } }
     }
 }
 
@@ -97,7 +97,7 @@ fn is_seen(s: u32) -> bool
 fn is_split(s: u32, b: u8) -> bool
     ensures { result ≡ split b s }
 {
-    (b as u32) + 2 < s
+    u32::from(b) + 2 < s
 }
 
 // All three are there.
@@ -145,5 +145,7 @@ pub fn creator_over(p: Point, s: Parents) -> bool
 pub fn splits(s: Parents, b: u8) -> u8
     ensures { (result ≡ splits_in s b) × (result ≤ 7) }
 {
-    bit(is_split(s.first, b)) + 2 * bit(is_split(s.second, b)) + 4 * bit(is_split(s.third, b))
+    u8::from(is_split(s.first, b))
+        + 2 * u8::from(is_split(s.second, b))
+        + 4 * u8::from(is_split(s.third, b))
 }

@@ -5,7 +5,6 @@ ghost use Rattle.lattice.specs.Bounds.{summable};
 ghost use Rattle.lattice.specs.Points.{normal_of};
 ghost use Rattle.local.specs.Steps.{step_by};
 
-use crate::lookups::bit;
 use lattice::{Depth, Point, both3, normalise};
 
 // A third of x, or x.
@@ -22,7 +21,7 @@ fn lowest(x: i32, y: i32, m: Depth) -> Point
 {
     let d = m.0;
     let whole = both3(x, y);
-    normalise(third_if(whole, x), third_if(whole, y), d - bit(whole))
+    normalise(third_if(whole, x), third_if(whole, y), d - u8::from(whole))
 }
 
 // Where the step by x and y from [a, b, m] ends.

@@ -21,14 +21,6 @@ fn point_at(points: &[i32], m: u8, i: usize) -> Point
     Point { a, b, m: Depth(m) }
 }
 
-// 1 where a point is in the table, else 0.
-fn one_if_there(t: &[u8], p: Point, n: usize) -> u64
-    requires { Table t.now n }
-    ensures { result ≡ one (holds t.now p) }
-{
-    if is_there(t, p, n) { 1 } else { 0 }
-}
-
 // How many of the points a, b, a, b, .. of depth m, normalised, the table holds; 0 where its length is no table's.
 #[unsafe(no_mangle)]
 pub extern "C" fn fb_lookups(table: &[u8], points: &[i32], m: u8) -> u64
@@ -38,13 +30,9 @@ pub extern "C" fn fb_lookups(table: &[u8], points: &[i32], m: u8) -> u64
     if n == 0 {
         return 0;
     }
-    let count = points.len() / 2;
     let mut found = 0;
-    let mut i = 0;
-    while i < count {
-        let p = point_at(points, m, i);
-        found += one_if_there(table, p, n);
-        i += 1;
+    for i in 0..points.len() / 2 {
+        found += u64::from(is_there(table, point_at(points, m, i), n));
     }
     found
 }

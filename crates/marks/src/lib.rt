@@ -30,6 +30,7 @@ fn with_bit(byte: u8, k: usize) -> u8
 }
 
 // Place i is marked.
+#[tactic(auto, unfolding(crate::specs::Marks::marked_at))]
 pub fn marked(marks: &[u8], i: usize) -> bool
     requires { i / 8 < length marks.now }
     ensures { result ≡ marked_at marks.now i }

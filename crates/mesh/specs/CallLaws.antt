@@ -2,15 +2,13 @@
 -- `standing-ready`, `centre-inner`, `ready-whole` what is known past 4 and 5, and past 7 and 8 · `vertex-4` .. `vertex-0` the outcome in each case ·
 -- `call-1`, `call-3`, `call-looked`, `call-vertex` the call's · `looked-standing` a vertex as it is looked up.
 -- Assumes nothing.
-use Rattle.std.specs.Prelude.{◌≡◌, refl, Bool, true, false, ◌&&◌, List, ℕ, ◌≤◌, ◌<◌, ltb, ℤ}
+use Rattle.std.specs.Prelude.{◌≡◌, refl, Bool, true, false, ◌&&◌, List, ℕ, ◌≤◌, ◌<◌, ltb, ℤ, Option, Some, None}
 use Rattle.std.proofs.Common.{sym, ◌∙◌, arith, lt-ltb, le-ltb, eq-eqb, ne_eqb}
 use Rattle.std.proofs.Math.Path.{ap}
 use Rattle.std.proofs.Math.Bool.{cond, not}
 use Rattle.laws.specs.Each.{not-both, upto-each}
-use Rattle.laws.specs.Sizes.{fits}
 use Rattle.laws.specs.Rules.{upto}
 use Rattle.laws.specs.Choices.{of-true}
-use Rattle.laws.specs.Machine.{held}
 use Rattle.lattice.specs.Patterns.{six}
 use Rattle.lattice.specs.Subdivision.{centre_of, new_of}
 use Rattle.lattice.specs.Records.{valid_of}
@@ -18,14 +16,12 @@ use Rattle.geometry.specs.SubdivisionLaws.{centre-valid}
 use Rattle.lattice.specs.RecordLaws.{Inner, inner, valid-level}
 use Rattle.lattice.specs.Points.{normal_of}
 use Rattle.table.specs.Entries.{look_up, is_held, replace_of}
-use Rattle.table.specs.MapLaws.{room, lookup-point, lookup-valid}
+use Rattle.table.specs.MapLaws.{lookup-point, lookup-valid}
 use Rattle.table.specs.Order.{InOrder, in_order_of}
 use Rattle.table.specs.Slots.{free_slots}
 use Rattle.lattice.specs.declared.points.Point.{Point}
 use Rattle.lattice.specs.declared.records.Record.{Record}
-use Rattle.table.specs.declared.entries.Looked.{Looked}
-use Rattle.table.specs.declared.entries.Looked.TheVariants.{Absent, Held}
-use Rattle.mesh.specs.SubdivideLaws.{Ready, Intact, old}
+use Rattle.mesh.specs.SubdivideLaws.{Ready, Intact}
 use Rattle.mesh.specs.WriteLaws.{Standing}
 use Rattle.mesh.specs.Subdivide.{adjacent_fits, new_fits, torn, subdivided, MeshAfter, mesh_after, subdivide_vertex, subdivide_looked}
 use Rattle.mesh.specs.Subdivide.{subdivide_of, renewed_to, entered_to}
@@ -43,9 +39,9 @@ module _ (t : List ℕ) (v : Record) where
       let six = r.six in
       inner (centre_of v) (centre-valid v (of-true (lookup-valid t r.order v.at v r.held)) six r.below) (omega arith)
 
-  absent-looked : (l : Looked) → not (is_held l) ≡ true → l ≡ Absent
-  absent-looked Absent h = refl
-  absent-looked (Held r) h = absurd (not-both h refl)
+  absent-looked : (l : Option Record) → not (is_held l) ≡ true → l ≡ None
+  absent-looked None h = refl
+  absent-looked (Some r) h = absurd (not-both h refl)
 
   -- past 7 and 8
   pub ready-whole : Ready t v → upto 6 (adjacent_fits t v) ≡ true → upto 6 (new_fits t v) ≡ true → 6 ≤ free_slots t → Intact t v
@@ -102,18 +98,18 @@ module _ (t : List ℕ) (a b : ℤ) (m : ℕ) where
   unfolding subdivide_of
   call-1 h = ap (λ (x : Bool). cond x (subdivide_looked t (look_up t (normal_of a b m))) (mesh_after 1 t)) (sym h)
 
-  pub call-looked : in_order_of t ≡ true → (l : Looked) → look_up t (normal_of a b m) ≡ l → subdivide_looked t l ≡ subdivide_of t a b m
+  pub call-looked : in_order_of t ≡ true → (l : Option Record) → look_up t (normal_of a b m) ≡ l → subdivide_looked t l ≡ subdivide_of t a b m
   unfolding subdivide_of
   call-looked h l e = ap (subdivide_looked t) (sym e) ∙ ap (λ (x : Bool). cond x (subdivide_looked t (look_up t (normal_of a b m))) (mesh_after 1 t)) (sym h)
 
-  pub call-3 : in_order_of t ≡ true → look_up t (normal_of a b m) ≡ Absent → mesh_after 3 t ≡ subdivide_of t a b m
-  call-3 h e = call-looked h Absent e
+  pub call-3 : in_order_of t ≡ true → look_up t (normal_of a b m) ≡ None → mesh_after 3 t ≡ subdivide_of t a b m
+  call-3 h e = call-looked h None e
 
-  pub call-vertex : in_order_of t ≡ true → (v : Record) → look_up t (normal_of a b m) ≡ Held v → subdivide_vertex t v ≡ subdivide_of t a b m
-  call-vertex h v e = call-looked h (Held v) e
+  pub call-vertex : in_order_of t ≡ true → (v : Record) → look_up t (normal_of a b m) ≡ Some v → subdivide_vertex t v ≡ subdivide_of t a b m
+  call-vertex h v e = call-looked h (Some v) e
 
 -- a vertex as it is looked up
-pub looked-standing : (t : List ℕ) → InOrder t → (p : Point) (v : Record) → look_up t p ≡ Held v → Standing t v
+pub looked-standing : (t : List ℕ) → InOrder t → (p : Point) (v : Record) → look_up t p ≡ Some v → Standing t v
 looked-standing t o p v e = record { order = o; held = ap (look_up t) (lookup-point t o p v e) ∙ e }
 
 pub after-parts : {x y : MeshAfter} → x ≡ y → (x.number ≡ y.number) × (x.bytes ≡ y.bytes)

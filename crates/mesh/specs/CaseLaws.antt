@@ -2,22 +2,22 @@
 -- `triple-kept`, `triple-refused` the table after a triple · `Going` how far a list has been gone through, `going_start`, `going_more`, `going-stop`,
 -- `going_end`.
 -- Assumes nothing.
-use Rattle.std.specs.Prelude.{◌≡◌, refl, Bool, true, false, List, ℕ, zero, suc, ◌+◌, ◌*◌, ◌≤◌, ◌<◌, ◌-◌, ℤ, pos, nat_abs, length, get_or}
+use Rattle.std.specs.Prelude.{◌≡◌, refl, Bool, true, false, List, ℕ, zero, suc, ◌+◌, ◌*◌, ◌≤◌, ◌<◌, ◌-◌, ℤ, pos, nat_abs, length, get_or, Option, Some, None}
 use Rattle.std.proofs.Common.{sym, ◌∙◌, subst, arith, ne_eqb}
 use Rattle.std.proofs.Math.Path.{ap}
 use Rattle.std.proofs.Math.Bool.{cond}
 use Rattle.std.proofs.Math.Decide.{ℕ_discrete, dec_lt}
 use Rattle.laws.specs.Rules.{upto}
-use Rattle.lattice.specs.Patterns.{six}
 use Rattle.lattice.specs.Points.{normal_of}
 use Rattle.table.specs.OrderLaws.{order-test}
 use Rattle.table.specs.Entries.{look_up}
-use Rattle.table.specs.MapLaws.{room, test-order}
+use Rattle.table.specs.MapLaws.{test-order}
 use Rattle.table.specs.Order.{in_order_of}
 use Rattle.table.specs.Slots.{free_slots, Table}
+use Rattle.lattice.specs.Refusals.{number_of}
 use Rattle.lattice.specs.declared.records.Record.{Record}
-use Rattle.table.specs.declared.entries.Looked.{Looked}
-use Rattle.table.specs.declared.entries.Looked.TheVariants.{Absent, Held}
+use Rattle.lattice.specs.declared.refusals.Refusal.{Refusal}
+use Rattle.lattice.specs.declared.refusals.Refusal.TheVariants as refusal
 use Rattle.table.specs.SlotLaws.{table_same}
 use Rattle.mesh.specs.SubdivideLaws.{Ready, Intact, subdivided-order, subdivided-free}
 use Rattle.mesh.specs.WriteLaws.{subdivided-length}
@@ -31,12 +31,12 @@ pub data Subdivision (t : List ℕ) (a b : ℤ) (m : ℕ) : Type 0 where
   -- some other number than 0, and the table as it was
   refused : (x : ℕ) → (x ≡ 0 → ⊥) → mesh_after x t ≡ subdivide_of t a b m → Subdivision t a b m
   -- 0, of a table in order and a vertex in it, which is whole
-  made : (v : Record) → in_order_of t ≡ true → look_up t (normal_of a b m) ≡ Held v → Intact t v → mesh_after 0 (subdivided t v) ≡ subdivide_of t a b m
+  made : (v : Record) → in_order_of t ≡ true → look_up t (normal_of a b m) ≡ Some v → Intact t v → mesh_after 0 (subdivided t v) ≡ subdivide_of t a b m
       → Subdivision t a b m
 
 module _ (t : List ℕ) (a b : ℤ) (m : ℕ) where
   -- past 4 and 5
-  module _ (h : in_order_of t ≡ true) (v : Record) (e : look_up t (normal_of a b m) ≡ Held v) (six : v.d ≡ 6) (low : v.n.0 ≡ 12 → ⊥) where
+  module _ (h : in_order_of t ≡ true) (v : Record) (e : look_up t (normal_of a b m) ≡ Some v) (six : v.d ≡ 6) (low : v.n.0 ≡ 12 → ⊥) where
     is : {x : MeshAfter} → x ≡ subdivide_vertex t v → x ≡ subdivide_of t a b m
     is p = p ∙ call-vertex t a b m h v e
 
@@ -51,14 +51,14 @@ module _ (t : List ℕ) (a b : ℤ) (m : ℕ) where
         let room : 6 ≤ free_slots t = omega arith in
         made v h e (ready-whole t v r p q room) (is (vertex-0 t v six low p q room))
 
-  at-vertex : in_order_of t ≡ true → (v : Record) → look_up t (normal_of a b m) ≡ Held v → Dec (v.d ≡ 6) → Dec (v.n.0 ≡ 12) → Subdivision t a b m
+  at-vertex : in_order_of t ≡ true → (v : Record) → look_up t (normal_of a b m) ≡ Some v → Dec (v.d ≡ 6) → Dec (v.n.0 ≡ 12) → Subdivision t a b m
   at-vertex h v e (no d) n = refused 4 (omega arith) (vertex-4 t v d ∙ call-vertex t a b m h v e)
   at-vertex h v e (yes d) (yes n) = refused 5 (omega arith) (vertex-5 t v d n ∙ call-vertex t a b m h v e)
   at-vertex h v e (yes d) (no n) = tested h v e d n (upto 6 (adjacent_fits t v)) refl (upto 6 (new_fits t v)) refl (dec_lt (free_slots t) 6)
 
-  at-point : in_order_of t ≡ true → (l : Looked) → look_up t (normal_of a b m) ≡ l → Subdivision t a b m
-  at-point h Absent e = refused 3 (omega arith) (call-3 t a b m h e)
-  at-point h (Held v) e = at-vertex h v e (ℕ_discrete v.d 6) (ℕ_discrete v.n.0 12)
+  at-point : in_order_of t ≡ true → (l : Option Record) → look_up t (normal_of a b m) ≡ l → Subdivision t a b m
+  at-point h None e = refused 3 (omega arith) (call-3 t a b m h e)
+  at-point h (Some v) e = at-vertex h v e (ℕ_discrete v.d 6) (ℕ_discrete v.n.0 12)
 
   pub subdivision : Subdivision t a b m
   subdivision = go (in_order_of t) refl

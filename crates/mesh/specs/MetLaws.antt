@@ -1,12 +1,17 @@
--- One slot more kept: `old-more`, `stopped_more`, as the loops of the tests go.
+-- One slot more kept: `old-more`, `stopped_more`, as the loops of the tests go · `looked-met`, `looked-missed` what stands at a point, by where the search
+-- for it ended.
 -- Assumes nothing.
-use Rattle.std.specs.Prelude.{◌≡◌, refl, List, ℕ, ◌+◌, ◌<◌, length, get_or, set}
+use Rattle.std.specs.Prelude.{◌≡◌, refl, List, ℕ, ◌+◌, ◌<◌, length, get_or, set, None}
 use Rattle.std.proofs.Common.{sym, subst, arith, get_or-set_same}
 use Rattle.std.proofs.Math.Decide.{dec_lt}
 use borrow.Author.Rules.{read_below}
 use Rattle.lattice.specs.Stars.{adjacent_at}
 use Rattle.lattice.specs.declared.records.Record.{Record}
 use Rattle.table.specs.Search.{find_of}
+use Rattle.table.specs.Slots.{slot_at}
+use Rattle.table.specs.Entries.{look_up, held_in}
+use Rattle.table.specs.declared.probe.Found.{Found}
+use Rattle.lattice.specs.declared.points.Point.{Point}
 use Rattle.table.specs.declared.probe.Found.TheVariants as found
 use Rattle.mesh.specs.Met.{OldIn, StoppedAt}
 
@@ -28,3 +33,14 @@ old-more t v slots j i h w e = row_more (λ k s. find_of t (adjacent_at v k) ≡
 pub stopped_more : (t : List ℕ) (c : Record) (slots : List ℕ) (j i : ℕ) → j < length slots → StoppedAt t c slots j
     → find_of t (adjacent_at c j) ≡ found.Free i → StoppedAt t c (set slots j i) (j + 1)
 stopped_more t c slots j i h w e = row_more (λ k s. find_of t (adjacent_at c k) ≡ found.Free s) slots j i h w e
+
+-- ---- what stands at a point
+pub looked-met : (t : List ℕ) (p : Point) (i : ℕ) → found.At i ≡ find_of t p → look_up t p ≡ held_in (slot_at t i)
+unfolding look_up
+looked-met t p i e = rw (← e)
+
+pub looked-missed : (t : List ℕ) (p : Point) (o : Found) → o ≡ find_of t p → ((i : ℕ) → o ≡ found.At i → ⊥) → look_up t p ≡ None
+unfolding look_up
+looked-missed t p (found.At i) e n = absurd (n i (λ x. found.At i))
+looked-missed t p (found.Free i) e n = rw (← e)
+looked-missed t p found.Full e n = rw (← e)

@@ -1,13 +1,15 @@
 -- Subdivisions one after the other, as code goes that keeps the count of free slots: what each step is given and leaves.
 -- `Given` a table in order and its free slots · `Stays` no record has moved · `After` what a step leaves: number and table as the definition has them, in
--- order, its free slots, no record moved; `after-here`, `given-after`, `after_same`, `after_then` · `own-looked` a record is found by its own point ·
--- `Divided`, `divided` a vertex's subdivision, refused or made, `held-refused`, `held-made` the same as a step · `then-on`, `then-stop` one after the
--- other · `all_made`, `all_back`, `all-number` all or nothing.
+-- order, its free slots, no record moved; `after-here`, `given-after`, `after_same`, `after_then` · `Leaves` the same of a step that answers with a result;
+-- `leaves-here`, `leaves_same`, `leaves_then` · `own-looked` a record is found by its own point · `Divided`, `divided` a vertex's subdivision, refused or
+-- made, `held-refused`, `held-made` the same as a step · `then-on`, `then-stop` one after the other · `all_made`, `all_back`, `all-number` all or nothing.
 -- Assumes nothing.
-use Rattle.std.specs.Prelude.{◌≡◌, refl, Bool, true, false, cond, List, ℕ, ◌-◌, ◌≤◌, eqb, length}
+use Rattle.std.specs.Prelude.{◌≡◌, refl, Bool, true, false, cond, List, ℕ, ◌-◌, ◌≤◌, eqb, length, Result, Ok, Err, Some}
 use Rattle.std.proofs.Common.{sym, ◌∙◌, ap, subst, arith, eq-eqb, ne_eqb}
 use Rattle.laws.specs.Choices.{of-true}
 use Rattle.lattice.specs.Points.{normal_of}
+use Rattle.lattice.specs.Refusals.{number_of}
+use Rattle.lattice.specs.declared.refusals.Refusal.{Refusal}
 use Rattle.lattice.specs.declared.points.Point.{Point}
 use Rattle.lattice.specs.declared.records.Record.{Record}
 use Rattle.geometry.specs.SubdivisionLaws.{sited}
@@ -17,7 +19,6 @@ use Rattle.table.specs.Order.{InOrder}
 use Rattle.table.specs.Search.{find_of}
 use Rattle.table.specs.Slots.{Table, free_slots}
 use Rattle.table.specs.MapLaws.{table_same, lookup-valid, order-test}
-use Rattle.table.specs.declared.entries.Looked.TheVariants.{Held}
 use Rattle.table.specs.declared.probe.Found.TheVariants as found
 use Rattle.mesh.specs.Subdivide.{MeshAfter, mesh_after, subdivided, subdivide_vertex, subdivide_of, onwards, and_then, all_or}
 use Rattle.mesh.specs.SubdivideLaws.{Intact, subdivided-order, subdivided-free}
@@ -79,20 +80,20 @@ after_then l s a =
 
 -- ---- one subdivision
 -- a record is found by its own point
-pub own-looked : (t : List ℕ) → InOrder t → (v : Record) → look_up t v.at ≡ Held v → look_up t (normal_of v.at.a v.at.b v.at.m.0) ≡ Held v
+pub own-looked : (t : List ℕ) → InOrder t → (v : Record) → look_up t v.at ≡ Some v → look_up t (normal_of v.at.a v.at.b v.at.m.0) ≡ Some v
 own-looked t o v e = ap (look_up t) (point-own v.at (sited v (of-true (lookup-valid t o v.at v e))).normal) ∙ e
 
 pub data Divided (t : List ℕ) (v : Record) : Type 0 where
   denied : (x : ℕ) → (x ≡ 0 → ⊥) → mesh_after x t ≡ subdivide_vertex t v → Divided t v
   done : Intact t v → mesh_after 0 (subdivided t v) ≡ subdivide_vertex t v → Divided t v
 
-pub held_same : {a b : Record} → Held a ≡ Held b → a ≡ b
+pub held_same : {a b : Record} → Some a ≡ Some b → a ≡ b
 held_same {a} {b} e = cc
 
 pub divided : (t : List ℕ) (v : Record) → Standing t v → Divided t v
 divided t v s = go (subdivision t v.at.a v.at.b v.at.m.0)
   where
-    looked : look_up t (normal_of v.at.a v.at.b v.at.m.0) ≡ Held v
+    looked : look_up t (normal_of v.at.a v.at.b v.at.m.0) ≡ Some v
     looked = own-looked t s.order v s.held
 
     back : subdivide_vertex t v ≡ subdivide_of t v.at.a v.at.b v.at.m.0
@@ -137,6 +138,24 @@ module _ {t : List ℕ} {n f : ℕ} (g : Given t n f) (v : Record) (s : Standing
           let long = ap length (sym z) ∙ subdivided-length t v in
           let stays : Stays t t' = λ p i k. ap (λ (u : List ℕ). find_of u p) (sym z) ∙ subdivided-stays t v w p i k in
           (omega arith, record { number = sym zz ∙ e; bytes = b; order = order; free = omega arith; long = long; stays = stays })
+
+-- ---- a step that answers with the free slots after, or why it is refused
+abbrev pub Leaves : List ℕ → MeshAfter → Result ℕ Refusal → List ℕ → Type 0
+Leaves t o (Ok f) t' = After t o 0 f t'
+Leaves t o (Err why) t' = After t o (number_of why) (free_slots t') t'
+
+pub leaves_same : (t : List ℕ) (o p : MeshAfter) (r : Result ℕ Refusal) (t' : List ℕ) → o ≡ p → Leaves t o r t' → Leaves t p r t'
+leaves_same t o p (Ok f) t' e a = after_same e a
+leaves_same t o p (Err why) t' e a = after_same e a
+
+pub leaves_then : (t t₁ : List ℕ) (o : MeshAfter) (r : Result ℕ Refusal) (t' : List ℕ) → length t₁ ≡ length t → Stays t t₁ → Leaves t₁ o r t' → Leaves t o r t'
+leaves_then t t₁ o (Ok f) t' l s a = after_then l s a
+leaves_then t t₁ o (Err why) t' l s a = after_then l s a
+
+-- refused where it stands, with its free slots as they were
+pub leaves-here : (t : List ℕ) (n f : ℕ) → Given t n f → (o : MeshAfter) (why : Refusal) → mesh_after (number_of why) t ≡ o
+    → After t o (number_of why) (free_slots t) t
+leaves-here t n f g o why e = after-here (record { table = g.table; order = g.order; free = refl }) (number_of why) e
 
 -- ---- one after the other
 pub then-on : (o : MeshAfter) (k : List ℕ → MeshAfter) → o.number ≡ 0 → k o.bytes ≡ and_then o k

@@ -2,7 +2,7 @@
 -- `adjacent_fits`, `new_fits`, `torn` the condition of 7 · `renewed_to`, `entered_to`, `subdivided` the table after · `MeshAfter` number and table ·
 -- `and_then` one after the other, `all_or` all or nothing · `Many` number and table of a list.
 -- Record by record the rules are the lattice's: Subdivision. Assumes nothing.
-use Rattle.std.specs.Prelude.{Bool, true, false, cond, ◌&&◌, not, List, ℕ, zero, suc, ◌+◌, ◌*◌, eqb, ltb, ℤ, pos, nat_abs, get_or}
+use Rattle.std.specs.Prelude.{Bool, true, false, cond, ◌&&◌, not, List, ℕ, zero, suc, ◌+◌, ◌*◌, eqb, ltb, ℤ, pos, nat_abs, get_or, Option, Some, None}
 use Rattle.laws.specs.Rules.{upto}
 use Rattle.laws.specs.Choices.{unless}
 use Rattle.laws.specs.Triples.{triples_in, is_byte}
@@ -13,13 +13,11 @@ use Rattle.table.specs.Entries.{look_up, enter_of, replace_of, holds}
 use Rattle.table.specs.Order.{in_order_of}
 use Rattle.table.specs.Slots.{free_slots}
 use Rattle.lattice.specs.declared.records.Record.{Record}
-use Rattle.table.specs.declared.entries.Looked.{Looked}
-use Rattle.table.specs.declared.entries.Looked.TheVariants.{Absent, Held}
 
 -- "an adjacent is absent; or an internal adjacent has d 6, or a level other than n, or no rule above for its k'"
-abbrev pub fits_at : Record → ℕ → Looked → Bool
-fits_at v j Absent = false
-fits_at v j (Held u) = accepts_of (back_of v.k j) v.n.0 u
+abbrev pub fits_at : Record → ℕ → Option Record → Bool
+fits_at v j None = false
+fits_at v j (Some u) = accepts_of (back_of v.k j) v.n.0 u
 
 abbrev pub adjacent_fits : List ℕ → Record → ℕ → Bool
 adjacent_fits t v j = fits_at v j (look_up t (adjacent_at v j))
@@ -34,9 +32,9 @@ torn t v = not (upto 6 (adjacent_fits t v) && upto 6 (new_fits t v))
 
 -- ---- the table after
 -- the old adjacent vertex at place j after its rule
-abbrev pub renew_at : List ℕ → Record → ℕ → Looked → List ℕ
-renew_at t v j Absent = t
-renew_at t v j (Held u) = replace_of t (update_of (back_of v.k j) u)
+abbrev pub renew_at : List ℕ → Record → ℕ → Option Record → List ℕ
+renew_at t v j None = t
+renew_at t v j (Some u) = replace_of t (update_of (back_of v.k j) u)
 
 abbrev pub renew_of : List ℕ → Record → ℕ → List ℕ
 renew_of t v j = renew_at t v j (look_up t (adjacent_at v j))
@@ -72,9 +70,9 @@ subdivide_vertex t v =
     (cond (ltb (free_slots t) 6) (mesh_after 8 t)
     (mesh_after 0 (subdivided t v)))))
 
-abbrev pub subdivide_looked : List ℕ → Looked → MeshAfter
-subdivide_looked t Absent = mesh_after 3 t
-subdivide_looked t (Held v) = subdivide_vertex t v
+abbrev pub subdivide_looked : List ℕ → Option Record → MeshAfter
+subdivide_looked t None = mesh_after 3 t
+subdivide_looked t (Some v) = subdivide_vertex t v
 
 -- "Every point in a request is normalised before it is looked up"
 unfoldable pub subdivide_of : List ℕ → ℤ → ℤ → ℕ → MeshAfter

@@ -6,7 +6,7 @@
 -- `subdivided-centre`, `subdivided-new`, `subdivided-old`, `subdivided-rest` the records after · `renewed`, `entered` the same after some of the
 -- writes.
 -- Assumes nothing.
-use Rattle.std.specs.Prelude.{◌≡◌, true, false, ◌&&◌, List, ℕ, suc, ◌+◌, ◌≤◌, ◌<◌, zero, eqb, T}
+use Rattle.std.specs.Prelude.{◌≡◌, true, false, ◌&&◌, List, ℕ, suc, ◌+◌, ◌≤◌, ◌<◌, zero, eqb, T, Option, Some, None}
 use Rattle.std.proofs.Math.Path.{refl, ap}
 use Rattle.std.proofs.Common.{sym, ◌∙◌, subst}
 use native.Mathlib.Omega.{arith}
@@ -18,30 +18,26 @@ use Rattle.geometry.specs.GeometryLaws.{star-distinct}
 use Rattle.lattice.specs.Records.{valid_of}
 use Rattle.geometry.specs.SubdivisionLaws.{Sited, sited, centre-valid, update-valid, new-valid, update-at}
 use Rattle.table.specs.Entries.{look_up, replace_of, enter_of}
-use Rattle.table.specs.MapLaws.{room, lookup-point, lookup-valid, replace-order, replace-finds, replace-keeps, replace-free, enter-order, enter-finds}
+use Rattle.table.specs.MapLaws.{lookup-point, lookup-valid, replace-order, replace-finds, replace-keeps, replace-free, enter-order, enter-finds}
 use Rattle.table.specs.MapLaws.{enter-keeps, enter-free, replace-find}
 use Rattle.table.specs.Search.{find_of}
 use Rattle.table.specs.Order.{InOrder}
 use Rattle.table.specs.Slots.{free_slots}
 use Rattle.lattice.specs.declared.points.Point.{Point}
 use Rattle.lattice.specs.declared.records.Record.{Record}
-use Rattle.table.specs.declared.entries.Looked.{Looked}
-use Rattle.table.specs.declared.entries.Looked.TheVariants.{Absent, Held}
 use Rattle.laws.specs.Choices.{is_true, of-true}
-use Rattle.laws.specs.Linear.{same}
 use Rattle.mesh.specs.Subdivide.{fits_at, adjacent_fits, renew_at, renewed_to, entered_to, subdivided}
-use Rattle.table.specs.declared.probe.Found.TheVariants as found
 
 pub record Ready (t : List ℕ) (v : Record) : Type 0 where
   pub order : InOrder t
-  pub held : look_up t v.at ≡ Held v
+  pub held : look_up t v.at ≡ Some v
   pub six : v.d ≡ 6
   pub below : v.n.0 < 12
 
 pub record Intact (t : List ℕ) (v : Record) : Type 0 where
   pub ready : Ready t v
   pub fits : (j : ℕ) → j < 6 → adjacent_fits t v j ≡ true
-  pub fresh : (j : ℕ) → j < 6 → look_up t (new_of v j).at ≡ Absent
+  pub fresh : (j : ℕ) → j < 6 → look_up t (new_of v j).at ≡ None
   pub room : 6 ≤ free_slots t
 
 -- ---- records
@@ -51,12 +47,12 @@ unfolding accepts_of
 six-torn k' n u six h = let z : eqb u.n.0 n && false ≡ true = rw six at h in not-both z (and-false (eqb u.n.0 n))
 
 -- ---- what is looked up at an old place that fits
-held_same : {a b : Record} → Held a ≡ Held b → a ≡ b
+held_same : {a b : Record} → Some a ≡ Some b → a ≡ b
 held_same {a} {b} e = cc
 
-held_fits : (v : Record) (j : ℕ) (l : Looked) → fits_at v j l ≡ true → (u : Record) × (l ≡ Held u) × (accepts_of (back_of v.k j) v.n.0 u ≡ true)
-held_fits v j Absent h = absurd (not-both h refl)
-held_fits v j (Held u) h = (u, refl, h)
+held_fits : (v : Record) (j : ℕ) (l : Option Record) → fits_at v j l ≡ true → (u : Record) × (l ≡ Some u) × (accepts_of (back_of v.k j) v.n.0 u ≡ true)
+held_fits v j None h = absurd (not-both h refl)
+held_fits v j (Some u) h = (u, refl, h)
 
 module _ (t : List ℕ) (v : Record) (w : Intact t v) where
   abbrev o : InOrder t
@@ -69,7 +65,7 @@ module _ (t : List ℕ) (v : Record) (w : Intact t v) where
   sound = of-true vertex-valid
 
   -- the old adjacent vertex at place j
-  pub old : (j : ℕ) → j < 6 → (u : Record) × (look_up t (adjacent_at v j) ≡ Held u) × (accepts_of (back_of v.k j) v.n.0 u ≡ true)
+  pub old : (j : ℕ) → j < 6 → (u : Record) × (look_up t (adjacent_at v j) ≡ Some u) × (accepts_of (back_of v.k j) v.n.0 u ≡ true)
   old j h = held_fits v j (look_up t (adjacent_at v j)) (w.fits j h)
 
   old-point : (j : ℕ) (h : j < 6) → (old j h).0.at ≡ adjacent_at v j
@@ -126,8 +122,8 @@ module _ (t : List ℕ) (v : Record) (w : Intact t v) where
   pub record Renewed (j : ℕ) : Type 0 where
     pub order : InOrder (renewed_to t₁ v j)
     pub later : (i : ℕ) → j ≤ i → i < 6 → look_up (renewed_to t₁ v j) (adjacent_at v i) ≡ look_up t (adjacent_at v i)
-    pub done : (i : ℕ) → i < j → (u : Record) → look_up t (adjacent_at v i) ≡ Held u
-        → look_up (renewed_to t₁ v j) (adjacent_at v i) ≡ Held (update_of (back_of v.k i) u)
+    pub done : (i : ℕ) → i < j → (u : Record) → look_up t (adjacent_at v i) ≡ Some u
+        → look_up (renewed_to t₁ v j) (adjacent_at v i) ≡ Some (update_of (back_of v.k i) u)
     pub rest : (p : Point) → ((i : ℕ) → i < j → p ≡ adjacent_at v i → ⊥) → look_up (renewed_to t₁ v j) p ≡ look_up t₁ p
     pub free : free_slots (renewed_to t₁ v j) ≡ free_slots t
     pub find : (p : Point) → find_of (renewed_to t₁ v j) p ≡ find_of t p
@@ -161,7 +157,7 @@ module _ (t : List ℕ) (v : Record) (w : Intact t v) where
       let g = renewal-valid j h in
       let e = renew-put j h r in
       let n : j ≤ j = omega arith in
-      let was : look_up u x.at ≡ Held (old j h).0 = ap (look_up u) (renewal-at j h) ∙ r.later j n h ∙ (old j h).1 in
+      let was : look_up u x.at ≡ Some (old j h).0 = ap (look_up u) (renewal-at j h) ∙ r.later j n h ∙ (old j h).1 in
       let kept : (p : Point) → (p ≡ adjacent_at v j → ⊥) → look_up (renewed_to t₁ v (suc j)) p ≡ look_up u p =
       λ p f. ap (λ (s : List ℕ). look_up s p) e ∙ replace-keeps u r.order x g p (λ q. f (q ∙ renewal-at j h)) in
       record {
@@ -173,7 +169,7 @@ module _ (t : List ℕ) (v : Record) (w : Intact t v) where
         find = λ p. ap (λ (s : List ℕ). find_of s p) e ∙ replace-find u r.order x g p ∙ r.find p;
       }
     where
-      this : (y : Record) → look_up t (adjacent_at v j) ≡ Held y → look_up (renewed_to t₁ v (suc j)) (adjacent_at v j) ≡ Held (update_of (back_of v.k j) y)
+      this : (y : Record) → look_up t (adjacent_at v j) ≡ Some y → look_up (renewed_to t₁ v (suc j)) (adjacent_at v j) ≡ Some (update_of (back_of v.k j) y)
       this y q =
           let u = renewed_to t₁ v j in
           let x = renewal j h in
@@ -182,14 +178,14 @@ module _ (t : List ℕ) (v : Record) (w : Intact t v) where
           ap (λ (s : List ℕ). look_up s (adjacent_at v j)) (renew-put j h r)
           ∙ ap (look_up (replace_of u x)) (sym (renewal-at j h))
           ∙ replace-finds u r.order x (renewal-valid j h) (old j h).0 (ap (look_up u) (renewal-at j h) ∙ r.later j n h ∙ (old j h).1)
-          ∙ ap (λ (z : Record). Held (update_of (back_of v.k j) z)) same
+          ∙ ap (λ (z : Record). Some (update_of (back_of v.k j) z)) same
 
-      finished : (i : ℕ) → i < suc j → (y : Record) → look_up t (adjacent_at v i) ≡ Held y → Dec (i ≡ j)
+      finished : (i : ℕ) → i < suc j → (y : Record) → look_up t (adjacent_at v i) ≡ Some y → Dec (i ≡ j)
           → ((p : Point) → (p ≡ adjacent_at v j → ⊥) → look_up (renewed_to t₁ v (suc j)) p ≡ look_up (renewed_to t₁ v j) p)
-          → look_up (renewed_to t₁ v (suc j)) (adjacent_at v i) ≡ Held (update_of (back_of v.k i) y)
+          → look_up (renewed_to t₁ v (suc j)) (adjacent_at v i) ≡ Some (update_of (back_of v.k i) y)
       finished i l y q (yes e) kept =
-          subst (λ (m : ℕ). (y : Record) → look_up t (adjacent_at v m) ≡ Held y
-          → look_up (renewed_to t₁ v (suc j)) (adjacent_at v m) ≡ Held (update_of (back_of v.k m) y)) (sym e) this y q
+          subst (λ (m : ℕ). (y : Record) → look_up t (adjacent_at v m) ≡ Some y
+          → look_up (renewed_to t₁ v (suc j)) (adjacent_at v m) ≡ Some (update_of (back_of v.k m) y)) (sym e) this y q
       finished i l y q (no n) kept = kept (adjacent_at v i) (adjacent-apart i j (omega arith) h n) ∙ r.done i (omega arith) y q
 
   pub renewed : (j : ℕ) → j ≤ 6 → Renewed j
@@ -201,10 +197,10 @@ module _ (t : List ℕ) (v : Record) (w : Intact t v) where
   t₂ = renewed_to t₁ v 6
 
   -- a new point is none of the old
-  new-old : (j : ℕ) → j < 6 → (p : Point) (u : Record) → look_up t p ≡ Held u → (new_of v j).at ≡ p → ⊥
-  new-old j h p u l e = let x : Absent ≡ Held u = sym (w.fresh j h) ∙ ap (look_up t) e ∙ l in let z : ◌≡◌ {A = ℕ} 0 1 = cc in omega arith
+  new-old : (j : ℕ) → j < 6 → (p : Point) (u : Record) → look_up t p ≡ Some u → (new_of v j).at ≡ p → ⊥
+  new-old j h p u l e = let x : None ≡ Some u = sym (w.fresh j h) ∙ ap (look_up t) e ∙ l in let z : ◌≡◌ {A = ℕ} 0 1 = cc in omega arith
 
-  new-absent : (j : ℕ) → j < 6 → look_up t₂ (new_of v j).at ≡ Absent
+  new-absent : (j : ℕ) → j < 6 → look_up t₂ (new_of v j).at ≡ None
   new-absent j h =
       let r = renewed 6 (omega arith) in
       r.rest (new_of v j).at (λ i l e. new-old j h (adjacent_at v i) (old i l).0 (old i l).1 e)
@@ -213,8 +209,8 @@ module _ (t : List ℕ) (v : Record) (w : Intact t v) where
 
   pub record Entered (j : ℕ) : Type 0 where
     pub order : InOrder (entered_to t₂ (centre_of v) j)
-    pub later : (i : ℕ) → j ≤ i → i < 6 → look_up (entered_to t₂ (centre_of v) j) (new_of v i).at ≡ Absent
-    pub done : (i : ℕ) → i < j → look_up (entered_to t₂ (centre_of v) j) (new_of v i).at ≡ Held (new_of v i)
+    pub later : (i : ℕ) → j ≤ i → i < 6 → look_up (entered_to t₂ (centre_of v) j) (new_of v i).at ≡ None
+    pub done : (i : ℕ) → i < j → look_up (entered_to t₂ (centre_of v) j) (new_of v i).at ≡ Some (new_of v i)
     pub rest : (p : Point) → ((i : ℕ) → i < j → p ≡ (new_of v i).at → ⊥) → look_up (entered_to t₂ (centre_of v) j) p ≡ look_up t₂ p
     pub free : free_slots (entered_to t₂ (centre_of v) j) + j ≡ free_slots t
 
@@ -257,9 +253,9 @@ module _ (t : List ℕ) (v : Record) (w : Intact t v) where
     where
       finished : (i : ℕ) → i < suc j → Dec (i ≡ j)
           → ((p : Point) → (p ≡ (new_of v j).at → ⊥) → look_up (entered_to t₂ (centre_of v) (suc j)) p ≡ look_up (entered_to t₂ (centre_of v) j) p)
-          → look_up (entered_to t₂ (centre_of v) (suc j)) (new_of v j).at ≡ Held (new_of v j)
-          → look_up (entered_to t₂ (centre_of v) (suc j)) (new_of v i).at ≡ Held (new_of v i)
-      finished i l (yes e) kept this = subst (λ (m : ℕ). look_up (entered_to t₂ (centre_of v) (suc j)) (new_of v m).at ≡ Held (new_of v m)) (sym e) this
+          → look_up (entered_to t₂ (centre_of v) (suc j)) (new_of v j).at ≡ Some (new_of v j)
+          → look_up (entered_to t₂ (centre_of v) (suc j)) (new_of v i).at ≡ Some (new_of v i)
+      finished i l (yes e) kept this = subst (λ (m : ℕ). look_up (entered_to t₂ (centre_of v) (suc j)) (new_of v m).at ≡ Some (new_of v m)) (sym e) this
       finished i l (no n) kept this = kept (new_of v i).at (new_apart i j (omega arith) h n) ∙ r.done i (omega arith)
 
   pub entered : (j : ℕ) → j ≤ 6 → Entered j
@@ -281,20 +277,20 @@ module _ (t : List ℕ) (v : Record) (w : Intact t v) where
   subdivided-free = omega (arith, ap free_slots whole, (entered 6 (omega arith)).free)
 
   -- an old point is as it was before the new ones entered
-  before-new : (p : Point) (u : Record) → look_up t p ≡ Held u → look_up (subdivided t v) p ≡ look_up t₂ p
+  before-new : (p : Point) (u : Record) → look_up t p ≡ Some u → look_up (subdivided t v) p ≡ look_up t₂ p
   before-new p u l = at-end p ∙ (entered 6 (omega arith)).rest p (λ i h e. new-old i h p u l (sym e))
 
-  pub subdivided-centre : look_up (subdivided t v) v.at ≡ Held (centre_of v)
+  pub subdivided-centre : look_up (subdivided t v) v.at ≡ Some (centre_of v)
   subdivided-centre =
       before-new v.at v w.ready.held
       ∙ (renewed 6 (omega arith)).rest v.at (λ i h e. adjacent-centre i h (sym e))
       ∙ replace-finds t o (centre_of v) centre-good v w.ready.held
 
-  pub subdivided-new : (j : ℕ) → j < 6 → look_up (subdivided t v) (new_of v j).at ≡ Held (new_of v j)
+  pub subdivided-new : (j : ℕ) → j < 6 → look_up (subdivided t v) (new_of v j).at ≡ Some (new_of v j)
   subdivided-new j h = at-end (new_of v j).at ∙ (entered 6 (omega arith)).done j h
 
-  pub subdivided-old : (j : ℕ) → j < 6 → (u : Record) → look_up t (adjacent_at v j) ≡ Held u
-      → look_up (subdivided t v) (adjacent_at v j) ≡ Held (update_of (back_of v.k j) u)
+  pub subdivided-old : (j : ℕ) → j < 6 → (u : Record) → look_up t (adjacent_at v j) ≡ Some u
+      → look_up (subdivided t v) (adjacent_at v j) ≡ Some (update_of (back_of v.k j) u)
   subdivided-old j h u l = before-new (adjacent_at v j) u l ∙ (renewed 6 (omega arith)).done j h u l
 
   pub subdivided-rest : (p : Point) → (p ≡ v.at → ⊥) → ((j : ℕ) → j < 6 → p ≡ (new_of v j).at → ⊥) → ((j : ℕ) → j < 6 → p ≡ adjacent_at v j → ⊥)

@@ -4,7 +4,7 @@
 -- `renewed-more`, `entered-more` a loop's one step · `renewed-table`, `entered-table`, `subdivided-length` the lengths · `subdivided-stays` no record
 -- moves.
 -- Assumes nothing.
-use Rattle.std.specs.Prelude.{◌≡◌, refl, List, ℕ, zero, suc, ◌+◌, ◌≤◌, ◌<◌, length, get_or}
+use Rattle.std.specs.Prelude.{◌≡◌, refl, List, ℕ, zero, suc, ◌+◌, ◌≤◌, ◌<◌, length, get_or, Option, Some, None}
 use Rattle.std.proofs.Common.{sym, ◌∙◌, ap, arith}
 use Rattle.geometry.specs.SubdivisionLaws.{update-at}
 use Rattle.laws.specs.Choices.{of-true}
@@ -21,10 +21,6 @@ use Rattle.table.specs.Order.{InOrder}
 use Rattle.table.specs.Slots.{Table, slots_of, slot_at, put_slot}
 use Rattle.lattice.specs.declared.points.Point.{Point}
 use Rattle.lattice.specs.declared.records.Record.{Record}
-use Rattle.table.specs.declared.slots.Slot.{Slot}
-use Rattle.table.specs.declared.entries.Looked.{Looked}
-use Rattle.table.specs.declared.entries.Looked.TheVariants.{Absent, Held}
-use Rattle.table.specs.declared.slots.Slot.TheVariants.{Free, Holds}
 use Rattle.mesh.specs.SubdivideLaws.{Ready, Intact, centre-good, renewed}
 use Rattle.mesh.specs.Met.{OldIn, StoppedAt, ComeTo}
 use Rattle.mesh.specs.Subdivide.{renew_at, renew_of, renewed_to, entered_to, subdivided}
@@ -67,12 +63,12 @@ module _ {t : List ℕ} {v : Record} (w : Intact t v) where
 
 -- a slot whose vertex, if it has one, has a level that can rise
 abbrev pub ByteLevel : List ℕ → ℕ → Type 0
-ByteLevel t i = (u : Record) → slot_at t i ≡ Holds u → u.n.0 < 255
+ByteLevel t i = (u : Record) → slot_at t i ≡ Some u → u.n.0 < 255
 
 -- the slot i after its vertex's rule
-abbrev pub renew_held : List ℕ → ℕ → ℕ → Slot → List ℕ
-renew_held t i k' Free = t
-renew_held t i k' (Holds u) = put_slot t i (update_of k' u)
+abbrev pub renew_held : List ℕ → ℕ → ℕ → Option Record → List ℕ
+renew_held t i k' None = t
+renew_held t i k' (Some u) = put_slot t i (update_of k' u)
 
 abbrev pub renew_slot : List ℕ → ℕ → ℕ → List ℕ
 renew_slot t i k' = renew_held t i k' (slot_at t i)
@@ -80,7 +76,7 @@ renew_slot t i k' = renew_held t i k' (slot_at t i)
 -- a vertex as it stands in a table in order
 pub record Standing (t : List ℕ) (v : Record) : Type 0 where
   pub order : InOrder t
-  pub held : look_up t v.at ≡ Held v
+  pub held : look_up t v.at ≡ Some v
 
 pub ready-turn : {t : List ℕ} {v : Record} → Ready t v → v.k < 12
 ready-turn {t} {v} r = valid-turn v (of-true (lookup-valid t r.order v.at v r.held))
@@ -95,7 +91,7 @@ module _ (t : List ℕ) (o : InOrder t) (p : Point) where
   found-low i e u h = let l = valid-level u (of-true (o.valid i u (at_held t o.fits p i e).below h)) in omega arith
 
   module _ (v : Record) (j : ℕ) (q : p ≡ adjacent_at v j) where
-    renew-looked : (l : Looked) → look_up t p ≡ l → renew_at t v j l ≡ renew_of t v j
+    renew-looked : (l : Option Record) → look_up t p ≡ l → renew_at t v j l ≡ renew_of t v j
     renew-looked l e = ap (renew_at t v j) (sym e ∙ ap (look_up t) q)
 
     pub renew-found : (i : ℕ) → find_of t p ≡ found.At i → renew_slot t i (back_of v.k j) ≡ renew_of t v j
@@ -104,7 +100,7 @@ module _ (t : List ℕ) (o : InOrder t) (p : Point) where
         let u = update_of (back_of v.k j) x.rec in
         ap (renew_held t i (back_of v.k j)) x.holds
         ∙ put-replace t u i (ap (find_of t) (update-at (back_of v.k j) x.rec ∙ x.point) ∙ e)
-        ∙ renew-looked (Held x.rec) x.looked
+        ∙ renew-looked (Some x.rec) x.looked
 
 -- ---- one more vertex written, as the loops count
 pub renewed-more : (t : List ℕ) (v : Record) (j : ℕ) → renew_of (renewed_to t v j) v j ≡ renewed_to t v (j + 1)
@@ -126,9 +122,9 @@ entered-none t c = refl
 pub renew-length : (t : List ℕ) (v : Record) (j : ℕ) → length (renew_of t v j) ≡ length t
 renew-length t v j = go (look_up t (adjacent_at v j))
   where
-    go : (l : Looked) → length (renew_at t v j l) ≡ length t
-    go Absent = refl
-    go (Held u) = replace-length t (update_of (back_of v.k j) u)
+    go : (l : Option Record) → length (renew_at t v j l) ≡ length t
+    go None = refl
+    go (Some u) = replace-length t (update_of (back_of v.k j) u)
 
 pub renewed-length : (t : List ℕ) (v : Record) (j : ℕ) → length (renewed_to t v j) ≡ length t
 unfolding renewed_to

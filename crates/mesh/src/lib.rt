@@ -11,4 +11,4 @@ mod calls;
 mod checks;
 mod writes;
 
-pub use calls::{Made, subdivide, subdivide_all, subdivide_at, subdivide_vertex};
+pub use calls::{subdivide, subdivide_all, subdivide_at, subdivide_vertex};

@@ -11,17 +11,15 @@ ghost use Rattle.mesh.specs.WriteLaws.{Renewable, ByteLevel, renew_slot};
 ghost use Rattle.mesh.specs.Met.{InSlot, OldIn, StoppedAt, ComeTo};
 
 use lattice::{ANSWER_NUMBERS, Point, Record, back, centre, point_at, updated};
-use table::{Slot, enter_from, read_slot, write_slot};
+use table::{enter_from, read_slot, write_slot};
 
 // The vertex in slot i after its rule, whether or not there is one.
 fn renew_slot(t: &mut [u8], i: usize, back: u8)
     requires { (slot_width * i + slot_width ≤ length t.old) × ((back < 12) × ByteLevel t.old i) }
     ensures { t.new ≡ renew_slot t.old i back }
 {
-    let s = read_slot(t, i);
-    match s {
-        Slot::Free => {}
-        Slot::Holds(u) => write_slot(t, i, updated(back, u)),
+    if let Some(u) = read_slot(t, i) {
+        write_slot(t, i, updated(back, u));
     }
 }
 
@@ -30,10 +28,8 @@ fn renew_all(t: &mut [u8], v: Record, slots: &[usize; 6])
     requires { Renewable t.old v × OldIn t.old v slots.now 6 }
     ensures { t.new ≡ renewed_to t.old v 6 }
 {
-    let mut j: u8 = 0;
-    while j < 6 {
-        renew_slot(t, slots[j as usize], back(v.k, j));
-        j += 1;
+    for j in 0..6 {
+        renew_slot(t, slots[usize::from(j)], back(v.k, j));
     }
 }
 
@@ -52,11 +48,9 @@ fn enter_all(t: &mut [u8], c: Record, new: &[i32; ANSWER_NUMBERS], slots: &[usiz
     requires { Table t.old n × (Inner c × ((c.d ≡ 6) × ((new.now ≡ answer_numbers (given c)) × ComeTo t.old c slots.now 6))) }
     ensures { t.new ≡ entered_to t.old c 6 }
 {
-    let mut j: u8 = 0;
-    while j < 6 {
+    for j in 0..6 {
         let r = born_at(c, point_at(new, c, j), j);
-        enter_from(t, r, slots[j as usize], n);
-        j += 1;
+        enter_from(t, r, slots[usize::from(j)], n);
     }
 }
 

@@ -3,7 +3,7 @@
 -- `fresh-all` they are the faces of the mesh · `whole_corner`, `torn-star`, `slot_torn`, `torn-none`, `torn-more`, `torn-found` a torn vertex ·
 -- `Four` a face whose vertices all stand in the table, `corner-four`, `fresh-four`.
 -- Assumes nothing.
-use Rattle.std.specs.Prelude.{◌≡◌, Bool, true, false, not, ◌&&◌, ◌||◌}
+use Rattle.std.specs.Prelude.{◌≡◌, Bool, true, false, not, ◌&&◌, ◌||◌, Option, Some, None}
 use Rattle.std.proofs.Math.Path.{refl, sym, ap}
 use Rattle.std.proofs.Common.{◌∙◌, subst, length-append}
 use Rattle.std.proofs.Math.Bool.{cond, or-false, or-true}
@@ -18,14 +18,10 @@ use Rattle.laws.specs.Some.{some_of, some-append, none-at}
 use Rattle.lattice.specs.Stars.{adjacent_at, first_at, second_at}
 use Rattle.lattice.specs.declared.points.Point.{Point}
 use Rattle.lattice.specs.declared.records.Record.{Record}
-use Rattle.lattice.specs.declared.patterns.Spot.{Spot}
-use Rattle.lattice.specs.declared.patterns.Spot.TheVariants.{At, Nothing}
 use Rattle.table.specs.Slots.{slots_of, slot_at}
 use Rattle.table.specs.Order.{InOrder}
 use Rattle.table.specs.Entries.{holds, is_held, listed, records_below, records_of}
 use Rattle.table.specs.MapLaws.{slot-looked, looked-records, records-none, records-more}
-use Rattle.table.specs.declared.slots.Slot.{Slot}
-use Rattle.table.specs.declared.slots.Slot.TheVariants.{Free, Holds}
 use Rattle.queries.specs.Queries.{adjacents_there, there, chosen_at, is_point, corners_there}
 use Rattle.firsts.specs.Faces.{gather, each, next_place, face_with, faces_at, same_face}
 use Rattle.firsts.specs.Earlier.{face_before, face_on}
@@ -34,27 +30,26 @@ use Rattle.firsts.specs.FaceLaws.{next-below, face-before, corner-apart}
 use Rattle.firsts.specs.declared.faces.Face.{Face}
 use Rattle.mesh_faces.specs.MeshFaces.{once_after, mesh_faces, torn_at, torn_of}
 use Rattle.mesh_faces.specs.declared.fresh.Fresh.{Fresh}
-use Rattle.mesh_faces.specs.declared.fresh.Fresh.TheVariants.{Is, Not}
 
-abbrev pub fresh_of : Fresh → List Face
-fresh_of (Is f o) = f ∷ []
-fresh_of Not = []
+abbrev pub fresh_of : Option Fresh → List Face
+fresh_of (Some f) = f.face ∷ []
+fresh_of None = []
 
 -- the face of corner j of v, in slot k, if no earlier vertex has it
-abbrev pub fresh_with : List ℕ → ℕ → Record → ℕ → Spot → List Face
-fresh_with t k v j (At o) = cond (face_before t k (face_on v j o)) [] (face_on v j o ∷ [])
-fresh_with t k v j Nothing = []
+abbrev pub fresh_with : List ℕ → ℕ → Record → ℕ → Option Point → List Face
+fresh_with t k v j (Some o) = cond (face_before t k (face_on v j o)) [] (face_on v j o ∷ [])
+fresh_with t k v j None = []
 
 unfoldable pub fresh_at : List ℕ → ℕ → Record → ℕ → List Face
 fresh_at t k v j = fresh_with t k v j (chosen_at t v j)
 
 -- by cases of the opposite that is chosen, and of whether an earlier vertex has the face
 module _ (t : List ℕ) (k : ℕ) (v : Record) (j : ℕ) where
-  pub fresh-none : chosen_at t v j ≡ Nothing → [] ≡ fresh_at t k v j
+  pub fresh-none : chosen_at t v j ≡ None → [] ≡ fresh_at t k v j
   unfolding fresh_at
   fresh-none e = ap (fresh_with t k v j) (sym e)
 
-  pub fresh-face : (o : Point) → chosen_at t v j ≡ At o → (f : Face) → f ≡ face_on v j o → (b : Bool) → face_before t k f ≡ b
+  pub fresh-face : (o : Point) → chosen_at t v j ≡ Some o → (f : Face) → f ≡ face_on v j o → (b : Bool) → face_before t k f ≡ b
       → cond b [] (f ∷ []) ≡ fresh_at t k v j
   unfolding fresh_at
   fresh-face o e f g b h =
@@ -63,9 +58,9 @@ module _ (t : List ℕ) (k : ℕ) (v : Record) (j : ℕ) where
 abbrev pub fresh_star : List ℕ → ℕ → Record → List Face
 fresh_star t k v = gather v.d (fresh_at t k v)
 
-abbrev pub fresh_in : List ℕ → ℕ → Slot → List Face
-fresh_in t k Free = []
-fresh_in t k (Holds v) = fresh_star t k v
+abbrev pub fresh_in : List ℕ → ℕ → Option Record → List Face
+fresh_in t k None = []
+fresh_in t k (Some v) = fresh_star t k v
 
 unfoldable pub fresh_slot : List ℕ → ℕ → List Face
 fresh_slot t k = fresh_in t k (slot_at t k)
@@ -105,11 +100,11 @@ grown-room h g more k (suc n) l = go (dec_lt k n) (λ m. grown-room h g more k n
         omega (arith, next, ap (λ (i : ℕ). length (h i)) z, ap (λ (i : ℕ). length (g i)) z)
 
 -- by what the slot holds
-pub fresh-free : (t : List ℕ) (k : ℕ) → slot_at t k ≡ Free → fresh_slot t k ≡ []
+pub fresh-free : (t : List ℕ) (k : ℕ) → slot_at t k ≡ None → fresh_slot t k ≡ []
 unfolding fresh_slot
 fresh-free t k e = ap (fresh_in t k) e
 
-pub fresh_holds : (t : List ℕ) (k : ℕ) (v : Record) → slot_at t k ≡ Holds v → fresh_slot t k ≡ fresh_star t k v
+pub fresh_holds : (t : List ℕ) (k : ℕ) (v : Record) → slot_at t k ≡ Some v → fresh_slot t k ≡ fresh_star t k v
 unfolding fresh_slot
 fresh_holds t k v e = ap (fresh_in t k) e
 
@@ -164,11 +159,11 @@ module _ (t : List ℕ) (o : InOrder t) where
   abbrev place : Record → ℕ → List Face
   place v j = face_with v j (chosen_at t v j)
 
-  star-once : (k : ℕ) (v : Record) → k < slots_of t → slot_at t k ≡ Holds v → once_after same_face (before k) (faces_at t v) ≡ fresh_star t k v
+  star-once : (k : ℕ) (v : Record) → k < slots_of t → slot_at t k ≡ Some v → once_after same_face (before k) (faces_at t v) ≡ fresh_star t k v
   unfolding fresh_at
   star-once k v l here = once-star same_face (before k) (place v) (fresh_at t k v) v.d (λ j m. go j m (chosen_at t v j) refl)
     where
-      seen : (j : ℕ) → j < v.d → (p : Point) → chosen_at t v j ≡ At p
+      seen : (j : ℕ) → j < v.d → (p : Point) → chosen_at t v j ≡ Some p
           → some_of (same_face (face_on v j p)) (before k ++ gather j (place v)) ≡ face_before t k (face_on v j p)
       seen j m p e =
           let f = face_on v j p in
@@ -178,9 +173,9 @@ module _ (t : List ℕ) (o : InOrder t) where
           || (some-gather (same_face f) j (place v) ∙ among_none (λ i. some_of (same_face f) (place v i)) j (λ i h. corner-apart t o k v l here i j h m p e)) i)
           ∙ or-false (face_before t k f)
 
-      go : (j : ℕ) → j < v.d → (s : Spot) → chosen_at t v j ≡ s → once_after same_face (before k ++ gather j (place v)) (face_with v j s) ≡ fresh_with t k v j s
-      go j m Nothing e = once-none same_face (before k ++ gather j (place v))
-      go j m (At p) e = once-one same_face (before k ++ gather j (place v)) (face_on v j p) (face_before t k (face_on v j p)) (seen j m p e)
+      go : (j : ℕ) → j < v.d → (s : Option Point) → chosen_at t v j ≡ s → once_after same_face (before k ++ gather j (place v)) (face_with v j s) ≡ fresh_with t k v j s
+      go j m None e = once-none same_face (before k ++ gather j (place v))
+      go j m (Some p) e = once-one same_face (before k ++ gather j (place v)) (face_on v j p) (face_before t k (face_on v j p)) (seen j m p e)
 
   slots-once : (k : ℕ) → k ≤ slots_of t → once_after same_face [] (before k) ≡ fresh_below t k
   unfolding fresh_below fresh_slot
@@ -196,9 +191,9 @@ module _ (t : List ℕ) (o : InOrder t) where
           let e : suc k ≡ k + 1 = omega arith in
           ap before e ∙ ap (each (faces_at t)) (records-more t k) ∙ each_append (faces_at t) (records_below t k) (listed (slot_at t k))
 
-      one : (s : Slot) → slot_at t k ≡ s → once_after same_face (before k) (each (faces_at t) (listed s)) ≡ fresh_in t k s
-      one Free e = ap (once_after same_face (before k)) (each_none (faces_at t)) ∙ once-none same_face (before k)
-      one (Holds v) e = ap (once_after same_face (before k)) (each-one (faces_at t) v) ∙ star-once k v (omega arith) e
+      one : (s : Option Record) → slot_at t k ≡ s → once_after same_face (before k) (each (faces_at t) (listed s)) ≡ fresh_in t k s
+      one None e = ap (once_after same_face (before k)) (each_none (faces_at t)) ∙ once-none same_face (before k)
+      one (Some v) e = ap (once_after same_face (before k)) (each-one (faces_at t) v) ∙ star-once k v (omega arith) e
 
   pub fresh-all : fresh_below t (slots_of t) ≡ mesh_faces t
   fresh-all = sym (slots-once (slots_of t) (omega arith))
@@ -223,9 +218,9 @@ pub torn-star : (t : List ℕ) (v : Record) → torn_at t v ≡ not (upto v.d (w
 unfolding adjacents_there corners_there
 torn-star t v = ap not (upto-both (λ j. holds t (adjacent_at v j)) (λ j. is_point (chosen_at t v j)) v.d)
 
-abbrev pub torn_in : List ℕ → Slot → Bool
-torn_in t Free = false
-torn_in t (Holds v) = torn_at t v
+abbrev pub torn_in : List ℕ → Option Record → Bool
+torn_in t None = false
+torn_in t (Some v) = torn_at t v
 
 unfoldable pub slot_torn : List ℕ → ℕ → Bool
 slot_torn t i = torn_in t (slot_at t i)
@@ -240,9 +235,9 @@ torn-more t i =
     ap (some_of (torn_at t)) (records-more t i) ∙ some-append (torn_at t) (records_below t i) (listed (slot_at t i))
     ∙ ap (λ (b : Bool). some_of (torn_at t) (records_below t i) || b) (one (slot_at t i))
   where
-    one : (s : Slot) → some_of (torn_at t) (listed s) ≡ torn_in t s
-    one Free = refl
-    one (Holds v) = or-false (torn_at t v)
+    one : (s : Option Record) → some_of (torn_at t) (listed s) ≡ torn_in t s
+    one None = refl
+    one (Some v) = or-false (torn_at t v)
 
 pub torn-found : (t : List ℕ) (i : ℕ) → i < slots_of t → slot_torn t i ≡ true → some_of (torn_at t) (records_of t) ≡ true
 torn-found t i l e = go (slots_of t) l
@@ -268,25 +263,25 @@ pub record Four (t : List ℕ) (f : Face) : Type 0 where
   pub opposite : holds t f.opposite ≡ true
   pub next : holds t f.next ≡ true
 
-chosen-there : (t : List ℕ) (v : Record) (j : ℕ) (p : Point) → chosen_at t v j ≡ At p → holds t p ≡ true
+chosen-there : (t : List ℕ) (v : Record) (j : ℕ) (p : Point) → chosen_at t v j ≡ Some p → holds t p ≡ true
 unfolding chosen_at
 chosen-there t v j p e = go (holds t (first_at v j)) refl (second_at v j) e
   where
-    point : (q r : Point) → At q ≡ At r → q ≡ r
+    point : (q r : Point) → Some q ≡ Some r → q ≡ r
     point q r z = cc
 
-    none : {X : Type 0} → Nothing ≡ At p → X
+    none : {X : Type 0} → None ≡ Some p → X
     none z = absurd (let q : ◌≡◌ {A = ℕ} 0 1 = cc in omega arith)
 
-    second : (s : Spot) → there t s ≡ At p → holds t p ≡ true
-    second Nothing z = none z
-    second (At q) z = pick (holds t q) refl z
+    second : (s : Option Point) → there t s ≡ Some p → holds t p ≡ true
+    second None z = none z
+    second (Some q) z = pick (holds t q) refl z
       where
-        pick : (b : Bool) → holds t q ≡ b → cond b (At q) Nothing ≡ At p → holds t p ≡ true
+        pick : (b : Bool) → holds t q ≡ b → cond b (Some q) None ≡ Some p → holds t p ≡ true
         pick true h z = ap (holds t) (sym (point q p z)) ∙ h
         pick false h z = none z
 
-    go : (b : Bool) → holds t (first_at v j) ≡ b → (s : Spot) → cond b (At (first_at v j)) (there t s) ≡ At p → holds t p ≡ true
+    go : (b : Bool) → holds t (first_at v j) ≡ b → (s : Option Point) → cond b (Some (first_at v j)) (there t s) ≡ Some p → holds t p ≡ true
     go true h s z = ap (holds t) (sym (point (first_at v j) p z)) ∙ h
     go false h s z = second s z
 
@@ -294,7 +289,7 @@ not-true : (b : Bool) → not b ≡ false → b ≡ true
 not-true true h = refl
 not-true false h = absurd (never (sym h))
 
-module _ (t : List ℕ) (o : InOrder t) (untorn : torn_of t ≡ false) (k : ℕ) (v : Record) (l : k < slots_of t) (here : slot_at t k ≡ Holds v) where
+module _ (t : List ℕ) (o : InOrder t) (untorn : torn_of t ≡ false) (k : ℕ) (v : Record) (l : k < slots_of t) (here : slot_at t k ≡ Some v) where
   looked : holds t v.at ≡ true
   looked = ap is_held (slot-looked t o k v l here)
 
@@ -307,7 +302,7 @@ module _ (t : List ℕ) (o : InOrder t) (untorn : torn_of t ≡ false) (k : ℕ)
   adjacent-there : (j : ℕ) → j < v.d → holds t (adjacent_at v j) ≡ true
   adjacent-there j m = both_left (holds t (adjacent_at v j)) (is_point (chosen_at t v j)) (upto-each (whole_corner t v) v.d j whole m)
 
-  pub corner-four : (j : ℕ) → j < v.d → (p : Point) → chosen_at t v j ≡ At p → Four t (face_on v j p)
+  pub corner-four : (j : ℕ) → j < v.d → (p : Point) → chosen_at t v j ≡ Some p → Four t (face_on v j p)
   corner-four j m p e = record {
     at = looked;
     adjacent = adjacent-there j m;
@@ -325,9 +320,9 @@ module _ (t : List ℕ) (o : InOrder t) (untorn : torn_of t ≡ false) (k : ℕ)
       first : (g : Face) → f ∷ [] ≡ g ∷ [] → f ≡ g
       first g z = cc
 
-      go : (s : Spot) → chosen_at t v j ≡ s → f ∷ [] ≡ fresh_with t k v j s → Four t f
-      go Nothing c z = absurd (empty z)
-      go (At p) c z = pick (face_before t k (face_on v j p)) z
+      go : (s : Option Point) → chosen_at t v j ≡ s → f ∷ [] ≡ fresh_with t k v j s → Four t f
+      go None c z = absurd (empty z)
+      go (Some p) c z = pick (face_before t k (face_on v j p)) z
         where
           pick : (b : Bool) → f ∷ [] ≡ cond b [] (face_on v j p ∷ []) → Four t f
           pick true y = absurd (empty y)

@@ -1,24 +1,19 @@
 -- Tables all of whose corners are plain, as the survey tells: `plain-corner` each of them is · `plain-untorn` nothing is torn · `plain-hidden`, `plain-fresh`
 -- a face is taken at the first of its vertices that have a star.
 -- Assumes nothing.
-use Rattle.std.specs.Prelude.{◌≡◌, Bool, cond, ◌&&◌, ◌||◌, List, [], ◌∷◌}
+use Rattle.std.specs.Prelude.{◌≡◌, Bool, cond, ◌&&◌, ◌||◌, List, [], ◌∷◌, Option, Some, None}
 use Rattle.std.proofs.Math.Path.{refl, ap}
 use Rattle.std.proofs.Common.{sym, ◌∙◌}
 use Rattle.std.proofs.Math.Bool.{true, false, not, or-true}
 use Prim.Native.Nat.{ℕ, zero, suc, ◌+◌, ◌≤◌, ◌<◌}
 use native.Mathlib.Omega.{arith}
 use Rattle.laws.specs.Each.{never, both_left, both_right, upto-each, each-upto}
-use Rattle.laws.specs.Rules.{upto}
 use Rattle.laws.specs.Some.{some_of}
 use Rattle.lattice.specs.Stars.{adjacent_at}
 use Rattle.lattice.specs.declared.points.Point.{Point}
 use Rattle.lattice.specs.declared.records.Record.{Record}
-use Rattle.lattice.specs.declared.patterns.Spot.{Spot}
-use Rattle.lattice.specs.declared.patterns.Spot.TheVariants.{At, Nothing}
 use Rattle.table.specs.Slots.{slots_of, slot_at}
 use Rattle.table.specs.Entries.{holds, records_below}
-use Rattle.table.specs.declared.slots.Slot.{Slot}
-use Rattle.table.specs.declared.slots.Slot.TheVariants.{Free, Holds}
 use Rattle.queries.specs.Queries.{chosen_at, is_point}
 use Rattle.firsts.specs.Faces.{next_place}
 use Rattle.firsts.specs.Earlier.{slot_in, face_before, face_on, inner_in, inners_before, plain_with, plain_at, plain_slot, plain_of}
@@ -30,15 +25,15 @@ use Rattle.mesh_faces.specs.Once.{fresh_at, fresh-face, whole_corner, torn-star,
 -- ---- one corner
 
 module _ (t : List ℕ) (k : ℕ) (v : Record) (j : ℕ) (p : plain_at t k v j ≡ true) where
-  pub plain-spot : (o : Point) × (chosen_at t v j ≡ At o)
+  pub plain-spot : (o : Point) × (chosen_at t v j ≡ Some o)
   unfolding plain_at
   plain-spot = go (chosen_at t v j) refl p
     where
-      go : (s : Spot) → chosen_at t v j ≡ s → plain_with t k v j s ≡ true → (o : Point) × (chosen_at t v j ≡ At o)
-      go (At o) e h = (o, e)
-      go Nothing e h = absurd (never h)
+      go : (s : Option Point) → chosen_at t v j ≡ s → plain_with t k v j s ≡ true → (o : Point) × (chosen_at t v j ≡ Some o)
+      go (Some o) e h = (o, e)
+      go None e h = absurd (never h)
 
-  tested : (o : Point) → chosen_at t v j ≡ At o
+  tested : (o : Point) → chosen_at t v j ≡ Some o
       → holds t (adjacent_at v j) && (not (inners_before t k (face_on v j o)) || face_before t k (face_on v j o)) ≡ true
   unfolding plain_at
   tested o e = ap (plain_with t k v j) (sym e) ∙ p
@@ -50,7 +45,7 @@ module _ (t : List ℕ) (k : ℕ) (v : Record) (j : ℕ) (p : plain_at t k v j �
       both_left (holds t (adjacent_at v j)) (not (inners_before t k (face_on v j s.0)) || face_before t k (face_on v j s.0)) (tested s.0 s.1) i
       && ap is_point s.1 i
 
-  pub plain-fresh : (o : Point) → chosen_at t v j ≡ At o → (f : Face) → f ≡ face_on v j o → (b : Bool) → inners_before t k f ≡ b
+  pub plain-fresh : (o : Point) → chosen_at t v j ≡ Some o → (f : Face) → f ≡ face_on v j o → (b : Bool) → inners_before t k f ≡ b
       → cond b [] (f ∷ []) ≡ fresh_at t k v j
   plain-fresh o e f g b h = fresh-face t k v j o e f g b (go b h)
     where
@@ -79,16 +74,16 @@ module _ (t : List ℕ) (p : plain_of t ≡ true) where
   unfolding plain_of
   slot-plain k l = upto-each (plain_slot t) (slots_of t) k p l
 
-  pub plain-corner : (k : ℕ) (v : Record) → k < slots_of t → slot_at t k ≡ Holds v → (j : ℕ) → j < v.d → plain_at t k v j ≡ true
+  pub plain-corner : (k : ℕ) (v : Record) → k < slots_of t → slot_at t k ≡ Some v → (j : ℕ) → j < v.d → plain_at t k v j ≡ true
   plain-corner k v l e j h = upto-each (plain_at t k v) v.d j (plain-holds t k v e ∙ slot-plain k l) h
 
   slot_whole : (k : ℕ) → k < slots_of t → slot_torn t k ≡ false
   unfolding slot_torn
   slot_whole k l = go (slot_at t k) refl
     where
-      go : (s : Slot) → slot_at t k ≡ s → torn_in t s ≡ false
-      go Free e = refl
-      go (Holds v) e =
+      go : (s : Option Record) → slot_at t k ≡ s → torn_in t s ≡ false
+      go None e = refl
+      go (Some v) e =
           torn-star t v ∙ ap not (each-upto (whole_corner t v) v.d (λ j h. plain-whole t k v j (plain-corner k v l e j h)))
 
   pub plain-untorn : torn_of t ≡ false

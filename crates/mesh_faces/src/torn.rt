@@ -7,9 +7,9 @@ ghost use Rattle.table.specs.Order.{InOrder};
 ghost use Rattle.mesh_faces.specs.MeshFaces.{torn_at, torn_of};
 ghost use Rattle.mesh_faces.specs.Once.{whole_corner, slot_torn};
 
-use lattice::{Record, Spot, adjacent_of};
+use lattice::{Record, adjacent_of};
 use queries::chosen;
-use table::{Slot, is_there, read_slot};
+use table::{is_there, read_slot};
 
 // Place j of v has its adjacent point and its corner's opposite in the table.
 fn is_whole(t: &[u8], v: Record, j: u8, n: usize) -> bool
@@ -21,8 +21,8 @@ fn is_whole(t: &[u8], v: Record, j: u8, n: usize) -> bool
         return false;
     }
     match chosen(t, v, j, n) {
-        Spot::At(_) => true,
-        Spot::Nothing => false,
+        Some(_) => true,
+        None => false,
     }
 }
 
@@ -32,12 +32,8 @@ fn star_torn(t: &[u8], v: Record, n: usize) -> bool
     requires v_value { valid_of v ≡ true }
     ensures { result ≡ torn_at t.now v }
 {
-    let d = v.d;
-    let mut j = 0;
-    while j < d {
-        if is_whole(t, v, j, n) {
-            j += 1;
-        } else {
+    for j in 0..v.d {
+        if !is_whole(t, v, j, n) {
             return true;
         }
     }
@@ -50,8 +46,8 @@ fn slot_torn(t: &[u8], i: usize, n: usize) -> bool
     ensures { result ≡ slot_torn t.now i }
 {
     match read_slot(t, i) {
-        Slot::Free => false,
-        Slot::Holds(v) => star_torn(t, v, n),
+        None => false,
+        Some(v) => star_torn(t, v, n),
     }
 }
 
@@ -60,12 +56,10 @@ pub fn any_torn(t: &[u8], n: usize) -> bool
     requires { InOrder t.now × (n ≡ slots_of t.now) }
     ensures { result ≡ torn_of t.now }
 {
-    let mut i = 0;
-    while i < n {
+    for i in 0..n {
         if slot_torn(t, i, n) {
             return true;
         }
-        i += 1;
     }
     false
 }

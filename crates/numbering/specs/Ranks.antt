@@ -3,33 +3,29 @@
 -- vertices' keys stand sorted, `Searched` one looked for, `searched-at` and guessed, `stand-number` a number by them ·
 -- `held-close`, `held_number` a vertex of the table.
 -- Assumes nothing.
-use Rattle.std.specs.Prelude.{◌≡◌, refl, Bool, true, false, not, ℕ, zero, suc, ◌+◌, ◌*◌, ◌-◌, ◌≤◌, ◌<◌, ltb, leb, length}
-use Rattle.std.proofs.Common.{sym, ap, ◌∙◌, subst, arith, ltb-true, ltb-false, lt-ltb, le-ltb, leb-true, leb-false, le-leb}
-use mathlib.Core.List.{List, [], ◌∷◌, ◌++◌, Memᴰ}
+use Rattle.std.specs.Prelude.{◌≡◌, refl, Bool, true, false, ℕ, zero, suc, ◌+◌, ◌*◌, ◌-◌, ◌≤◌, ◌<◌, ltb, leb, length, Option, Some, None}
+use Rattle.std.proofs.Common.{sym, ap, ◌∙◌, subst, arith, ltb-true, ltb-false, lt-ltb, le-ltb, le-leb}
+use mathlib.Core.List.{List, [], ◌∷◌, Memᴰ}
 use Rattle.std.proofs.Math.Decide.{dec_lt}
 use Rattle.std.proofs.lemmas.Bool.{lt-leb}
-use Rattle.laws.specs.Each.{never, not-both}
+use Rattle.laws.specs.Each.{never}
 use Rattle.lattice.specs.declared.points.Point.{Point}
 use Rattle.lattice.specs.declared.records.Record.{Record}
 use Rattle.table.specs.Slots.{slots_of, slot_at}
 use Rattle.table.specs.Order.{InOrder}
 use Rattle.table.specs.Entries.{look_up, is_held, holds, listed, records_below, records_of}
 use Rattle.table.specs.MapLaws.{records-none, records-more, records-looked, looked-records, records-count, lookup-valid, lookup-point}
-use Rattle.table.specs.declared.slots.Slot.{Slot}
-use Rattle.table.specs.declared.slots.Slot.TheVariants.{Free, Holds}
-use Rattle.table.specs.declared.entries.Looked.{Looked}
-use Rattle.table.specs.declared.entries.Looked.TheVariants.{Absent, Held}
 use Rattle.firsts.specs.Faces.{bit}
 use Rattle.text.specs.Decimal.{digits}
 use Rattle.text.specs.DecimalLaws.{digits-some, width_above, width-below}
 use Rattle.text.specs.LineOrder.{orders, order_of, Close, close, earlier, order-earlier}
 use Rattle.sorting.specs.Sorting.{sort_by, key_width, key_in}
-use Rattle.sorting.specs.SortLaws.{sort-length, Rising, Decides, sort-rising, rising-at}
+use Rattle.sorting.specs.SortLaws.{Rising, Decides, sort-rising, rising-at}
 use Rattle.sorting.specs.Tally.{nth}
 use Rattle.writers.specs.Kept.{places}
 use Rattle.numbering.specs.Numbering.{how_many, number_of}
 use Rattle.numbering.specs.Keyed.{key_of, keyed, keys_below}
-use Rattle.numbering.specs.Counting.{many-append, many-same, many_more, many-most, many-fewer, many-sort, many-rank}
+use Rattle.numbering.specs.Counting.{many-append, many-same, many_more, many-fewer, many-sort, many-rank}
 use Rattle.numbering.specs.declared.numbers.Widths.{Widths}
 
 -- a record's order is below x
@@ -40,9 +36,9 @@ unfoldable pub below_of : List ℕ → ℕ → ℕ
 below_of t x = how_many (lower x) (records_of t)
 
 -- 1 where slot i holds such a record
-abbrev pub slot_below : ℕ → Slot → ℕ
-slot_below x Free = 0
-slot_below x (Holds r) = bit (lower x r)
+abbrev pub slot_below : ℕ → Option Record → ℕ
+slot_below x None = 0
+slot_below x (Some r) = bit (lower x r)
 
 unfoldable pub below_at : List ℕ → ℕ → ℕ → ℕ
 below_at t x i = slot_below x (slot_at t i)
@@ -59,9 +55,9 @@ below_more t x i =
     ap (how_many (lower x)) (records-more t i) ∙ many-append (lower x) (records_below t i) (listed (slot_at t i))
     ∙ ap (λ (k : ℕ). how_many (lower x) (records_below t i) + k) (one (slot_at t i))
   where
-    one : (s : Slot) → how_many (lower x) (listed s) ≡ slot_below x s
-    one Free = refl
-    one (Holds r) = omega arith
+    one : (s : Option Record) → how_many (lower x) (listed s) ≡ slot_below x s
+    one None = refl
+    one (Some r) = omega arith
 
 -- ---- a vertex's number
 
@@ -75,12 +71,12 @@ module _ (t : List ℕ) (o : InOrder t) where
       many-same (λ r. earlier r.at p) (lower (order_of p)) (records_of t) (λ r m. order-earlier r.at p (record-close r m) c)
 
   -- a vertex of the table
-  found : (p : Point) → holds t p ≡ true → (r : Record) × (look_up t p ≡ Held r)
+  found : (p : Point) → holds t p ≡ true → (r : Record) × (look_up t p ≡ Some r)
   found p h = go (look_up t p) refl h
     where
-      go : (l : Looked) → look_up t p ≡ l → is_held l ≡ true → (r : Record) × (look_up t p ≡ Held r)
-      go Absent e k = absurd (never k)
-      go (Held r) e k = (r, e)
+      go : (l : Option Record) → look_up t p ≡ l → is_held l ≡ true → (r : Record) × (look_up t p ≡ Some r)
+      go None e k = absurd (never k)
+      go (Some r) e k = (r, e)
 
   pub held-close : (p : Point) → holds t p ≡ true → Close p
   held-close p h =
@@ -243,9 +239,6 @@ pub record Searched (t : List ℕ) (x low high : ℕ) : Type 0 where
   pub below : (i : ℕ) → i < low → nth (ordered t) i < x
   pub above : (i : ℕ) → high ≤ i → i < length (ordered t) → x ≤ nth (ordered t) i
 
-pub searched-start : (t : List ℕ) (x k : ℕ) → k ≡ length (ordered t) → Searched t x 0 k
-searched-start t x k e = record { below = λ i l. absurd (omega arith); above = λ i l m. absurd (omega arith) }
-
 module _ (t : List ℕ) (x low high middle : ℕ) (w : Searched t x low high) (inside : middle < length (ordered t)) where
   pub searched-low : nth (ordered t) middle < x → Searched t x (middle + 1) high
   searched-low h = record { below = λ i l. go i l (dec_lt i middle); above = w.above }
@@ -292,9 +285,9 @@ keys_below_lem t x (suc k) h =
     let d = one (slot_at t k) in
     omega arith
   where
-    one : (s : Slot) → how_many (λ v. ltb v (x * places)) (keyed k s) ≡ how_many (lower x) (listed s)
-    one Free = refl
-    one (Holds r) = ap (λ (b : Bool). bit b + 0) (key-lower r x k (omega arith))
+    one : (s : Option Record) → how_many (λ v. ltb v (x * places)) (keyed k s) ≡ how_many (lower x) (listed s)
+    one None = refl
+    one (Some r) = ap (λ (b : Bool). bit b + 0) (key-lower r x k (omega arith))
 
 pub stand-number : (t : List ℕ) → InOrder t → (p : Point) → Close p → (j : ℕ) → j ≤ length (ordered t)
     → ((i : ℕ) → i < j → nth (ordered t) i < order_of p * places) → ((i : ℕ) → j ≤ i → i < length (ordered t) → order_of p * places ≤ nth (ordered t) i)

@@ -1,6 +1,6 @@
 // Guesses of numbers: the number of the vertex in each slot, as keys past those of vertices and faces, where the file has room for them. They only guide:
 // a number is right whatever is guessed.
-ghost use Rattle.std.specs.Prelude.{◌≡◌, ◌+◌, ◌*◌, ◌≤◌, ◌<◌, length};
+ghost use Rattle.std.specs.Prelude.{◌≡◌, true, ◌+◌, ◌*◌, ◌≤◌, ◌<◌, length};
 ghost use Rattle.sorting.specs.Sorting.{key_width};
 ghost use Rattle.writers.specs.Kept.{places};
 ghost use Rattle.numbering.specs.Guesses.{lengths, vertex_least, face_least, Guessed};
@@ -14,7 +14,7 @@ pub const KEY_WIDTH: usize = 8;
 // The least bytes of a face's line.
 const FACE_LEAST: usize = 10;
 
-// Where the guesses begin, 0 where the file, of which the faces' lines begin at `start`, has no room for them.
+// Where the guesses begin, 0 where the file, of which the faces' lines begin at `start`, has no room for them. No plainer as an Option: `guess` takes any base.
 pub fn base_of(vertices: usize, faces: u32, n: usize, start: usize) -> usize
     requires { (vertex_least * vertices ≤ start) × ((n ≤ places) × (start + face_least * faces < lengths)) }
     ensures { vertices < result → key_width * (result + n) ≤ start + face_least * faces }
@@ -22,22 +22,17 @@ pub fn base_of(vertices: usize, faces: u32, n: usize, start: usize) -> usize
     let many = faces as usize;
     let base = vertices + many;
     let room = start + FACE_LEAST * many - KEY_WIDTH * base;
-    if KEY_WIDTH * n <= room {
-        return base;
-    }
-    0
+    if KEY_WIDTH * n <= room { base } else { 0 }
 }
 
-// The guess for a slot.
+// The guess for a slot, 0 where none is stored.
 pub fn guess(out: &[u8], base: usize, slot: usize) -> usize {
     let last = out.len() / KEY_WIDTH;
-    if last <= base {
-        return 0;
+    if base < last && slot < last - base {
+        key(out, base + slot) as usize
+    } else {
+        0
     }
-    if last - base <= slot {
-        return 0;
-    }
-    key(out, base + slot) as usize
 }
 
 // Stores the guess of key i of k.
@@ -51,22 +46,12 @@ fn put_guess(out: &mut [u8], k: usize, base: usize, n: usize, i: usize)
     }
 }
 
-// How many of k keys get a guess: all or none.
-fn guessed(len: usize, k: usize, base: usize, n: usize) -> usize
-    requires { n ≤ places }
-    ensures { (result ≤ k) × (0 < result → (k < base) × (key_width * (base + n) ≤ len)) }
+// Whether a guess for each of n slots has room past k keys.
+fn has_room(len: usize, k: usize, base: usize, n: usize) -> bool
+    ensures { result ≡ true → (k < base) × (key_width * (base + n) ≤ len) }
 {
     let last = len / KEY_WIDTH;
-    if base <= k {
-        return 0;
-    }
-    if last < base {
-        return 0;
-    }
-    if last - base < n {
-        return 0;
-    }
-    k
+    k < base && base <= last && n <= last - base
 }
 
 // Stores the guesses of k sorted keys of vertices.
@@ -74,10 +59,9 @@ pub fn put_guesses(out: &mut [u8], k: usize, base: usize, n: usize)
     requires { (key_width * k ≤ length out.old) × (n ≤ places) }
     ensures { Guessed out.old k base n out.new }
 {
-    let count = guessed(out.len(), k, base, n);
-    let mut i = 0;
-    while i < count {
-        put_guess(out, k, base, n, i);
-        i += 1;
+    if has_room(out.len(), k, base, n) {
+        for i in 0..k {
+            put_guess(out, k, base, n, i);
+        }
     }
 }

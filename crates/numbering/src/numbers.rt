@@ -1,6 +1,5 @@
 // The numbers of vertices: by their sorted keys, or, before any byte is written, how many digits they have.
-ghost use Rattle.std.specs.Prelude.{◌≡◌, true, List, ℕ, ◌+◌, ◌*◌, ◌≤◌, ◌<◌, ltb, leb, length};
-ghost use Rattle.firsts.specs.Faces.{bit};
+ghost use Rattle.std.specs.Prelude.{◌≡◌, true, List, ℕ, ◌+◌, ◌*◌, ◌≤◌, ◌<◌, length};
 ghost use Rattle.table.specs.Slots.{slots_of};
 ghost use Rattle.table.specs.Order.{InOrder};
 ghost use Rattle.text.specs.Decimal.{digits};
@@ -12,7 +11,7 @@ ghost use Rattle.numbering.specs.Ranks.{below_at, below_of, Cut, Cuts, Stand, Se
 
 use lattice::Point;
 use sorting::key;
-use table::{Slot, read_slot};
+use table::read_slot;
 use text::order;
 
 // The slots of the greatest table: a key holds an order above its slot.
@@ -30,28 +29,14 @@ pub struct Widths {
     pub five: u64,
 }
 
-// 1 where x is below y, else 0.
-fn is_lower(x: u64, y: u64) -> u32
-    ensures { (result ≡ bit (ltb x y)) × (result ≤ 1) }
-{
-    (x < y) as u32
-}
-
-// 1 where x reaches y, else 0.
-fn reaches(x: u64, y: u64) -> usize
-    ensures { (result ≡ bit (leb y x)) × (result ≤ 1) }
-{
-    (y <= x) as usize
-}
-
 // 1 where slot i holds a record of a lower order than x, else 0.
 fn is_below(table: &[u8], i: usize, x: u64) -> u32
     requires { InOrder table.now × (i < slots_of table.now) }
     ensures { (result ≡ below_at table.now x i) × (result ≤ 1) }
 {
     match read_slot(table, i) {
-        Slot::Free => 0,
-        Slot::Holds(r) => is_lower(order(r.at), x),
+        None => 0,
+        Some(r) => u32::from(order(r.at) < x), // no branch: which order is lower cannot be foreseen
     }
 }
 
@@ -60,11 +45,9 @@ fn count_below(table: &[u8], n: usize, x: u64) -> u32
     requires { InOrder table.now × (n ≡ slots_of table.now) }
     ensures { result ≡ below_of table.now x }
 {
-    let mut i = 0;
     let mut count = 0;
-    while i < n {
+    for i in 0..n {
         count += is_below(table, i, x);
-        i += 1;
     }
     count
 }
@@ -76,6 +59,7 @@ fn cut(table: &[u8], n: usize, rank: u32) -> u64
 {
     let mut low: u64 = 0;
     let mut high: u64 = ORDERS;
+    // by halving: no range is gone through
     while 1 < high - low {
         let middle = low + (high - low) / 2;
         if count_below(table, n, middle) < rank {
@@ -92,15 +76,11 @@ pub fn widths_of(table: &[u8], n: usize, first: u32) -> Widths
     requires { InOrder table.now × ((n ≡ slots_of table.now) × (first ≤ 1)) }
     ensures { Cuts table.now first result }
 {
-    let two = cut(table, n, 10 - first);
-    let three = cut(table, n, 100 - first);
-    let four = cut(table, n, 1000 - first);
-    let five = cut(table, n, 10000 - first);
     Widths {
-        two,
-        three,
-        four,
-        five,
+        two: cut(table, n, 10 - first),
+        three: cut(table, n, 100 - first),
+        four: cut(table, n, 1000 - first),
+        five: cut(table, n, 10000 - first),
     }
 }
 
@@ -112,10 +92,10 @@ pub fn number_width(w: Widths, first: u32, p: Point) -> usize
         × (result ≤ 5) }
 {
     let x = order(p);
-    let two = reaches(x, w.two);
-    let three = reaches(x, w.three);
-    let four = reaches(x, w.four);
-    let five = reaches(x, w.five);
+    let two = usize::from(w.two <= x);
+    let three = usize::from(w.three <= x);
+    let four = usize::from(w.four <= x);
+    let five = usize::from(w.five <= x);
     1 + two + three + four + five
 }
 
@@ -127,6 +107,7 @@ fn number_among(out: &[u8], k: usize, p: Point) -> u64
     let x = order(p) * PLACES;
     let mut low = 0;
     let mut high = k;
+    // by halving: no range is gone through
     while low < high {
         let middle = low + (high - low) / 2;
         if key(out, middle) < x {
@@ -146,13 +127,7 @@ fn is_place(out: &[u8], k: usize, x: u64, g: usize) -> bool
     if k <= g {
         return false;
     }
-    if key(out, g) < x {
-        return false;
-    }
-    if g == 0 {
-        return true;
-    }
-    key(out, g - 1) < x
+    x <= key(out, g) && (g == 0 || key(out, g - 1) < x)
 }
 
 // The number of the vertex at p, which is a guess, or found by halving.
@@ -162,7 +137,8 @@ pub fn number_near(out: &[u8], k: usize, p: Point, g: usize) -> u64
 {
     let x = order(p) * PLACES;
     if is_place(out, k, x, g) {
-        return g as u64;
+        g as u64
+    } else {
+        number_among(out, k, p)
     }
-    number_among(out, k, p)
 }

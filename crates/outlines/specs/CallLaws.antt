@@ -2,17 +2,20 @@
 -- `PassLeaves`, `pass-leaves` a pass · `PassesLeave` so many · `Passing`, `passing-..` the loop over them · `request-1`, `request-17`, `request-on` ·
 -- `call_none`, `call-other`, `call-on` the call.
 -- Assumes nothing.
-use Rattle.std.specs.Prelude.{◌≡◌, Bool, true, false, List, length, replicate}
+use Rattle.std.specs.Prelude.{◌≡◌, Bool, true, false, List, length, replicate, Result, Ok, Err}
 use Rattle.std.proofs.Math.Path.{refl, ap}
 use Rattle.std.proofs.Common.{sym, ◌∙◌, subst, eq-eqb, ne_eqb}
 use Rattle.std.proofs.Math.Bool.{cond}
 use Prim.Native.Nat.{ℕ, zero, suc, ◌+◌, ◌-◌, ◌≤◌, ◌<◌}
 use native.Mathlib.Omega.{arith}
+use Rattle.lattice.specs.RefusalLaws.{number-some}
+use Rattle.lattice.specs.Refusals.{number_of}
+use Rattle.lattice.specs.declared.refusals.Refusal.{Refusal}
 use Rattle.table.specs.Order.{in_order_of}
 use Rattle.table.specs.Slots.{Table, lengths_fit, slots_of, cleared_of}
 use Rattle.table.specs.SlotLaws.{table-lengths, lengths_none, lengths-other}
 use Rattle.mesh.specs.Subdivide.{MeshAfter, Many, all_or}
-use Rattle.mesh.specs.StepLaws.{Given, After, given-after}
+use Rattle.mesh.specs.StepLaws.{Given, Leaves, given-after}
 use Rattle.outlines.specs.declared.values.Outline.{Outline}
 use Rattle.outlines.specs.Outlines.{list_of, each_of, pass_of, many, passes_from, request_fits, request_of, refine_after, cleared, refine_of}
 use Rattle.outlines.specs.PassLaws.{made_from, made_each}
@@ -20,17 +23,17 @@ use Rattle.outlines.specs.ListLaws.{ListedIn}
 
 -- ---- a pass
 -- what a pass that comes to o leaves of t and s
-pub record PassLeaves (t : List ℕ) (o : MeshAfter) (s : List ℕ) (x f : ℕ) (t' s' : List ℕ) : Type 0 where
-  pub after : After t o x f t'
+pub record PassLeaves (t : List ℕ) (o : MeshAfter) (s : List ℕ) (r : Result ℕ Refusal) (t' s' : List ℕ) : Type 0 where
+  pub after : Leaves t o r t'
   pub scratch : length s' ≡ length s
 
-pub pass-leaves : (o : Outline) (level : ℕ) (t s s' : List ℕ) (k : ℕ) → ListedIn s (list_of o level t) s' k → (x f : ℕ) (t' : List ℕ)
-    → After t (all_or t (made_from t s' 0 k)) x f t' → PassLeaves t (pass_of o level t) s x f t' s'
+pub pass-leaves : (o : Outline) (level : ℕ) (t s s' : List ℕ) (k : ℕ) → ListedIn s (list_of o level t) s' k → (r : Result ℕ Refusal) (t' : List ℕ)
+    → Leaves t (all_or t (made_from t s' 0 k)) r t' → PassLeaves t (pass_of o level t) s r t' s'
 unfolding pass_of
-pass-leaves o level t s s' k l x f t' a =
+pass-leaves o level t s s' k l r t' a =
     let e : made_from t s' 0 k ≡ each_of t (list_of o level t) = ap (made_from t s' 0) l.count ∙ made_each t s' 0 (list_of o level t) l.points in
     record {
-      after = subst (λ (m : MeshAfter). After t (all_or t m) x f t') e a;
+      after = subst (λ (m : MeshAfter). Leaves t (all_or t m) r t') e a;
       scratch = l.long;
     }
 
@@ -88,29 +91,25 @@ module _ (o : Outline) (level : ℕ) (t₀ s₀ : List ℕ) (n count : ℕ) (t s
       let z : 0 ≡ count - i = omega (arith, g.within) in
       leave-is s₀ s 0 i t (passes-end o level t i ∙ ap (passes_from o level t i) z ∙ g.left) g.scratch
 
-  module _ (h : i < count) (x f' : ℕ) (t' s' : List ℕ) (l : PassLeaves t (pass_of o level t) s x f' t' s') where
-    pub passing-long : length t' ≡ length t₀
-    passing-long = l.after.long ∙ g.long
-
-    pub passing-scratch : length s' ≡ length s₀
-    passing-scratch = l.scratch ∙ g.scratch
-
-    pub passing-stop : (x ≡ 0 → ⊥) → PassesLeave (passes_from o level t₀ 0 count) s₀ x i t' s'
-    passing-stop nz =
+  module _ (h : i < count) (t' s' : List ℕ) where
+    pub passing-stop : (why : Refusal) → PassLeaves t (pass_of o level t) s (Err why) t' s'
+        → PassesLeave (passes_from o level t₀ 0 count) s₀ (number_of why) i t' s'
+    passing-stop why l =
         let a = l.after in
-        leave-is s₀ s' x i t'
-        ((λ j. many (a.number j) i (a.bytes j)) ∙ passes-stop o level t i (count - i) (omega arith) (λ z. nz (a.number ∙ z)) ∙ g.left) passing-scratch
+        leave-is s₀ s' (number_of why) i t'
+        ((λ j. many (a.number j) i (a.bytes j)) ∙ passes-stop o level t i (count - i) (omega arith) (λ z. number-some why (a.number ∙ z)) ∙ g.left)
+        (l.scratch ∙ g.scratch)
 
-    pub passing-more : x ≡ 0 → Passing o level t₀ s₀ n count t' s' f' (i + 1)
-    passing-more z =
+    pub passing-more : (f' : ℕ) → PassLeaves t (pass_of o level t) s (Ok f') t' s' → Passing o level t₀ s₀ n count t' s' f' (i + 1)
+    passing-more f' l =
         let a = l.after in
         let step : count - (i + 1) ≡ count - i - 1 = omega arith in
         record {
           within = omega arith;
           given = given-after g.given a;
-          long = passing-long;
-          scratch = passing-scratch;
-          left = (λ j. passes_from o level (a.bytes j) (i + 1) (step j)) ∙ passes-more o level t i (count - i) (omega arith) (sym a.number ∙ z) ∙ g.left;
+          long = a.long ∙ g.long;
+          scratch = l.scratch ∙ g.scratch;
+          left = (λ j. passes_from o level (a.bytes j) (i + 1) (step j)) ∙ passes-more o level t i (count - i) (omega arith) (sym a.number) ∙ g.left;
         }
 
 -- ---- the request

@@ -1,7 +1,7 @@
 -- Passes of a grown table: 8 alone can come, exactly where the list wants more slots than are free; and it stays grown.
 -- `GrownEnd`, `each-grown` a list in turn · `PassEnd`, `pass-grown` a pass · `passes-grown` the passes.
 -- Assumes nothing.
-use Rattle.std.specs.Prelude.{◌≡◌, ◌⊎◌, Bool, cond, ℕ, zero, suc, ◌+◌, ◌*◌, ◌≤◌, ◌<◌, eqb, length}
+use Rattle.std.specs.Prelude.{◌≡◌, ◌⊎◌, Bool, cond, ℕ, zero, suc, ◌+◌, ◌*◌, ◌≤◌, ◌<◌, eqb, length, Some, None}
 use Rattle.std.proofs.Math.Path.{refl}
 use Rattle.std.proofs.Common.{sym, ◌∙◌, ap, subst, inl, inr, arith, eq-eqb, ne_eqb}
 use mathlib.Core.List.{List, [], ◌∷◌, Memᴰ}
@@ -9,7 +9,6 @@ use Rattle.lattice.specs.declared.records.Record.{Record}
 use Rattle.table.specs.Entries.{look_up}
 use Rattle.table.specs.Slots.{free_slots}
 use Rattle.table.specs.MapLaws.{order-test}
-use Rattle.table.specs.declared.entries.Looked.TheVariants.{Absent, Held}
 use Rattle.mesh.specs.Grown.{Grown}
 use Rattle.mesh.specs.Subdivide.{MeshAfter, mesh_after, subdivided, subdivide_looked, subdivide_of, all_or, Many}
 use Rattle.mesh.specs.SubdivideLaws.{Intact, subdivided-free}
@@ -39,7 +38,7 @@ each-grown t g (v ∷ vs) f =
     here : Memᴰ v (v ∷ vs)
     here = Memᴰ.head refl
 
-    at : look_up t v.at ≡ Held v
+    at : look_up t v.at ≡ Some v
     at = f.held v here
 
     is : step_at t v.at ≡ own t v
@@ -72,7 +71,7 @@ each-grown t g (v ∷ vs) f =
     turn : End t v.at.a v.at.b v.at.m.0 → step.Divided t v
         → (Intact t v → Grown (subdivided t v) → GrownEnd (subdivided t v) vs (each_of (subdivided t v) vs))
         → GrownEnd t (v ∷ vs) (each_of t (v ∷ vs))
-    turn (missing e z) d ih = absurd (let x : Absent ≡ Held v = sym e ∙ own-looked t g.order v at in let q : ◌≡◌ {A = ℕ} 0 1 = cc in omega arith)
+    turn (missing e z) d ih = absurd (let x : None ≡ Some v = sym e ∙ own-looked t g.order v at in let q : ◌≡◌ {A = ℕ} 0 1 = cc in omega arith)
     turn (lesser u e n z) d ih =
         let same : u ≡ v = step.held_same (sym e ∙ own-looked t g.order v at) in absurd (n (ap (λ (r : Record). r.d) same ∙ f.six v here))
     turn (top u e s n z) d ih =

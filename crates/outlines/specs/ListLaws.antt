@@ -3,7 +3,7 @@
 -- is listed of a slot, `wanted-all` all slots are the list's records · `filled_next` one slot more · `ListedIn`, `listed_in` the keys sorted are the list's ·
 -- `listed-stands`, `stands-listed`, `list-rises` which records the list has, and in which order.
 -- Assumes nothing.
-use Rattle.std.specs.Prelude.{◌≡◌, Bool, true, false, cond, ◌&&◌, not, List, [], ◌∷◌, ◌++◌, map, ℕ, zero, suc, ◌+◌, ◌*◌, ◌≤◌, ◌<◌, ltb, length}
+use Rattle.std.specs.Prelude.{◌≡◌, Bool, true, false, cond, ◌&&◌, not, List, [], ◌∷◌, ◌++◌, map, ℕ, zero, suc, ◌+◌, ◌*◌, ◌≤◌, ◌<◌, ltb, length, Option, Some, None}
 use Rattle.std.proofs.Math.Path.{refl, sym}
 use Rattle.std.proofs.Common.{◌∙◌, ap, subst, arith, length-append, ext_get_or}
 use Rattle.std.proofs.lemmas.List.{map-append, length-map}
@@ -19,9 +19,6 @@ use Rattle.table.specs.Slots.{slots_of, slot_at}
 use Rattle.table.specs.Order.{InOrder}
 use Rattle.table.specs.Entries.{look_up, listed, records_below, records_of}
 use Rattle.table.specs.MapLaws.{records-looked, looked-records, lookup-valid}
-use Rattle.table.specs.declared.entries.Looked.TheVariants.{Held}
-use Rattle.table.specs.declared.slots.Slot.{Slot}
-use Rattle.table.specs.declared.slots.Slot.TheVariants.{Free, Holds}
 use Rattle.across.specs.OppositeLaws.{adjacent-bound, wide-bound, high-bound}
 use Rattle.text.specs.LineOrder.{order_of, Close, close, order-earlier, order-back, point_of}
 use Rattle.sorting.specs.Sorting.{key_width, sort_by, key_in, keys_in, Sorts}
@@ -73,11 +70,11 @@ module _ (o : Outline) (level : ℕ) (v : Record) where
 abbrev pub point_key : Record → ℕ
 point_key r = order_of r.at
 
-abbrev pub wanted_in : Outline → ℕ → Slot → Slot
-wanted_in o level Free = Free
-wanted_in o level (Holds r) = cond (wanted o level r) (Holds r) Free
+abbrev pub wanted_in : Outline → ℕ → Option Record → Option Record
+wanted_in o level None = None
+wanted_in o level (Some r) = cond (wanted o level r) (Some r) None
 
-abbrev pub wanted_at : Outline → ℕ → List ℕ → ℕ → Slot
+abbrev pub wanted_at : Outline → ℕ → List ℕ → ℕ → Option Record
 wanted_at o level t i = wanted_in o level (slot_at t i)
 
 leave-append : (f : Record → Bool) (xs ys : List Record) → leave_out f (xs ++ ys) ≡ leave_out f xs ++ leave_out f ys
@@ -90,12 +87,12 @@ leave-append f (x ∷ xs) ys = go (f x) (leave-append f xs ys)
     go false e = ap (λ (l : List Record). x ∷ l) e
     go true e = e
 
-listed-wanted : (o : Outline) (level : ℕ) (s : Slot) → listed (wanted_in o level s) ≡ leave_out (unwanted o level) (listed s)
+listed-wanted : (o : Outline) (level : ℕ) (s : Option Record) → listed (wanted_in o level s) ≡ leave_out (unwanted o level) (listed s)
 unfolding leave_out
-listed-wanted o level Free = refl
-listed-wanted o level (Holds r) = go (wanted o level r)
+listed-wanted o level None = refl
+listed-wanted o level (Some r) = go (wanted o level r)
   where
-    go : (b : Bool) → listed (cond b (Holds r) Free) ≡ cond (not b) [] (r ∷ [])
+    go : (b : Bool) → listed (cond b (Some r) None) ≡ cond (not b) [] (r ∷ [])
     go true = refl
     go false = refl
 
@@ -106,37 +103,34 @@ wanted-all o level t (suc n) =
     (λ i. wanted-all o level t n i ++ listed-wanted o level (slot_at t n) i) ∙ sym (leave-append (unwanted o level) (records_below t n) (listed (slot_at t n)))
 
 -- a slot's key stored, or not
-pub added_none : (o : Outline) (level : ℕ) (t : List ℕ) (i : ℕ) (s : List ℕ) (k : ℕ) → wanted_at o level t i ≡ Free
+pub added_none : (o : Outline) (level : ℕ) (t : List ℕ) (i : ℕ) (s : List ℕ) (k : ℕ) → wanted_at o level t i ≡ None
     → Added s k (map point_key (listed (wanted_at o level t i))) s k
-added_none o level t i s k e = subst (λ (x : Slot). Added s k (map point_key (listed x)) s k) (sym e) (refl, refl)
+added_none o level t i s k e = subst (λ (x : Option Record). Added s k (map point_key (listed x)) s k) (sym e) (refl, refl)
 
-pub in-free : (o : Outline) (level : ℕ) (t : List ℕ) (i : ℕ) → slot_at t i ≡ Free → wanted_at o level t i ≡ Free
-in-free o level t i e = ap (wanted_in o level) e
-
-pub in_held : (o : Outline) (level : ℕ) (t : List ℕ) (i : ℕ) (r : Record) → slot_at t i ≡ Holds r → (b : Bool) → wanted o level r ≡ b
-    → wanted_at o level t i ≡ cond b (Holds r) Free
-in_held o level t i r e b h = ap (wanted_in o level) e ∙ ap (λ (x : Bool). cond x (Holds r) Free) h
+pub in_held : (o : Outline) (level : ℕ) (t : List ℕ) (i : ℕ) (r : Record) → slot_at t i ≡ Some r → (b : Bool) → wanted o level r ≡ b
+    → wanted_at o level t i ≡ cond b (Some r) None
+in_held o level t i r e b h = ap (wanted_in o level) e ∙ ap (λ (x : Bool). cond x (Some r) None) h
 
 -- one slot more, whatever its records' keys
-pub filled_next : (g : Record → ℕ) (f : ℕ → Slot) (i : ℕ) (o o₁ o₂ : List ℕ) (k k₂ : ℕ) → Filled o (map g (standing f i)) o₁ k
+pub filled_next : (g : Record → ℕ) (f : ℕ → Option Record) (i : ℕ) (o o₁ o₂ : List ℕ) (k k₂ : ℕ) → Filled o (map g (standing f i)) o₁ k
     → Added o₁ k (map g (listed (f i))) o₂ k₂ → Filled o (map g (standing f (i + 1))) o₂ k₂
 filled_next g f i o o₁ o₂ k k₂ w a =
     subst (λ (ks : List ℕ). Filled o ks o₂ k₂) (sym (ap (map g) (standing-more f i) ∙ map-append g (standing f i) (listed (f i)))) (go (f i) a)
   where
-    go : (s : Slot) → Added o₁ k (map g (listed s)) o₂ k₂ → Filled o (map g (standing f i) ++ map g (listed s)) o₂ k₂
-    go Free b = filled-same o (map g (standing f i)) o₁ o₂ k k₂ w b
-    go (Holds r) b = subst (Filled o (map g (standing f i) ++ g r ∷ []) o₂) (sym b.1) (filled_put o (map g (standing f i)) o₁ o₂ k (g r) w b.0)
+    go : (s : Option Record) → Added o₁ k (map g (listed s)) o₂ k₂ → Filled o (map g (standing f i) ++ map g (listed s)) o₂ k₂
+    go None b = filled-same o (map g (standing f i)) o₁ o₂ k k₂ w b
+    go (Some r) b = subst (Filled o (map g (standing f i) ++ g r ∷ []) o₂) (sym b.1) (filled_put o (map g (standing f i)) o₁ o₂ k (g r) w b.0)
 
-pub standing-nil : (g : Record → ℕ) (f : ℕ → Slot) → map g (standing f 0) ≡ []
+pub standing-nil : (g : Record → ℕ) (f : ℕ → Option Record) → map g (standing f 0) ≡ []
 unfolding standing
 standing-nil g f = refl
 
-listed-most : (s : Slot) → length (listed s) ≤ 1
-listed-most Free = omega arith
-listed-most (Holds r) = omega arith
+listed-most : (s : Option Record) → length (listed s) ≤ 1
+listed-most None = omega arith
+listed-most (Some r) = omega arith
 
 -- there are no more keys than slots
-pub standing-few : (f : ℕ → Slot) (i : ℕ) → length (standing f i) ≤ i
+pub standing-few : (f : ℕ → Option Record) (i : ℕ) → length (standing f i) ≤ i
 unfolding standing
 standing-few f zero = omega arith
 standing-few f (suc i) = omega (arith, length-append (standing f i) (listed (f i)), standing-few f i, listed-most (f i))
@@ -164,12 +158,12 @@ module _ (o : Outline) (level : ℕ) (t : List ℕ) (i : InOrder t) where
   all = leave_out (unwanted o level) (records_of t)
 
   -- "the degree 6 vertices below a given level with a crossing edge": those, and no others
-  pub listed-stands : (r : Record) → L.Memᴰ r (list_of o level t) → (look_up t r.at ≡ Held r) × (wanted o level r ≡ true)
+  pub listed-stands : (r : Record) → L.Memᴰ r (list_of o level t) → (look_up t r.at ≡ Some r) × (wanted o level r ≡ true)
   listed-stands r m =
       let w = left-holds t i (unwanted o level) r m in
       (records-looked t i r w.0, not-false (wanted o level r) w.1)
 
-  pub stands-listed : (r : Record) → look_up t r.at ≡ Held r → wanted o level r ≡ true → L.Memᴰ r (list_of o level t)
+  pub stands-listed : (r : Record) → look_up t r.at ≡ Some r → wanted o level r ≡ true → L.Memᴰ r (list_of o level t)
   stands-listed r h e = holds-left t i (unwanted o level) r (looked-records t i r.at r h) (ap not e)
 
   -- "in full-file order": each line stands before those after it

@@ -3,7 +3,7 @@
 -- `point_in`, `made_from` the subdivisions from a key on, `Points`, `made_each` they are the list's · `Stepped`, `stepped` one subdivision, refused or made ·
 -- `LastMade`, `last-held`, `last-undone` the last one undone · `Steps` those made so far, `steps-more`, `steps-last` · `Making`, `making-..` the loop.
 -- Assumes nothing.
-use Rattle.std.specs.Prelude.{◌≡◌, refl, List, [], ◌∷◌, length}
+use Rattle.std.specs.Prelude.{◌≡◌, refl, List, [], ◌∷◌, length, Option, Some, None}
 use Rattle.std.proofs.Common.{sym, ◌∙◌, subst}
 use Rattle.std.proofs.Math.Path.{ap}
 use Prim.Native.Nat.{ℕ, zero, suc, ◌+◌, ◌-◌, ◌≤◌, ◌<◌}
@@ -18,8 +18,6 @@ use Rattle.table.specs.Order.{InOrder}
 use Rattle.table.specs.Search.{find_of}
 use Rattle.table.specs.Slots.{Table, free_slots}
 use Rattle.table.specs.MapLaws.{lookup-point, table_same}
-use Rattle.table.specs.declared.entries.Looked.{Looked}
-use Rattle.table.specs.declared.entries.Looked.TheVariants.{Absent, Held}
 use Rattle.text.specs.LineOrder.{point_of}
 use Rattle.sorting.specs.Sorting.{key_in}
 use Rattle.mesh.specs.Subdivide.{MeshAfter, mesh_after, subdivided, subdivide_looked, and_then, all_or}
@@ -77,13 +75,13 @@ pub data Stepped (t : List ℕ) (p : Point) : Type 0 where
 pub stepped : (t : List ℕ) → InOrder t → (p : Point) → Stepped t p
 stepped t o p = go (look_up t p) refl
   where
-    vertex : (v : Record) → look_up t p ≡ Held v → Divided t v → Stepped t p
+    vertex : (v : Record) → look_up t p ≡ Some v → Divided t v → Stepped t p
     vertex v e (denied x n h) = refused x n (h ∙ ap (subdivide_looked t) (sym e))
     vertex v e (done w h) = made v (sym (lookup-point t o p v e)) w (h ∙ ap (subdivide_looked t) (sym e))
 
-    go : (l : Looked) → look_up t p ≡ l → Stepped t p
-    go Absent e = refused 3 (omega arith) (ap (subdivide_looked t) (sym e))
-    go (Held v) e = vertex v e (divided t v (looked-standing t o p v e))
+    go : (l : Option Record) → look_up t p ≡ l → Stepped t p
+    go None e = refused 3 (omega arith) (ap (subdivide_looked t) (sym e))
+    go (Some v) e = vertex v e (divided t v (looked-standing t o p v e))
 
 -- ---- the last one undone
 -- u was subdivided at p, which left t
@@ -98,19 +96,19 @@ module _ (p : Point) (t u : List ℕ) (m : LastMade p t u) where
   abbrev c : Record
   c = centre_of m.vertex
 
-  pub last-held : look_up t p ≡ Held c
+  pub last-held : look_up t p ≡ Some c
   last-held = (λ i. look_up (m.is i) (m.point i)) ∙ subdivided-centre u m.vertex m.whole
 
   pub last-undone : undone t c ≡ u
   last-undone = ap (λ (x : List ℕ). undone x c) m.is ∙ subdivide-undo u m.vertex m.whole m.bytes
 
-  pub last-absent : look_up t p ≡ Absent → ⊥
-  last-absent e = let x : Absent ≡ Held c = sym e ∙ last-held in let z : ◌≡◌ {A = ℕ} 0 1 = cc in omega arith
+  pub last-absent : look_up t p ≡ None → ⊥
+  last-absent e = let x : None ≡ Some c = sym e ∙ last-held in let z : ◌≡◌ {A = ℕ} 0 1 = cc in omega arith
 
   pub last-table : (n : ℕ) → Table t n → Table u n
   last-table n w = table_same t u n (sym (ap length m.is ∙ subdivided-length u m.vertex)) w
 
-  module _ (r : Record) (e : look_up t p ≡ Held r) where
+  module _ (r : Record) (e : look_up t p ≡ Some r) where
     last-same : c ≡ r
     last-same = held_same (sym last-held ∙ e)
 
@@ -184,7 +182,7 @@ module _ (s t₀ : List ℕ) (n k : ℕ) (t : List ℕ) (f i : ℕ) (g : Making 
 
   module _ (h : i < k) where
     pub making-stop : (f₀ : ℕ) → Given t₀ n f₀ → (x : ℕ) → x ≡ (step_at t (point_in s i)).number → (x ≡ 0 → ⊥) → (t' : List ℕ) → t' ≡ t₀
-        → After t₀ (all_or t₀ all) x f₀ t'
+        → After t₀ (all_or t₀ all) x (free_slots t') t'
     making-stop f₀ g₀ x e nz t' same =
         let st : step_at t (point_in s i) ≡ all = made-stop t s i (k - i) (omega arith) (λ z. nz (e ∙ z)) ∙ g.left in
         let num : x ≡ all.number = e ∙ ap (λ (o : MeshAfter). o.number) st in
@@ -193,7 +191,7 @@ module _ (s t₀ : List ℕ) (n k : ℕ) (t : List ℕ) (f i : ℕ) (g : Making 
           number = a.number;
           bytes = same ∙ a.bytes;
           order = subst InOrder (sym same) a.order;
-          free = a.free ∙ ap free_slots (sym same);
+          free = refl;
           long = ap length same;
           stays = λ p i h. ap (λ (u : List ℕ). find_of u p) same ∙ h;
         }

@@ -4,7 +4,7 @@
 -- `FirstMet`, `pass-first` the first in the list that is refused decides · `each-once`, `pass-once` each listed vertex is subdivided once, `pass-others` no
 -- other of degree 6 is · `pass-order` in order after · `refused-back` refused, the table as it was.
 -- Assumes nothing.
-use Rattle.std.specs.Prelude.{◌≡◌, ◌⊎◌, Bool, true, false, cond, ◌&&◌, ℕ, ◌≤◌, ◌<◌, eqb, ltb}
+use Rattle.std.specs.Prelude.{◌≡◌, ◌⊎◌, Bool, true, false, cond, ◌&&◌, ℕ, ◌≤◌, ◌<◌, eqb, ltb, Some, None}
 use Rattle.std.proofs.Math.Path.{refl, sym, ap}
 use Rattle.std.proofs.Common.{◌∙◌, subst, inr, arith, eq-eqb, ne_eqb, eqb-true, ltb-true}
 use Rattle.std.proofs.Math.Logic.{inl}
@@ -18,7 +18,6 @@ use Rattle.table.specs.Entries.{look_up}
 use Rattle.table.specs.Order.{InOrder}
 use Rattle.table.specs.Slots.{free_slots}
 use Rattle.table.specs.MapLaws.{Apart}
-use Rattle.table.specs.declared.entries.Looked.TheVariants.{Absent, Held}
 use Rattle.text.specs.LineOrder.{order_of, Close, order-earlier}
 use Rattle.sorting.specs.SortLaws.{Rising}
 use Rattle.writers.specs.FileLaws.{Before}
@@ -36,11 +35,11 @@ six-torn : (k' n : ℕ) (u : Record) → u.d ≡ 6 → accepts_of k' n u ≡ tru
 unfolding accepts_of
 six-torn k' n u six h = let z : eqb u.n.0 n && false ≡ true = rw six at h in not-both z (and-false (eqb u.n.0 n))
 
-pub others-six : (t : List ℕ) (v : Record) → Intact t v → (r : Record) → look_up t r.at ≡ Held r → r.d ≡ 6 → (r.at ≡ v.at → ⊥)
-    → look_up (subdivided t v) r.at ≡ Held r
+pub others-six : (t : List ℕ) (v : Record) → Intact t v → (r : Record) → look_up t r.at ≡ Some r → r.d ≡ 6 → (r.at ≡ v.at → ⊥)
+    → look_up (subdivided t v) r.at ≡ Some r
 others-six t v w r h six ne =
     subdivided-rest t v w r.at ne
-    (λ j l e. (let x : Absent ≡ Held r = sym (w.fresh j l) ∙ ap (look_up t) (sym e) ∙ h in let z : ◌≡◌ {A = ℕ} 0 1 = cc in omega arith))
+    (λ j l e. (let x : None ≡ Some r = sym (w.fresh j l) ∙ ap (look_up t) (sym e) ∙ h in let z : ◌≡◌ {A = ℕ} 0 1 = cc in omega arith))
     (λ j l e.
     let (u, at, a) = old t v w j l in
     let same : u ≡ r = step.held_same (sym at ∙ ap (look_up t) (sym e) ∙ h) in
@@ -49,7 +48,7 @@ others-six t v w r h six ne =
 
 -- ---- a list whose vertices all stand there, of degree 6, below level 12, no two at one point
 pub record Fine (t : List ℕ) (vs : List Record) : Type 0 where
-  pub held : (r : Record) → Memᴰ r vs → look_up t r.at ≡ Held r
+  pub held : (r : Record) → Memᴰ r vs → look_up t r.at ≡ Some r
   pub six : (r : Record) → Memᴰ r vs → r.d ≡ 6
   pub low : (r : Record) → Memᴰ r vs → r.n.0 < 12
   pub apart : Apart vs
@@ -130,7 +129,7 @@ each_number t i (v ∷ vs) f =
     here : Memᴰ v (v ∷ vs)
     here = Memᴰ.head refl
 
-    at : look_up t v.at ≡ Held v
+    at : look_up t v.at ≡ Some v
     at = f.held v here
 
     is : step_at t v.at ≡ subdivide_vertex t v
@@ -206,7 +205,7 @@ record FirstMade (t : List ℕ) (v : Record) (vs : List Record) : Type 0 where
 first_made : (t : List ℕ) → InOrder t → (v : Record) (vs : List Record) → Fine t (v ∷ vs) → (each_of t (v ∷ vs)).number ≡ 0 → FirstMade t v vs
 first_made t i v vs f z = go (step.divided t v (record { order = i; held = at }))
   where
-    at : look_up t v.at ≡ Held v
+    at : look_up t v.at ≡ Some v
     at = f.held v (Memᴰ.head refl)
 
     is : step_at t v.at ≡ subdivide_vertex t v
@@ -223,21 +222,21 @@ first_made t i v vs f z = go (step.divided t v (record { order = i; held = at })
 
 -- ---- "and then subdivides them all": each once
 -- an accepted list leaves every vertex of degree 6 that is not on it
-each_keeps : (t : List ℕ) → InOrder t → (vs : List Record) → Fine t vs → (each_of t vs).number ≡ 0 → (r : Record) → look_up t r.at ≡ Held r → r.d ≡ 6
-    → ((v : Record) → Memᴰ v vs → r.at ≡ v.at → ⊥) → look_up (each_of t vs).bytes r.at ≡ Held r
+each_keeps : (t : List ℕ) → InOrder t → (vs : List Record) → Fine t vs → (each_of t vs).number ≡ 0 → (r : Record) → look_up t r.at ≡ Some r → r.d ≡ 6
+    → ((v : Record) → Memᴰ v vs → r.at ≡ v.at → ⊥) → look_up (each_of t vs).bytes r.at ≡ Some r
 each_keeps t i [] f z r h six off = unfold each_of in h
 each_keeps t i (v ∷ vs) f z r h six off =
     turn (first_made t i v vs f z)
     (λ w y. each_keeps (subdivided t v) (subdivided-order t v w) vs (fine-rest t v vs f w) y r
     (others-six t v w r h six (off v (Memᴰ.head refl))) six (λ u m. off u (Memᴰ.tail m)))
   where
-    turn : FirstMade t v vs → (Intact t v → (each_of (subdivided t v) vs).number ≡ 0 → look_up (each_of (subdivided t v) vs).bytes r.at ≡ Held r)
-        → look_up (each_of t (v ∷ vs)).bytes r.at ≡ Held r
+    turn : FirstMade t v vs → (Intact t v → (each_of (subdivided t v) vs).number ≡ 0 → look_up (each_of (subdivided t v) vs).bytes r.at ≡ Some r)
+        → look_up (each_of t (v ∷ vs)).bytes r.at ≡ Some r
     turn x ih = ap (λ (o : MeshAfter). look_up o.bytes r.at) (sym x.rest) ∙ ih x.whole x.ends
 
 -- each vertex of an accepted list has its next star: it was subdivided, and once
 pub each-once : (t : List ℕ) → InOrder t → (vs : List Record) → Fine t vs → (each_of t vs).number ≡ 0 → (r : Record) → Memᴰ r vs
-    → look_up (each_of t vs).bytes r.at ≡ Held (centre_of r)
+    → look_up (each_of t vs).bytes r.at ≡ Some (centre_of r)
 each-once t i [] f z r m = elim m [ ]
 each-once t i (v ∷ vs) f z r m =
     let x = first_made t i v vs f z in
@@ -247,16 +246,16 @@ each-once t i (v ∷ vs) f z r m =
     ∙ go x o g m (λ m'. each-once (subdivided t v) o vs g x.ends r m')
   where
     go : (x : FirstMade t v vs) → InOrder (subdivided t v) → Fine (subdivided t v) vs → Memᴰ r (v ∷ vs)
-        → (Memᴰ r vs → look_up (each_of (subdivided t v) vs).bytes r.at ≡ Held (centre_of r))
-        → look_up (each_of (subdivided t v) vs).bytes r.at ≡ Held (centre_of r)
+        → (Memᴰ r vs → look_up (each_of (subdivided t v) vs).bytes r.at ≡ Some (centre_of r))
+        → look_up (each_of (subdivided t v) vs).bytes r.at ≡ Some (centre_of r)
     go x o g (Memᴰ.head e) ih =
-        subst (λ (u : Record). look_up (each_of (subdivided t v) vs).bytes u.at ≡ Held (centre_of u)) (sym e)
+        subst (λ (u : Record). look_up (each_of (subdivided t v) vs).bytes u.at ≡ Some (centre_of u)) (sym e)
         (each_keeps (subdivided t v) o vs g x.ends (centre_of v) (subdivided-centre t v x.whole) (f.six v (Memᴰ.head refl))
         (λ u m e. f.apart.0 u m (sym e)))
     go x o g (Memᴰ.tail m) ih = ih m
 
 pub pass-once : (o : Outline) (level : ℕ) → level ≤ 12 → (t : List ℕ) → InOrder t → (pass_of o level t).number ≡ 0 → (r : Record)
-    → Memᴰ r (list_of o level t) → look_up (pass_of o level t).bytes r.at ≡ Held (centre_of r)
+    → Memᴰ r (list_of o level t) → look_up (pass_of o level t).bytes r.at ≡ Some (centre_of r)
 unfolding pass_of
 pass-once o level l t i z r m =
     let a = each_of t (list_of o level t) in
@@ -266,7 +265,7 @@ pass-once o level l t i z r m =
 
 -- no other vertex of degree 6 is subdivided
 pub pass-others : (o : Outline) (level : ℕ) → level ≤ 12 → (t : List ℕ) → InOrder t → (pass_of o level t).number ≡ 0 → (r : Record)
-    → look_up t r.at ≡ Held r → r.d ≡ 6 → (Memᴰ r (list_of o level t) → ⊥) → look_up (pass_of o level t).bytes r.at ≡ Held r
+    → look_up t r.at ≡ Some r → r.d ≡ 6 → (Memᴰ r (list_of o level t) → ⊥) → look_up (pass_of o level t).bytes r.at ≡ Some r
 unfolding pass_of
 pass-others o level l t i z r h six off =
     let a = each_of t (list_of o level t) in

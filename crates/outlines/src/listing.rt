@@ -8,21 +8,14 @@ ghost use Rattle.table.specs.Entries.{listed};
 ghost use Rattle.sorting.specs.Sorting.{key_width};
 ghost use Rattle.writers.specs.Kept.{standing, Added};
 ghost use Rattle.writers.specs.KeptLaws.{Filled};
-ghost use Rattle.outlines.specs.Outlines.{unlike, crosses_at, wanted, list_of};
+ghost use Rattle.outlines.specs.Outlines.{crosses_at, wanted, list_of};
 ghost use Rattle.outlines.specs.ListLaws.{point_key, wanted_at, ListedIn};
 
 use crate::values::{Outline, is_below};
 use lattice::{Record, adjacent_of};
 use sorting::{put_key, sort};
-use table::{Slot, read_slot};
+use table::read_slot;
 use text::order;
-
-// One of two holds, not both.
-fn differ(x: bool, y: bool) -> bool
-    ensures { result ≡ unlike x y }
-{
-    if x { !y } else { y }
-}
 
 // "a crossing edge", of the six of a vertex of degree 6.
 fn crosses(o: Outline, v: Record) -> bool
@@ -30,12 +23,11 @@ fn crosses(o: Outline, v: Record) -> bool
     ensures { result ≡ among 6 (crosses_at o v) }
 {
     let here = is_below(o, v.at);
-    let mut j: u8 = 0;
-    while j < 6 {
-        if differ(here, is_below(o, adjacent_of(v, j))) {
+    for j in 0..6 {
+        let there = is_below(o, adjacent_of(v, j));
+        if here != there {
             return true;
         }
-        j += 1;
     }
     false
 }
@@ -64,8 +56,8 @@ fn put_wanted(table: &[u8], o: Outline, level: u8, i: usize, out: &mut [u8], k: 
 {
     let s = read_slot(table, i);
     match s {
-        Slot::Free => k,
-        Slot::Holds(v) => {
+        None => k,
+        Some(v) => {
             if is_wanted(o, level, v) {
                 put_key(out, k, order(v.at));
                 return k + 1;
@@ -81,11 +73,9 @@ fn put_list(table: &[u8], o: Outline, level: u8, n: usize, out: &mut [u8]) -> us
     requires out_len { length out.old ≡ length table.now }
     ensures { Filled out.old (map point_key (standing (wanted_at o level table.now) n)) out.new result }
 {
-    let mut i = 0;
     let mut k = 0;
-    while i < n {
+    for i in 0..n {
         k = put_wanted(table, o, level, i, out, k);
-        i += 1;
     }
     k
 }

@@ -2,6 +2,7 @@
 // of what comes back from its reduced file.
 #![tactic(auto)]
 
+use lattice::Refusal;
 use std::io::{Stdout, Write};
 
 // 40 slots of 12 bytes.
@@ -18,17 +19,22 @@ fn say(output: &mut Stdout, text: &[u8]) {
 
 // The first n bytes, where there are so many.
 fn show(output: &mut Stdout, bytes: &[u8], n: usize) {
-    if n <= bytes.len() {
-        say(output, &bytes[..n]);
+    if let Some(part) = bytes.get(..n) {
+        say(output, part);
     }
 }
 
-// Lays the plan: the second subdivision names its vertex by another spelling.
+// The bytes of a file, none where it is refused.
+fn bytes(file: Result<u64, Refusal>) -> usize {
+    file.unwrap_or(0) as usize
+}
+
+// Lays the plan: the second subdivision names its vertex by another spelling. Nothing of it is refused.
 fn lay(table: &mut [u8]) {
     let centres: [i32; 6] = [0, 0, 1, 1, 2, -1];
     let vertices: [i32; 6] = [1, 0, 0, 3, 0, 1];
-    base::base(table, &centres);
-    mesh::subdivide_all(table, &vertices);
+    let _ = base::base(table, &centres);
+    let _ = mesh::subdivide_all(table, &vertices);
 }
 
 // The census of a full file's first n bytes.
@@ -36,8 +42,8 @@ fn count(output: &mut Stdout, file: &[u8], n: usize) {
     let mut table = [255u8; TABLE_BYTES];
     let mut scratch = [255u8; TABLE_BYTES];
     let mut out = [0u8; CENSUS_BYTES];
-    if n <= file.len() {
-        let c = census_text::census(&file[..n], &mut table, &mut scratch, &mut out);
+    if let Some(input) = file.get(..n) {
+        let c = census_text::census(input, &mut table, &mut scratch, &mut out);
         show(output, &out, c.written as usize);
     }
 }
@@ -47,10 +53,10 @@ fn count_back(output: &mut Stdout, file: &[u8], n: usize) {
     let mut table = [255u8; TABLE_BYTES];
     let mut scratch = [255u8; TABLE_BYTES];
     let mut full = [0u8; FILE_BYTES];
-    if n <= file.len() {
-        readers::read_reduced(&mut table, &mut scratch, &file[..n]);
-        let w = writers::write_full(&table, &mut full);
-        count(output, &full, w.bytes as usize);
+    if let Some(reduced) = file.get(..n) {
+        let _ = readers::read_reduced(&mut table, &mut scratch, reduced);
+        let n = bytes(writers::write_full(&table, &mut full));
+        count(output, &full, n);
     }
 }
 
@@ -60,14 +66,14 @@ fn main(rt: HostRuntime) {
     let mut full = [0u8; FILE_BYTES];
     let mut reduced = [0u8; FILE_BYTES];
     lay(&mut table);
-    let f = writers::write_full(&table, &mut full);
-    let r = writers::write_reduced(&table, &mut reduced);
+    let f = bytes(writers::write_full(&table, &mut full));
+    let r = bytes(writers::write_reduced(&table, &mut reduced));
     say(&mut output, b"full file\n");
-    show(&mut output, &full, f.bytes as usize);
+    show(&mut output, &full, f);
     say(&mut output, b"reduced file\n");
-    show(&mut output, &reduced, r.bytes as usize);
+    show(&mut output, &reduced, r);
     say(&mut output, b"census of the plan\n");
-    count(&mut output, &full, f.bytes as usize);
+    count(&mut output, &full, f);
     say(&mut output, b"census of what the reduced file gives back\n");
-    count_back(&mut output, &reduced, r.bytes as usize);
+    count_back(&mut output, &reduced, r);
 }

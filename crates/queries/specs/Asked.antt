@@ -1,14 +1,13 @@
 -- What the functions below the queries promise: `answer_at` what a vertex that has a star is answered, by what is asked, `slot_answer` the record in a slot ·
 -- `chosen_by` the opposite of a corner, by its two arms · `Asked` what is known of the vertex and its table · `when_true` what holds where a function gave true.
 -- Assumes nothing.
-use Rattle.std.specs.Prelude.{◌≡◌, Bool, true, false, cond, List, ℕ, ltb}
+use Rattle.lattice.specs.declared.points.Point.{Point}
+use Rattle.std.specs.Prelude.{◌≡◌, Bool, true, false, cond, List, ℕ, ltb, Option, Some}
 use Prim.{Unit}
 use Rattle.laws.specs.Choices.{unless}
 use Rattle.lattice.specs.Records.{valid_of}
 use Rattle.lattice.specs.Stars.{refused}
 use Rattle.lattice.specs.Terms.{added_of}
-use Rattle.lattice.specs.declared.patterns.Spot.{Spot}
-use Rattle.lattice.specs.declared.patterns.Spot.TheVariants.{At}
 use Rattle.lattice.specs.declared.points.Terms.{Terms}
 use Rattle.lattice.specs.declared.records.Record.{Record}
 use Rattle.lattice.specs.declared.stars.Answer.{Answer}
@@ -28,8 +27,8 @@ abbrev pub slot_answer : Query → List ℕ → ℕ → ℕ → Answer
 slot_answer q t n i = unless (ltb i n) (refused 3) (query_looked (answer_at q t) (held_in (slot_at t i)))
 
 -- `chosen_at`, of the corner whose opposites these arms lead to
-abbrev pub chosen_by : List ℕ → Terms → Terms → Spot
-chosen_by t near far = cond (holds t (added_of near)) (At (added_of near)) (there t (At (added_of far)))
+abbrev pub chosen_by : List ℕ → Terms → Terms → Option Point
+chosen_by t near far = cond (holds t (added_of near)) (Some (added_of near)) (there t (Some (added_of far)))
 
 -- v has a star, and t is a table of n slots, in order
 pub record Asked (t : List ℕ) (n : ℕ) (v : Record) : Type 0 where

@@ -3,11 +3,11 @@
 -- `query-twenty`, `triple-twenty` an answer has twenty numbers, `answers_in`, `answers-start`, `answers-room`, `answers-more`, `answers_at` the answers
 -- so far · `all-1`, `all-13`, `all-0` the ways to an outcome, `after-parts` what equal ones share · `all-answer` each answer stands at its place.
 -- Assumes nothing.
-use Rattle.std.specs.Prelude.{◌≡◌, Bool, cond, ◌&&◌, eqb, leb, pos, nat_abs, get_or, set}
+use Rattle.std.specs.Prelude.{◌≡◌, Bool, cond, ◌&&◌, eqb, leb, pos, nat_abs, get_or, set, Option, Some, None}
 use Rattle.std.proofs.Math.Path.{refl, ap}
 use Rattle.std.proofs.Common.{sym, ◌∙◌, le-leb, le-ltb, length-drop, drop_at, take_all, take-suc-set, drop-set-lt}
 use Rattle.std.proofs.Math.Bool.{true, false}
-use mathlib.Core.List.{List, [], ◌∷◌, ◌++◌, append_assoc}
+use mathlib.Core.List.{List, ◌∷◌, ◌++◌, append_assoc}
 use Prim.Native.Nat.{ℕ, zero, suc, ◌+◌, ◌*◌, ◌≤◌, ◌<◌}
 use native.Mathlib.Omega.{arith}
 use Rattle.std.proofs.Math.Decide.{ℕ_discrete}
@@ -27,8 +27,6 @@ use Rattle.table.specs.Search.{find_of}
 use Rattle.table.specs.Order.{in_order_of}
 use Rattle.table.specs.Entries.{held_in, look_up, slot_found}
 use Rattle.table.specs.MapLaws.{order-table, slot-in-most, test-order}
-use Rattle.table.specs.declared.entries.Looked.{Looked}
-use Rattle.table.specs.declared.entries.Looked.TheVariants.{Absent, Held}
 use Rattle.queries.specs.Queries.{adjacents_there, corners_there, faces_given, query_looked, query_of}
 use Rattle.queries.specs.Asked.{answer_at, slot_answer}
 use Rattle.queries.specs.QueryLaws.{query-looked, slot-answer}
@@ -105,10 +103,10 @@ query-twenty q t a b m = ordered (in_order_of t) (look_up t (normal_of a b m))
     at Neighbours v = whole (adjacents_there t v) (given v) (refused 7) refl refl
     at Faces v = whole (adjacents_there t v && corners_there t v) (faces_given t v) (refused 7) refl refl
 
-    ordered : (o : Bool) (l : Looked) → Twenty (unless o (refused 1) (query_looked (answer_at q t) l))
+    ordered : (o : Bool) (l : Option Record) → Twenty (unless o (refused 1) (query_looked (answer_at q t) l))
     ordered false l = refl
-    ordered true Absent = refl
-    ordered true (Held v) = whole (eqb v.d 0) (refused 14) (answer_at q t v) refl (at q v)
+    ordered true None = refl
+    ordered true (Some v) = whole (eqb v.d 0) (refused 14) (answer_at q t v) refl (at q v)
 
 pub triple-twenty :
     (query : ℤ → ℤ → ℕ → Answer) → ((a b : ℤ) (m : ℕ) → length (answer_row (query a b m)) ≡ answer_width) → (ps : List ℤ) (i : ℕ)

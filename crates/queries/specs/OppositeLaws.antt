@@ -2,7 +2,7 @@
 -- `opposites-more`, `opposites-fail`, `opposites-end` · `by-arms` the opposite by two arms · `ArmsAt` the arms of a corner of a regular star,
 -- `arms-turned`, `both-light`, `chosen-arms` its opposite by them.
 -- Assumes nothing.
-use Rattle.std.specs.Prelude.{◌≡◌, refl, Bool, true, false, List, ℕ, ◌+◌, ◌*◌, ◌≤◌, ◌<◌, ltb, ℤ}
+use Rattle.std.specs.Prelude.{◌≡◌, refl, Bool, true, false, List, ℕ, ◌+◌, ◌*◌, ◌≤◌, ◌<◌, ltb, ℤ, Option, Some, None}
 use Rattle.std.proofs.Math.Path.{sym, ap}
 use Rattle.std.proofs.Common.{◌∙◌, subst, arith}
 use Rattle.std.proofs.Math.Bool.{cond}
@@ -16,8 +16,6 @@ use Rattle.lattice.specs.ArmLaws.{near_next, far-next, near-light, far-light, se
 use Rattle.lattice.specs.RecordLaws.{Inner}
 use Rattle.lattice.specs.Stars.{adjacent_at, cell_of, first_at, nowhere, answer, given}
 use Rattle.lattice.specs.Terms.{added_of, Light}
-use Rattle.lattice.specs.declared.patterns.Spot.{Spot}
-use Rattle.lattice.specs.declared.patterns.Spot.TheVariants.{At, Nothing}
 use Rattle.lattice.specs.declared.points.Point.{Point}
 use Rattle.lattice.specs.declared.points.Terms.{Terms}
 use Rattle.lattice.specs.declared.records.Record.{Record}
@@ -55,7 +53,7 @@ module _ (t : List ℕ) (v : Record) where
 
   module _ (j : ℕ) (out : List ℤ) (h : j < v.d) where
     pub opposites-more :
-        Inner v → OppositesPut j out → (p : Point) → chosen_at t v j ≡ At p → OppositesPut (j + 1) (sets out (3 * j + 1) (point_numbers p))
+        Inner v → OppositesPut j out → (p : Point) → chosen_at t v j ≡ Some p → OppositesPut (j + 1) (sets out (3 * j + 1) (point_numbers p))
     opposites-more i o p e =
         record {
           most = omega (arith, h);
@@ -64,7 +62,7 @@ module _ (t : List ℕ) (v : Record) where
               ∙ mixed-more v.d opposite (cell_of v) j (omega (arith, i.top, h)) p (sym (ap point_or0 e));
         }
 
-    pub opposites-fail : chosen_at t v j ≡ Nothing → false ≡ corners_there t v
+    pub opposites-fail : chosen_at t v j ≡ None → false ≡ corners_there t v
     unfolding corners_there
     opposites-fail e = sym (upto-fails has_opposite j v.d h (ap is_point e))
 
@@ -79,8 +77,8 @@ module _ (t : List ℕ) (v : Record) where
 
 -- ---- by two arms
 pub by-arms : (t : List ℕ) (near far : Terms) (b : Bool) → holds t (added_of near) ≡ b
-    → cond b (At (added_of near)) (there t (At (added_of far))) ≡ chosen_by t near far
-by-arms t near far b h = ap (λ (c : Bool). cond c (At (added_of near)) (there t (At (added_of far)))) (sym h)
+    → cond b (Some (added_of near)) (there t (Some (added_of far))) ≡ chosen_by t near far
+by-arms t near far b h = ap (λ (c : Bool). cond c (Some (added_of near)) (there t (Some (added_of far)))) (sym h)
 
 -- the arms to the opposites of corner j, if there is such a corner
 pub record ArmsAt (v : Record) (j : ℕ) (near far : Terms) : Type 0 where
@@ -104,4 +102,4 @@ module _ (v : Record) (e : regular_of v.d ≡ true) (j : ℕ) (near far : Terms)
     unfolding chosen_at
     chosen-arms t =
         (λ i. chosen_by t (a.first h i) (a.second h i))
-        ∙ ap (λ (s : Spot). cond (holds t (first_at v j)) (At (first_at v j)) (there t s)) (sym (second-by-arm v e j h))
+        ∙ ap (λ (s : Option Point). cond (holds t (first_at v j)) (Some (first_at v j)) (there t s)) (sym (second-by-arm v e j h))

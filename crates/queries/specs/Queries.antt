@@ -2,7 +2,7 @@
 -- `chosen_at` the opposite of a corner, with `there`, `is_point` · `neighbours_at`, `faces_at` what a vertex that has a star is answered · `query_of` what
 -- the two share.
 -- Assumes nothing.
-use Rattle.std.specs.Prelude.{Bool, true, false, cond, ◌&&◌, List, ℕ, eqb, ltb, ℤ}
+use Rattle.std.specs.Prelude.{Bool, true, false, cond, ◌&&◌, List, ℕ, eqb, ltb, ℤ, Option, Some, None}
 use Rattle.laws.specs.Rules.{upto}
 use Rattle.laws.specs.Choices.{unless}
 use Rattle.lattice.specs.Stars.{adjacent_at, first_at, second_at, nowhere, answer, refused, given}
@@ -12,37 +12,33 @@ use Rattle.table.specs.Order.{in_order_of}
 use Rattle.lattice.specs.declared.points.Point.{Point}
 use Rattle.lattice.specs.declared.records.Record.{Record}
 use Rattle.lattice.specs.declared.stars.Answer.{Answer}
-use Rattle.lattice.specs.declared.patterns.Spot.{Spot}
-use Rattle.table.specs.declared.entries.Looked.{Looked}
-use Rattle.lattice.specs.declared.patterns.Spot.TheVariants.{At, Nothing}
-use Rattle.table.specs.declared.entries.Looked.TheVariants.{Absent, Held}
 
 -- each adjacent point of the star is in the table
 unfoldable pub adjacents_there : List ℕ → Record → Bool
 adjacents_there t v = upto v.d (λ j. holds t (adjacent_at v j))
 
 -- a point, if there is one and it is in the table
-abbrev pub there : List ℕ → Spot → Spot
-there t Nothing = Nothing
-there t (At p) = cond (holds t p) (At p) Nothing
+abbrev pub there : List ℕ → Option Point → Option Point
+there t None = None
+there t (Some p) = cond (holds t p) (Some p) None
 
 -- "The opposite is the first one if that is in the table, else the second."
-unfoldable pub chosen_at : List ℕ → Record → ℕ → Spot
-chosen_at t v j = cond (holds t (first_at v j)) (At (first_at v j)) (there t (second_at v j))
+unfoldable pub chosen_at : List ℕ → Record → ℕ → Option Point
+chosen_at t v j = cond (holds t (first_at v j)) (Some (first_at v j)) (there t (second_at v j))
 
 -- there is a point
-abbrev pub is_point : Spot → Bool
-is_point (At p) = true
-is_point Nothing = false
+abbrev pub is_point : Option Point → Bool
+is_point (Some p) = true
+is_point None = false
 
 -- each corner has an opposite in the table
 unfoldable pub corners_there : List ℕ → Record → Bool
 corners_there t v = upto v.d (λ j. is_point (chosen_at t v j))
 
 -- the point, or [0, 0, 0] where there is none
-abbrev pub point_or0 : Spot → Point
-point_or0 (At p) = p
-point_or0 Nothing = nowhere
+abbrev pub point_or0 : Option Point → Point
+point_or0 (Some p) = p
+point_or0 None = nowhere
 
 -- "the chosen opposite of each corner", unused ones [0, 0, 0]
 abbrev pub face_cell : List ℕ → Record → ℕ → Point
@@ -60,9 +56,9 @@ abbrev pub faces_at : List ℕ → Record → Answer
 faces_at t v = unless (adjacents_there t v && corners_there t v) (refused 7) (faces_given t v)
 
 -- "Queries 1, 3, 14, 7."; "Every point in a request is normalised before it is looked up"
-abbrev pub query_looked : (Record → Answer) → Looked → Answer
-query_looked f Absent = refused 3
-query_looked f (Held v) = cond (eqb v.d 0) (refused 14) (f v)
+abbrev pub query_looked : (Record → Answer) → Option Record → Answer
+query_looked f None = refused 3
+query_looked f (Some v) = cond (eqb v.d 0) (refused 14) (f v)
 
 abbrev pub query_of : (Record → Answer) → List ℕ → ℤ → ℤ → ℕ → Answer
 query_of f t a b m = unless (in_order_of t) (refused 1) (query_looked f (look_up t (normal_of a b m)))

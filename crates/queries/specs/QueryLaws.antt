@@ -4,7 +4,7 @@
 -- `chosen-first`, `chosen-second` the opposite of a corner · `faces-torn`, `faces-cornered` the ways to an answer, `answer-torn` whichever was asked ·
 -- `when_true_lem`. The row of the faces: OppositeLaws.
 -- Assumes nothing.
-use Rattle.std.specs.Prelude.{◌≡◌, Bool, true, false, ◌&&◌, List, ℕ, ◌<◌, ℤ}
+use Rattle.std.specs.Prelude.{◌≡◌, Bool, true, false, ◌&&◌, List, ℕ, ◌<◌, ℤ, Option, Some, None}
 use Rattle.std.proofs.Common.{sym, ◌∙◌, arith, le-ltb, lt-ltb}
 use Rattle.std.proofs.Math.Path.{ap}
 use Rattle.std.proofs.Math.Bool.{cond}
@@ -16,7 +16,6 @@ use Rattle.lattice.specs.Stars.{first_at, second_at, refused, given}
 use Rattle.lattice.specs.declared.points.Point.{Point}
 use Rattle.lattice.specs.declared.records.Record.{Record}
 use Rattle.lattice.specs.declared.stars.Answer.{Answer}
-use Rattle.lattice.specs.declared.patterns.Spot.TheVariants.{At}
 use Rattle.table.specs.Slots.{Table, slots_of, slot_at}
 use Rattle.table.specs.Search.{find_of}
 use Rattle.table.specs.Entries.{held_in, look_up, holds, slot_found}
@@ -24,10 +23,6 @@ use Rattle.table.specs.Order.{in_order_of}
 use Rattle.table.specs.LookLaws.{held-eq}
 use Rattle.table.specs.MapLaws.{order-table, slot-in-held, slot-in-absent, test-order}
 use Rattle.table.specs.SlotLaws.{table-slots}
-use Rattle.table.specs.declared.slots.Slot.{Slot}
-use Rattle.table.specs.declared.slots.Slot.TheVariants.{Free, Holds}
-use Rattle.table.specs.declared.entries.Looked.{Looked}
-use Rattle.table.specs.declared.entries.Looked.TheVariants.{Held}
 use Rattle.queries.specs.Queries.{adjacents_there, there, chosen_at, corners_there, faces_given, neighbours_at, faces_at}
 use Rattle.queries.specs.Queries.{query_looked, query_of, neighbours_of, faces_of}
 use Rattle.queries.specs.Asked.{Asked, answer_at, slot_answer, when_true}
@@ -50,27 +45,27 @@ module _ (f : Record → Answer) (t : List ℕ) (a b : ℤ) (m : ℕ) where
   pub query-refused : in_order_of t ≡ false → refused 1 ≡ query_of f t a b m
   query-refused h = ap (λ (o : Bool). unless o (refused 1) (query_looked f (look_up t (normal_of a b m)))) (sym h)
 
-  pub query-looked : in_order_of t ≡ true → (l : Looked) → look_up t (normal_of a b m) ≡ l → query_looked f l ≡ query_of f t a b m
+  pub query-looked : in_order_of t ≡ true → (l : Option Record) → look_up t (normal_of a b m) ≡ l → query_looked f l ≡ query_of f t a b m
   query-looked h l e =
       ap (query_looked f) (sym e) ∙ ap (λ (o : Bool). unless o (refused 1) (query_looked f (look_up t (normal_of a b m)))) (sym h)
 
 module _ (t : List ℕ) (a b : ℤ) (m : ℕ) where
   pub neighbours-looked :
-      in_order_of t ≡ true → (l : Looked) → look_up t (normal_of a b m) ≡ l → query_looked (neighbours_at t) l ≡ neighbours_of t a b m
+      in_order_of t ≡ true → (l : Option Record) → look_up t (normal_of a b m) ≡ l → query_looked (neighbours_at t) l ≡ neighbours_of t a b m
   unfolding neighbours_of
   neighbours-looked = query-looked (neighbours_at t) t a b m
 
 -- what is known of a vertex that has a star, in slot i
 pub vertex-asked :
-    (t : List ℕ) (n : ℕ) → Table t n → in_order_of t ≡ true → (i : ℕ) (v : Record) → i < n → held_in (slot_at t i) ≡ Held v → (v.d ≡ 0 → ⊥) → Asked t n v
+    (t : List ℕ) (n : ℕ) → Table t n → in_order_of t ≡ true → (i : ℕ) (v : Record) → i < n → held_in (slot_at t i) ≡ Some v → (v.d ≡ 0 → ⊥) → Asked t n v
 vertex-asked t n k h i v l e d =
     let o = test-order t h in
     let b : i < slots_of t = omega (arith, table-slots t n k) in
     record { table = k; order = h; valid = o.valid i v b (held-slot (slot_at t i) e); inside = d }
   where
-    held-slot : (c : Slot) → held_in c ≡ Held v → c ≡ Holds v
-    held-slot Free z = absurd (let x : ◌≡◌ {A = ℕ} 0 1 = cc in omega (arith, x))
-    held-slot (Holds r) z = ap Holds (held-eq r v z)
+    held-slot : (c : Option Record) → held_in c ≡ Some v → c ≡ Some v
+    held-slot None z = absurd (let x : ◌≡◌ {A = ℕ} 0 1 = cc in omega (arith, x))
+    held-slot (Some r) z = ap Some (held-eq r v z)
 
 -- the answer by the slot where a search has found its point
 module _ (q : Query) (t : List ℕ) (n : ℕ) (k : Table t n) (h : in_order_of t ≡ true) (p : Point) (s : ℕ) (e : s ≡ slot_found n (find_of t p)) where
@@ -102,13 +97,13 @@ neighbours-torn t v h = ap (λ (b : Bool). unless b (refused 7) (given v)) (sym 
 -- ---- the opposite of a corner
 
 module _ (t : List ℕ) (v : Record) (j : ℕ) where
-  pub chosen-first : holds t (first_at v j) ≡ true → At (first_at v j) ≡ chosen_at t v j
+  pub chosen-first : holds t (first_at v j) ≡ true → Some (first_at v j) ≡ chosen_at t v j
   unfolding chosen_at
-  chosen-first h = ap (λ (b : Bool). cond b (At (first_at v j)) (there t (second_at v j))) (sym h)
+  chosen-first h = ap (λ (b : Bool). cond b (Some (first_at v j)) (there t (second_at v j))) (sym h)
 
   pub chosen-second : holds t (first_at v j) ≡ false → there t (second_at v j) ≡ chosen_at t v j
   unfolding chosen_at
-  chosen-second h = ap (λ (b : Bool). cond b (At (first_at v j)) (there t (second_at v j))) (sym h)
+  chosen-second h = ap (λ (b : Bool). cond b (Some (first_at v j)) (there t (second_at v j))) (sym h)
 
 -- ---- the faces
 

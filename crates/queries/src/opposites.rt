@@ -8,7 +8,7 @@ ghost use Rattle.queries.specs.Asked.{chosen_by};
 ghost use Rattle.queries.specs.Queries.{adjacents_there, there, chosen_at};
 ghost use Rattle.lattice.specs.AnswerRows.{answer_numbers};
 
-use lattice::{ANSWER_NUMBERS, Record, Spot, Terms, added, first_of, point_at, second_of};
+use lattice::{ANSWER_NUMBERS, Point, Record, Terms, added, first_of, point_at, second_of};
 use table::is_there;
 
 // Each adjacent point of v is in the table: the row has them.
@@ -18,12 +18,8 @@ pub fn adjacents_there(t: &[u8], row: &[i32; ANSWER_NUMBERS], v: Record, n: usiz
     requires row_value { row.now ≡ answer_numbers (given v) }
     ensures { result ≡ adjacents_there t.now v }
 {
-    let d = v.d;
-    let mut j = 0;
-    while j < d {
-        if is_there(t, point_at(row, v, j), n) {
-            j += 1;
-        } else {
+    for j in 0..v.d {
+        if !is_there(t, point_at(row, v, j), n) {
             return false;
         }
     }
@@ -31,45 +27,39 @@ pub fn adjacents_there(t: &[u8], row: &[i32; ANSWER_NUMBERS], v: Record, n: usiz
 }
 
 // A point, if there is one and it is in the table.
-fn kept(t: &[u8], s: Spot, n: usize) -> Spot
+fn kept(t: &[u8], s: Option<Point>, n: usize) -> Option<Point>
     requires { Table t.now n }
     ensures { result ≡ there t.now s }
 {
     match s {
-        Spot::At(p) => {
-            if is_there(t, p, n) {
-                Spot::At(p)
-            } else {
-                Spot::Nothing
-            }
-        }
-        Spot::Nothing => Spot::Nothing,
+        Some(p) => { if is_there(t, p, n) { Some(p) } else { None } }
+        None => None,
     }
 }
 
 // The opposite of corner j: the first one if that is in the table, else the second if that is; a corner may have none.
 #[tactic(auto, unfolding(crate::specs::Queries::chosen_at))]
-pub fn chosen(t: &[u8], v: Record, j: u8, n: usize) -> Spot
+pub fn chosen(t: &[u8], v: Record, j: u8, n: usize) -> Option<Point>
     requires table { Table t.now n }
     requires inner { Inner v × (j < v.d) }
     ensures { result ≡ chosen_at t.now v j }
 {
     let first = first_of(v, j);
     if is_there(t, first, n) {
-        return Spot::At(first);
+        return Some(first);
     }
     kept(t, second_of(v, j), n)
 }
 
 // The same by the arms to the two, each added up only where it is asked for.
-pub fn opposite_by(t: &[u8], near: Terms, far: Terms, n: usize) -> Spot
+pub fn opposite_by(t: &[u8], near: Terms, far: Terms, n: usize) -> Option<Point>
     requires table { Table t.now n }
     requires light { Light near × Light far }
     ensures { result ≡ chosen_by t.now near far }
 {
     let p = added(near);
     if is_there(t, p, n) {
-        return Spot::At(p);
+        return Some(p);
     }
-    kept(t, Spot::At(added(far)), n)
+    kept(t, Some(added(far)), n)
 }

@@ -1,8 +1,8 @@
--- How both readers begin, by cases: `Prepared` the length test, and both tables cleared:
+-- How both readers begin, by cases: `Prepared` the length test, and both tables cleared, `slots_told` the number that it tells:
 -- `none-unfit`, `other-unfit`, `both-fit` and back, `prepared-unfit`, `prepared-fit`, `lengths-same` · `Begun` that, and the lines: `begun-unfit`,
 -- `begun-fault`, `begun-read` and back, `begun-filled` · `full-unfit` lengths refused · `fault-full`, `fault-reduced` a fault is what both answer.
 -- Assumes nothing.
-use Rattle.std.specs.Prelude.{◌≡◌, refl, Bool, true, false, List, ℕ, eqb, length}
+use Rattle.std.specs.Prelude.{◌≡◌, refl, Bool, true, false, List, ℕ, eqb, length, Option, Some, None}
 use Rattle.std.proofs.Math.Path.{sym, ap}
 use Rattle.std.proofs.Common.{◌∙◌, arith, eqb-true}
 use Rattle.std.proofs.Math.Bool.{cond}
@@ -16,6 +16,11 @@ use Rattle.readers.specs.ReadLaws.{Lined, read-lines}
 use Rattle.readers.specs.LineSteps.{EndsAs, ends_read, ends-fault}
 
 -- ---- the length test
+
+-- the number of slots told, 0 where the lengths don't fit
+abbrev pub slots_told : Option ℕ → ℕ
+slots_told None = 0
+slots_told (Some n) = n
 
 -- t and s are the tables found, t' and s' those left, n the answer
 pub data Prepared (t s t' s' : List ℕ) (n : ℕ) : Type 0 where

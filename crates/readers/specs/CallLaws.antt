@@ -1,8 +1,8 @@
 -- How the readers end, by cases: `full-judged` what `read_full` answers past the lines · `Closes` how a call ends past the lines of a reduced file:
--- `restored-order`, `restored-slots`, `restored-kept` what restoring leaves, `end-stopped`, `end-judged` · `lined-again` and `reduced-refused`,
+-- `restored-order`, `restored-slots`, `restored-kept` what restoring leaves, `end-judged`, `mended-closes` · `lined-again` and `reduced-refused`,
 -- `reduced-read`: what `read_reduced` answers then.
 -- Assumes nothing.
-use Rattle.std.specs.Prelude.{◌≡◌, Bool, cond, List, ℕ, eqb}
+use Rattle.std.specs.Prelude.{◌≡◌, refl, Bool, cond, List, ℕ, eqb}
 use Rattle.std.proofs.Common.{sym, ap, ◌∙◌, subst, eq-eqb, ne_eqb}
 use Rattle.laws.specs.Some.{some_of}
 use Rattle.lattice.specs.declared.records.Record.{Record}
@@ -11,12 +11,12 @@ use Rattle.table.specs.Order.{InOrder}
 use Rattle.writers.specs.Files.{redundant}
 use Rattle.local.specs.Sheet.{passes_all}
 use Rattle.grown.specs.Grown.{grown-passes}
-use Rattle.readers.specs.Readers.{Read, TablesAfter, refused, accepted, read_full_of, Restored, With, Stopped, restore_all, end_restored, read_reduced_of}
+use Rattle.readers.specs.Readers.{Read, TablesAfter, refused, accepted, read_full_of, Restored, With, restore_all, end_restored, read_reduced_of}
 use Rattle.readers.specs.Additions.{Adds, adds-as, adds-slots}
 use Rattle.readers.specs.ReadLaws.{Lined}
 use Rattle.readers.specs.RestoreLaws.{RestoredOf, restore-all}
-use Rattle.readers.specs.RestoreSteps.{file_records, read-records}
-use Rattle.readers.specs.Keeps.{record_keeps, keeps-redundant}
+use Rattle.readers.specs.RestoreSteps.{file_records, read-records, Mends}
+use Rattle.readers.specs.Keeps.{record_keeps, keeps-redundant, since-start}
 use Rattle.readers.specs.BeginLaws.{Filled, full-lines, reduced-lines}
 
 -- ---- the full reader
@@ -55,13 +55,19 @@ module _ (f : List ℕ) (n : ℕ) (rs : List Record) (t u : List ℕ) (w : Lined
   restored-kept = keeps-redundant f n rs t u w adds
 
 module _ (t s : List ℕ) (rs : List Record) (x : Restored) where
-  pub end-stopped : (number : ℕ) (u : List ℕ) → (number ≡ 0 → ⊥) → x ≡ Stopped number → closed_by t s number u ≡ end_restored t s rs x
-  end-stopped number u z e = ap (λ (b : Bool). cond b (accepted u s) (refused number 0 t s)) (ne_eqb number 0 z) ∙ ap (end_restored t s rs) (sym e)
-
   pub end-judged : (u : List ℕ) → x ≡ With u → InOrder u → (g k : Bool) → passes_all u ≡ g → some_of (redundant u) rs ≡ k
       → cond g (cond k (refused 12 0 t s) (accepted u s)) (refused 11 0 t s) ≡ end_restored t s rs x
   end-judged u e o g k h i =
       sym (ap (end_restored t s rs) e ∙ (λ j. cond ((grown-passes u o ∙ h) j) (cond (i j) (refused 12 0 t s) (accepted u s)) (refused 11 0 t s)))
+
+-- restored to the end, by the two judgements
+pub mended-closes : (f : List ℕ) (n : ℕ) (rs : List Record) (t u : List ℕ) → Lined f n rs t → {kept : Bool}
+    → Mends t t (restore_all rs (With t)) (some_of (record_keeps t) rs) 0 kept u → (g k : Bool) → passes_all u ≡ g → kept ≡ k → (x y : List ℕ)
+    → cond g (cond k (refused 12 0 x y) (accepted u y)) (refused 11 0 x y) ≡ end_restored x y rs (restore_all rs (With t))
+mended-closes f n rs t u w m g k h i x y =
+    let whole : restore_all rs (With t) ≡ With u = sym m.is in
+    let told = m.keeps (since-start t w.order) refl ∙ restored-kept f n rs t u w whole in
+    end-judged x y rs (restore_all rs (With t)) u whole (restored-order f n rs t u w whole) g k h (sym told ∙ i)
 
 -- ---- the reduced reader
 

@@ -1,10 +1,13 @@
--- The numbers with which lines and restoring are refused: `fault-number` 8, 9 or 10 · `stop-number` 8 or 11. So neither is taken for 0, 1 or 12.
+-- The numbers with which lines and restoring are refused: `fault-number` 8, 9 or 10 · `stop-number` 8 or 11. So neither is taken for 0, 1 or 12. ·
+-- `handed-on` what a `?` hands on.
 -- Assumes nothing.
-use Rattle.std.specs.Prelude.{◌≡◌, Bool, true, false, cond, List, [], ◌∷◌, ℕ, zero, suc, ◌+◌, ◌≤◌, eqb}
-use Rattle.std.proofs.Common.{subst, arith}
-use Rattle.std.proofs.Math.Option.{Option, some}
+use Rattle.std.specs.Prelude.{◌≡◌, Bool, true, false, cond, List, [], ◌∷◌, ℕ, zero, suc, ◌+◌, ◌≤◌, eqb, Result, Ok, Err, IsErrAnd, Option, Some}
+use Rattle.std.proofs.Common.{ap, subst, arith}
 use Rattle.lattice.specs.Records.{valid_of}
 use Rattle.lattice.specs.declared.records.Record.{Record}
+use Rattle.lattice.specs.Refusals.{number_of}
+use Rattle.lattice.specs.declared.refusals.Refusal.{Refusal}
+use Rattle.lattice.specs.declared.refusals.Refusal.TheVariants as refusal
 use Rattle.table.specs.Search.{find_of}
 use Rattle.table.specs.Entries.{enter_of}
 use Rattle.table.specs.declared.probe.Found.{Found}
@@ -24,7 +27,7 @@ OfLine (Fault number line) = (8 ≤ number) × (number ≤ 10)
 of-line : (f : List ℕ) (left p i : ℕ) (q : Option Record) (t : List ℕ) → OfLine (lines_from f left p i q t)
 unfolding lines_from
 of-line f zero p i q t = tt
-of-line f (suc left) p i q t = go (line_at f p) (λ r next. of-line f left next (i + 1) (some r) (enter_of t r))
+of-line f (suc left) p i q t = go (line_at f p) (λ r next. of-line f left next (i + 1) (Some r) (enter_of t r))
   where
     with_it : (r : Record) (x : Lines) → OfLine x → OfLine (after r x)
     with_it r (Read rs u) h = tt
@@ -35,11 +38,11 @@ of-line f (suc left) p i q t = go (line_at f p) (λ r next. of-line f left next 
     judge r x h true true = (omega arith, omega arith)
     judge r x h true false = with_it r x h
 
-    go : (l : Line) → ((r : Record) (next : ℕ) → OfLine (lines_from f left next (i + 1) (some r) (enter_of t r)))
-        → OfLine (line_read i q t (λ r next. lines_from f left next (i + 1) (some r) (enter_of t r)) l)
+    go : (l : Line) → ((r : Record) (next : ℕ) → OfLine (lines_from f left next (i + 1) (Some r) (enter_of t r)))
+        → OfLine (line_read i q t (λ r next. lines_from f left next (i + 1) (Some r) (enter_of t r)) l)
     go End ih = tt
     go Bad ih = (omega arith, omega arith)
-    go (Good r next) ih = judge r (lines_from f left next (i + 1) (some r) (enter_of t r)) (ih r next) (above q r) (no_slot (find_of t r.at))
+    go (Good r next) ih = judge r (lines_from f left next (i + 1) (Some r) (enter_of t r)) (ih r next) (above q r) (no_slot (find_of t r.at))
 
 pub fault-number : (f : List ℕ) (left p i : ℕ) (q : Option Record) (t : List ℕ) (number line : ℕ) → lines_from f left p i q t ≡ Fault number line
     → (8 ≤ number) × (number ≤ 10)
@@ -83,3 +86,8 @@ of-all (v ∷ rs) x h = of-all rs (cond (eqb v.d 6) (restore_to v 6 x) x) (star 
 
 pub stop-number : (rs : List Record) (t : List ℕ) (number : ℕ) → restore_all rs (With t) ≡ Stopped number → (8 ≤ number) × (number ≤ 11)
 stop-number rs t number e = subst OfRestoring e (of-all rs (With t) tt)
+
+-- what a `?` hands on
+pub handed-on : {A E : Type 0} {r : Result A E} {e : E} → IsErrAnd r (λ y. y ≡ e) → r ≡ Err e
+handed-on {r = Ok x} h = absurd h
+handed-on {r = Err y} h = ap Err h

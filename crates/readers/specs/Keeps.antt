@@ -5,7 +5,7 @@
 -- Why: what is restored has degree 3, so the degree 6 records of the finished table are the file's; and the table before restoring holds the file's
 -- records and no other.
 -- Assumes nothing.
-use Rattle.std.specs.Prelude.{◌≡◌, refl, ◌⊎◌, Bool, true, false, ◌&&◌, ℕ, ◌<◌, eqb, length}
+use Rattle.std.specs.Prelude.{◌≡◌, refl, ◌⊎◌, Bool, true, false, ◌&&◌, ℕ, ◌<◌, eqb, length, Option, Some, None}
 use Rattle.std.proofs.Common.{sym, ap, ◌∙◌, subst, inl, inr, arith, eq-eqb, eqb-true, ne_eqb}
 use mathlib.Core.List.{List, Memᴰ}
 use Rattle.laws.specs.Each.{not-both, both_left, both_right, same_test, among-at, at-among}
@@ -21,10 +21,6 @@ use Rattle.table.specs.Told.{Fills}
 use Rattle.table.specs.Order.{InOrder}
 use Rattle.table.specs.Entries.{held_in, look_up, enter_of}
 use Rattle.table.specs.MapLaws.{lookup-point, slot-looked, looked-records, records-looked, at_held, find-held, enter-order, enter-length, enter-fills}
-use Rattle.table.specs.declared.slots.Slot.{Slot}
-use Rattle.table.specs.declared.slots.Slot.TheVariants.{Free, Holds}
-use Rattle.table.specs.declared.entries.Looked.{Looked}
-use Rattle.table.specs.declared.entries.Looked.TheVariants.{Absent, Held}
 use Rattle.table.specs.declared.probe.Found.TheVariants as found
 use Rattle.writers.specs.Files.{redundant}
 use Rattle.writers.specs.RedundantLaws.{redundant-is, is-redundant}
@@ -32,9 +28,9 @@ use Rattle.readers.specs.Additions.{Adds, held-absent}
 use Rattle.readers.specs.ReadLaws.{Lined}
 
 -- a record is there, of degree 3
-abbrev pub is_three : Looked → Bool
-is_three Absent = false
-is_three (Held r) = eqb r.d 3
+abbrev pub is_three : Option Record → Bool
+is_three None = false
+is_three (Some r) = eqb r.d 3
 
 -- one of the first k adjacent points of v has such a record
 abbrev pub star_keeps : List ℕ → Record → ℕ → Bool
@@ -63,7 +59,7 @@ pub record Since (t u : List ℕ) : Type 0 where
 pub since-start : (t : List ℕ) → InOrder t → Since t t
 since-start t o = record { old = o; order = o; long = refl; fills = λ s r l h. (r, h, refl) }
 
-holds_same : {a b : Record} → Holds a ≡ Holds b → a ≡ b
+holds_same : {a b : Record} → Some a ≡ Some b → a ≡ b
 holds_same {a} {b} e = cc
 
 module _ {t u : List ℕ} (w : Since t u) where
@@ -79,27 +75,27 @@ module _ {t u : List ℕ} (w : Since t u) where
         fills = λ s q l h. later s q l h;
       }
     where
-      later : (s : ℕ) (q : Record) → s < slots_of t → slot_at t s ≡ Holds q → (x : Record) × (slot_at (enter_of u r) s ≡ Holds x) × (x.at ≡ q.at)
+      later : (s : ℕ) (q : Record) → s < slots_of t → slot_at t s ≡ Some q → (x : Record) × (slot_at (enter_of u r) s ≡ Some x) × (x.at ≡ q.at)
       later s q l h =
           let (x, e, a) = w.fills s q l h in
           let (y, f, b) = enter-fills u w.order.fits r s x (subst (λ (n : ℕ). s < n) (sym slots) l) e in
           (y, f, b ∙ a)
 
   -- where a record of t stands, u has one of its point
-  stood : (p : Point) (q : Record) → look_up t p ≡ Held q
-      → (s : ℕ) × (s < slots_of u) × (slot_at t s ≡ Holds q) × (x : Record) × (slot_at u s ≡ Holds x) × (x.at ≡ p)
+  stood : (p : Point) (q : Record) → look_up t p ≡ Some q
+      → (s : ℕ) × (s < slots_of u) × (slot_at t s ≡ Some q) × (x : Record) × (slot_at u s ≡ Some x) × (x.at ≡ p)
   stood p q h =
       let (s, e, f) = find-held t w.old.fits p q h in
       let l = (at_held t w.old.fits p s e).below in
       let (x, g, a) = w.fills s q l f in
       (s, subst (λ (n : ℕ). s < n) (sym slots) l, f, x, g, a ∙ lookup-point t w.old p q h)
 
-  pub since-absent : (p : Point) → look_up u p ≡ Absent → look_up t p ≡ Absent
+  pub since-absent : (p : Point) → look_up u p ≡ None → look_up t p ≡ None
   since-absent p a = go (look_up t p) refl
     where
-      go : (l : Looked) → look_up t p ≡ l → look_up t p ≡ Absent
-      go Absent e = e
-      go (Held q) e =
+      go : (l : Option Record) → look_up t p ≡ l → look_up t p ≡ None
+      go None e = e
+      go (Some q) e =
           let (s, l, f, x, g, b) = stood p q e in
           held-absent (slot-looked u w.order s x l g) (ap (look_up u) b ∙ a)
 
@@ -107,20 +103,20 @@ module _ {t u : List ℕ} (w : Since t u) where
   pub since-there : (p : Point) (i : ℕ) → find_of u p ≡ found.At i → held_in (slot_at t i) ≡ look_up t p
   since-there p i e = go (slot_at t i) refl (look_up t p) refl
     where
-      go : (c : Slot) → slot_at t i ≡ c → (l : Looked) → look_up t p ≡ l → held_in (slot_at t i) ≡ look_up t p
-      go (Holds q) f l g =
+      go : (c : Option Record) → slot_at t i ≡ c → (l : Option Record) → look_up t p ≡ l → held_in (slot_at t i) ≡ look_up t p
+      go (Some q) f l g =
           let k = at_held u w.order.fits p i e in
           let b = subst (λ (n : ℕ). i < n) slots k.below in
           let (x, h, a) = w.fills i q b f in
           let same : x ≡ k.rec = holds_same (sym h ∙ k.holds) in
           let at : q.at ≡ p = sym a ∙ ap (λ (r : Record). r.at) same ∙ k.point in
           ap held_in f ∙ sym (slot-looked t w.old i q b f) ∙ ap (look_up t) at
-      go Free f Absent g = ap held_in f ∙ sym g
-      go Free f (Held q) g =
+      go None f None g = ap held_in f ∙ sym g
+      go None f (Some q) g =
           let k = at_held u w.order.fits p i e in
           let (s, l, y, x, h, b) = stood p q g in
           let z : i ≡ s = w.order.once i s k.rec x k.below l k.holds h (k.point ∙ sym b) in
-          let n : Free ≡ Holds q = sym f ∙ ap (slot_at t) z ∙ y in
+          let n : None ≡ Some q = sym f ∙ ap (slot_at t) z ∙ y in
           absurd (let m : ◌≡◌ {A = ℕ} 0 1 = cc in omega arith)
 
 -- ---- that is 12's own test
@@ -130,10 +126,10 @@ pub keeps-redundant : (f : List ℕ) (n : ℕ) (rs : List Record) (t u : List �
     → some_of (record_keeps t) rs ≡ some_of (redundant u) rs
 keeps-redundant f n rs t u w a = same_test (some_of (record_keeps t) rs) (some_of (redundant u) rs) there back
   where
-    star : (v : Record) → Memᴰ v rs → v.d ≡ 6 → (j : ℕ) → j < 6 → (x : Looked) → look_up t (adjacent_at v j) ≡ x → is_three x ≡ true
+    star : (v : Record) → Memᴰ v rs → v.d ≡ 6 → (j : ℕ) → j < 6 → (x : Option Record) → look_up t (adjacent_at v j) ≡ x → is_three x ≡ true
         → some_of (redundant u) rs ≡ true
-    star v m six j b Absent e h = absurd (not-both h refl)
-    star v m six j b (Held r) e h =
+    star v m six j b None e h = absurd (not-both h refl)
+    star v m six j b (Some r) e h =
         let at = lookup-point t w.order (adjacent_at v j) r e in
         let listed = looked-records u a.order v.at v (a.keeps v.at v (w.held v m)) in
         at_some (redundant u) rs r (w.only (adjacent_at v j) r e)
@@ -145,7 +141,7 @@ keeps-redundant f n rs t u w a = same_test (some_of (record_keeps t) rs) (some_o
         let (j, b, x) = among-at (λ j. is_three (look_up t (adjacent_at v j))) 6 (both_right (eqb v.d 6) (star_keeps t v 6) e) in
         star v m (eqb-true v.d 6 (both_left (eqb v.d 6) (star_keeps t v 6) e)) j b (look_up t (adjacent_at v j)) refl x
 
-    old : (v : Record) → v.d ≡ 6 → (look_up t v.at ≡ Held v) ⊎ (v.d ≡ 3) → look_up t v.at ≡ Held v
+    old : (v : Record) → v.d ≡ 6 → (look_up t v.at ≡ Some v) ⊎ (v.d ≡ 3) → look_up t v.at ≡ Some v
     old v six (inl k) = k
     old v six (inr k) = absurd (let z : ◌≡◌ {A = ℕ} 6 3 = sym six ∙ k in omega arith)
 

@@ -2,12 +2,11 @@
 -- `full-ends`, `full-zero`, `full-grown` what is accepted is grown · `reduced-ends`, `reduced-zero`, `reduced-twelve` · `restored-completed` it ends by the
 -- judgement that salvage has too.
 -- Assumes nothing.
-use Rattle.std.specs.Prelude.{◌≡◌, Bool, ℕ, ◌≤◌, length}
+use Rattle.std.specs.Prelude.{◌≡◌, Bool, ℕ, ◌≤◌, length, None}
 use Rattle.std.proofs.Math.Path.{refl, ap}
 use Rattle.std.proofs.Common.{◌∙◌}
 use Rattle.std.proofs.Math.Bool.{true, false, cond}
 use mathlib.Core.List.{List}
-use Rattle.std.proofs.Math.Option.{none}
 use native.Mathlib.Omega.{arith}
 use Rattle.laws.specs.Some.{some_of}
 use Rattle.lattice.specs.declared.records.Record.{Record}
@@ -53,7 +52,7 @@ module _ (t s f : List ℕ) where
 
       go : (b : Bool) → lengths_fit t s ≡ b → (x : Lines) → read_lines f (cleared_of t) ≡ x → (cond b (end_full t s x) (tables_after 1 0 t s)).number ≡ 0 → FullRead
       go false fit x e z = absurd (omega arith)
-      go true fit (Fault number line) e z = absurd (let l = fault-number f (length f) 0 1 none (cleared_of t) number line e in omega arith)
+      go true fit (Fault number line) e z = absurd (let l = fault-number f (length f) 0 1 None (cleared_of t) number line e in omega arith)
       go true fit (Read rs u) e z = judged fit rs u e (is_grown u) refl z
 
   -- "11: not a grown mesh"
@@ -125,7 +124,7 @@ module _ (t s f : List ℕ) where
           → (cond b (end_reduced t s x) (tables_after 1 0 t s)).number ≡ cond kept 12 0 → ReducedRead kept
       go false fit x e z = other 1 (omega arith) (omega arith) z
       go true fit (Fault number line) e z =
-          let (l, h) = fault-number f (length f) 0 1 none (cleared_of t) number line e in other number (omega arith) (omega arith) z
+          let (l, h) = fault-number f (length f) 0 1 None (cleared_of t) number line e in other number (omega arith) (omega arith) z
       go true fit (Read rs u) e z = back fit rs u e (restore_all rs (With u)) refl z
 
   pub reduced-zero : (read_reduced_of t s f).number ≡ 0 → ReducedRead false

@@ -3,13 +3,12 @@
 -- valid records are told by their lines.
 -- The line before is a bound on the order of lines (text's specs/LineOrder): what the table holds lies below it, so the point of the next line is absent.
 -- Assumes nothing.
-use Rattle.std.specs.Prelude.{◌≡◌, refl, ◌⊎◌, Bool, false, cond, ℕ, zero, suc, ◌+◌, ◌≤◌, ◌<◌, length, drop}
+use Rattle.std.specs.Prelude.{◌≡◌, refl, ◌⊎◌, Bool, false, cond, ℕ, zero, suc, ◌+◌, ◌≤◌, ◌<◌, length, drop, Option, Some, None}
 use Rattle.std.proofs.Common.{sym, ◌∙◌, subst, inl, inr, arith, zero-add, ltb-true, lt-ltb, drop_of_length-le}
 use Rattle.std.proofs.Math.Path.{ap}
 use Rattle.std.proofs.Math.Bool.{true}
 use mathlib.Core.List.Memᴰ
 use mathlib.Core.List.{List, [], ◌∷◌, ◌++◌, append-nil, Memᴰ}
-use Rattle.std.proofs.Math.Option.{Option, none, some}
 use Rattle.std.proofs.Math.Decide.{dec_lt}
 use Rattle.laws.specs.Each.{not-both}
 use Rattle.lattice.specs.Records.{valid_of}
@@ -21,8 +20,6 @@ use Rattle.table.specs.Order.{InOrder}
 use Rattle.table.specs.Entries.{look_up, enter_of, records_of}
 use Rattle.table.specs.MapLaws.{Searched, there, room, full, searched, find-free, enter-finds, enter-free, enter-records, lookup-point, records-count}
 use Rattle.table.specs.MapLaws.{table_of, table-slots, clear-order, clear-absent, clear-free, clear-length}
-use Rattle.table.specs.declared.entries.Looked.{Looked}
-use Rattle.table.specs.declared.entries.Looked.TheVariants.{Absent, Held}
 use Rattle.text.specs.Line.{line_of, lines, line_at}
 use Rattle.text.specs.LineLengths.{lines-least}
 use Rattle.text.specs.ReadingLaws.{Stands, stands_at}
@@ -49,25 +46,25 @@ module _ (r s : Record) (v : valid_of r ≡ true) (w : valid_of s ≡ true) wher
 
 -- what the order of the lines to come is at least
 abbrev pub bound : Option Record → ℕ
-bound none = 0
-bound (some q) = suc (order_of q.at)
+bound None = 0
+bound (Some q) = suc (order_of q.at)
 
 -- the line before, where there is one, was valid
 abbrev pub Sound : Option Record → Type 0
-Sound none = Unit
-Sound (some q) = valid_of q ≡ true
+Sound None = Unit
+Sound (Some q) = valid_of q ≡ true
 
 -- every point of the table is at the line before or above it
 abbrev pub Below : List ℕ → Option Record → Type 0
-Below t q = (p : Point) (r : Record) → look_up t p ≡ Held r → order_of r.at < bound q
+Below t q = (p : Point) (r : Record) → look_up t p ≡ Some r → order_of r.at < bound q
 
 above-bound : (q : Option Record) (r : Record) → Sound q → valid_of r ≡ true → above q r ≡ true → bound q ≤ order_of r.at
-above-bound none r s v h = omega arith
-above-bound (some q) r s v h = let l = before-order q r s v h in omega arith
+above-bound None r s v h = omega arith
+above-bound (Some q) r s v h = let l = before-order q r s v h in omega arith
 
 pub bound-above : (q : Option Record) (r : Record) → Sound q → valid_of r ≡ true → bound q ≤ order_of r.at → above q r ≡ true
-bound-above none r s v h = refl
-bound-above (some q) r s v h = order-before q r s v (omega arith)
+bound-above None r s v h = refl
+bound-above (Some q) r s v h = order-before q r s v (omega arith)
 
 -- ---- the lines from position p on
 
@@ -78,7 +75,7 @@ pub record From (f : List ℕ) (p : ℕ) (q : Option Record) (t : List ℕ) (rs 
   pub valid : Valid rs
   pub later : (r : Record) → Memᴰ r rs → bound q ≤ order_of r.at
   pub adds : Adds (λ r. Memᴰ r rs) t u
-  pub held : (r : Record) → Memᴰ r rs → look_up u r.at ≡ Held r
+  pub held : (r : Record) → Memᴰ r rs → look_up u r.at ≡ Some r
   pub count : length (records_of u) ≡ length (records_of t) + length rs
 
 -- that, where no line was at fault
@@ -115,12 +112,12 @@ from_end f p q t o h =
 
 -- ---- one line more: r stands at p, above line q, and a slot is there
 module _ (t : List ℕ) (o : InOrder t) (q : Option Record) (low : Below t q) (r : Record) (ok : valid_of r ≡ true) (high : bound q ≤ order_of r.at) where
-  pub line-absent : look_up t r.at ≡ Absent
+  pub line-absent : look_up t r.at ≡ None
   line-absent = go (look_up t r.at) refl
     where
-      go : (l : Looked) → look_up t r.at ≡ l → look_up t r.at ≡ Absent
-      go Absent e = e
-      go (Held x) e = absurd (let l = low r.at x e in let k : order_of x.at ≡ order_of r.at = ap order_of (lookup-point t o r.at x e) in omega arith)
+      go : (l : Option Record) → look_up t r.at ≡ l → look_up t r.at ≡ None
+      go None e = e
+      go (Some x) e = absurd (let l = low r.at x e in let k : order_of x.at ≡ order_of r.at = ap order_of (lookup-point t o r.at x e) in omega arith)
 
   pub line-room : no_slot (find_of t r.at) ≡ false → 0 < free_slots t
   line-room h = go (searched t o.fits r.at)
@@ -137,15 +134,15 @@ module _ (t : List ℕ) (o : InOrder t) (q : Option Record) (low : Below t q) (r
     pub line-adds : (P : Record → Type 0) → P r → Adds P t (enter_of t r)
     line-adds P h = adds_one P t r o ok line-absent free h
 
-    pub line-below : Below (enter_of t r) (some r)
+    pub line-below : Below (enter_of t r) (Some r)
     line-below p x h = go ((line-adds (λ y. y ≡ r) refl).only p x h)
       where
-        go : (look_up t p ≡ Held x) ⊎ (x ≡ r) → order_of x.at < suc (order_of r.at)
+        go : (look_up t p ≡ Some x) ⊎ (x ≡ r) → order_of x.at < suc (order_of r.at)
         go (inl k) = let l = low p x k in omega arith
         go (inr k) = let l : order_of x.at ≡ order_of r.at = ap (λ (y : Record). order_of y.at) k in omega arith
 
     -- the records behind it, with it
-    line-from : (f : List ℕ) (p next : ℕ) (rs : List Record) (u : List ℕ) → line_at f p ≡ Good r next → From f next (some r) (enter_of t r) rs u
+    line-from : (f : List ℕ) (p next : ℕ) (rs : List Record) (u : List ℕ) → line_at f p ≡ Good r next → From f next (Some r) (enter_of t r) rs u
         → From f p q t (r ∷ rs) u
     unfolding lines
     line-from f p next rs u e w =
@@ -172,8 +169,8 @@ module _ (t : List ℕ) (o : InOrder t) (q : Option Record) (low : Below t q) (r
         late x (inl h) = subst (λ (y : Record). bound q ≤ order_of y.at) (sym h) high
         late x (inr m) = let l = w.later x m in omega arith
 
-        stays : (x : Record) → (x ≡ r) ⊎ Memᴰ x rs → look_up u x.at ≡ Held x
-        stays x (inl h) = subst (λ (y : Record). look_up u y.at ≡ Held y) (sym h) (w.adds.keeps r.at r (enter-finds t o r ok line-absent free))
+        stays : (x : Record) → (x ≡ r) ⊎ Memᴰ x rs → look_up u x.at ≡ Some x
+        stays x (inl h) = subst (λ (y : Record). look_up u y.at ≡ Some y) (sym h) (w.adds.keeps r.at r (enter-finds t o r ok line-absent free))
         stays x (inr m) = w.held x m
 
 -- ---- what was read
@@ -182,18 +179,18 @@ pub lines-told : (f : List ℕ) (left p i : ℕ) (q : Option Record) (t : List �
     → ReadAs f p q t (lines_from f left p i q t)
 unfolding lines_from
 lines-told f zero p i q t o s low h = from_end f p q t o (omega arith)
-lines-told f (suc left) p i q t o s low h = go (line_at f p) refl (λ r next. lines-told f left next (i + 1) (some r) (enter_of t r))
+lines-told f (suc left) p i q t o s low h = go (line_at f p) refl (λ r next. lines-told f left next (i + 1) (Some r) (enter_of t r))
   where
     with_it : (r : Record) (next : ℕ) (ok : valid_of r ≡ true) (high : bound q ≤ order_of r.at) (free : 0 < free_slots t) → line_at f p ≡ Good r next
-        → (x : Lines) → ReadAs f next (some r) (enter_of t r) x → ReadAs f p q t (after r x)
+        → (x : Lines) → ReadAs f next (Some r) (enter_of t r) x → ReadAs f p q t (after r x)
     with_it r next ok high free e (Fault number line) w = tt
     with_it r next ok high free e (Read rs u) w = line-from t o q low r ok high free f p next rs u e w
 
     judge : (r : Record) (next : ℕ) → line_at f p ≡ Good r next
-        → (InOrder (enter_of t r) → Sound (some r) → Below (enter_of t r) (some r) → length f ≤ next + left
-        → ReadAs f next (some r) (enter_of t r) (lines_from f left next (i + 1) (some r) (enter_of t r)))
+        → (InOrder (enter_of t r) → Sound (Some r) → Below (enter_of t r) (Some r) → length f ≤ next + left
+        → ReadAs f next (Some r) (enter_of t r) (lines_from f left next (i + 1) (Some r) (enter_of t r)))
         → (a b : Bool) → above q r ≡ a → no_slot (find_of t r.at) ≡ b
-        → ReadAs f p q t (cond a (cond b (Fault 8 i) (after r (lines_from f left next (i + 1) (some r) (enter_of t r)))) (Fault 10 i))
+        → ReadAs f p q t (cond a (cond b (Fault 8 i) (after r (lines_from f left next (i + 1) (Some r) (enter_of t r)))) (Fault 10 i))
     judge r next e ih false b x y = tt
     judge r next e ih true true x y = tt
     judge r next e ih true false x y =
@@ -201,13 +198,13 @@ lines-told f (suc left) p i q t o s low h = go (line_at f p) refl (λ r next. li
         let high = above-bound q r s ok x in
         let free = line-room t o q low r ok high y in
         let l = line-next f p next r e in
-        with_it r next ok high free e (lines_from f left next (i + 1) (some r) (enter_of t r))
+        with_it r next ok high free e (lines_from f left next (i + 1) (Some r) (enter_of t r))
         (ih (line-adds t o q low r ok high free (λ z. Unit) tt).order ok (line-below t o q low r ok high free) (omega arith))
 
     go : (l : Line) → line_at f p ≡ l
-        → ((r : Record) (next : ℕ) → InOrder (enter_of t r) → Sound (some r) → Below (enter_of t r) (some r) → length f ≤ next + left
-        → ReadAs f next (some r) (enter_of t r) (lines_from f left next (i + 1) (some r) (enter_of t r)))
-        → ReadAs f p q t (line_read i q t (λ r next. lines_from f left next (i + 1) (some r) (enter_of t r)) l)
+        → ((r : Record) (next : ℕ) → InOrder (enter_of t r) → Sound (Some r) → Below (enter_of t r) (Some r) → length f ≤ next + left
+        → ReadAs f next (Some r) (enter_of t r) (lines_from f left next (i + 1) (Some r) (enter_of t r)))
+        → ReadAs f p q t (line_read i q t (λ r next. lines_from f left next (i + 1) (Some r) (enter_of t r)) l)
     go End e ih = from_end f p q t o (end_line f p e)
     go Bad e ih = tt
     go (Good r next) e ih = judge r next e (ih r next) (above q r) (no_slot (find_of t r.at)) refl refl
@@ -217,11 +214,11 @@ lines-told f (suc left) p i q t o s low h = go (line_at f p) refl (λ r next. li
 -- a line above the one before, with a slot for it
 pub lines-good : (f : List ℕ) (left p i : ℕ) (q : Option Record) (t : List ℕ) (r : Record) (next : ℕ) → line_at f p ≡ Good r next → above q r ≡ true
     → no_slot (find_of t r.at) ≡ false
-    → lines_from f (suc left) p i q t ≡ after r (lines_from f left next (i + 1) (some r) (enter_of t r))
+    → lines_from f (suc left) p i q t ≡ after r (lines_from f left next (i + 1) (Some r) (enter_of t r))
 unfolding lines_from
 lines-good f left p i q t r next e a b =
-    let rest = lines_from f left next (i + 1) (some r) (enter_of t r) in
-    ap (line_read i q t (λ r next. lines_from f left next (i + 1) (some r) (enter_of t r))) e
+    let rest = lines_from f left next (i + 1) (Some r) (enter_of t r) in
+    ap (line_read i q t (λ r next. lines_from f left next (i + 1) (Some r) (enter_of t r))) e
     ∙ (λ j. cond (a j) (cond (b j) (Fault 8 i) (after r rest)) (Fault 10 i))
 
 pub from-lines : (f : List ℕ) (left p i : ℕ) (q : Option Record) (t : List ℕ) (rs : List Record) → InOrder t → Sound q → Below t q → Rising Before rs → Valid rs
@@ -231,7 +228,7 @@ unfolding lines_from lines
 from-lines f zero p i q t [] o s low rise ok late free st h = (t, refl)
 from-lines f zero p i q t (r ∷ rs) o s low rise ok late free st h = absurd (omega (arith, st.past, lines-least (r ∷ rs)))
 from-lines f (suc left) p i q t [] o s low rise ok late free st h =
-    (t, ap (line_read i q t (λ r next. lines_from f left next (i + 1) (some r) (enter_of t r))) (line-end f p (omega (arith, st.past))))
+    (t, ap (line_read i q t (λ r next. lines_from f left next (i + 1) (Some r) (enter_of t r))) (line-end f p (omega (arith, st.past))))
 from-lines f (suc left) p i q t (r ∷ rs) o s low rise ok late free st h =
     let valid = ok r (Memᴰ.head refl) in
     let high = late r (Memᴰ.head refl) in
@@ -242,7 +239,7 @@ from-lines f (suc left) p i q t (r ∷ rs) o s low rise ok late free st h =
     let less = enter-free t o r valid absent some-free in
     let on = line-next f p next r e.0 in
     let w =
-    from-lines f left next (i + 1) (some r) (enter_of t r) rs (line-adds t o q low r valid high some-free (λ z. Unit) tt).order valid
+    from-lines f left next (i + 1) (Some r) (enter_of t r) rs (line-adds t o q low r valid high some-free (λ z. Unit) tt).order valid
     (line-below t o q low r valid high some-free) rise.1
     (λ x m. ok x (Memᴰ.tail m))
     (λ x m. before-order r x valid (ok x (Memᴰ.tail m)) (rise.0 x m))
@@ -260,8 +257,8 @@ pub record Lined (f : List ℕ) (n : ℕ) (rs : List Record) (u : List ℕ) : Ty
   pub valid : Valid rs
   pub order : InOrder u
   pub slots : slots_of u ≡ n
-  pub held : (r : Record) → Memᴰ r rs → look_up u r.at ≡ Held r
-  pub only : (p : Point) (r : Record) → look_up u p ≡ Held r → Memᴰ r rs
+  pub held : (r : Record) → Memᴰ r rs → look_up u r.at ≡ Some r
+  pub only : (p : Point) (r : Record) → look_up u p ≡ Some r → Memᴰ r rs
   -- as many records as lines
   pub count : length (records_of u) ≡ length rs
 
@@ -269,7 +266,7 @@ module _ (t : List ℕ) (n : ℕ) (w : Table t n) where
   fits : Table t (slots_of t)
   fits = table_of t n w
 
-  nothing : Below (cleared_of t) none
+  nothing : Below (cleared_of t) None
   nothing p r h = held-absent h (clear-absent t fits p)
 
   no-records : length (records_of (cleared_of t)) ≡ 0
@@ -282,8 +279,8 @@ module _ (t : List ℕ) (n : ℕ) (w : Table t n) where
   -- what a file that was read is
   pub read-lines : (f : List ℕ) (rs : List Record) (u : List ℕ) → read_lines f (cleared_of t) ≡ Read rs u → Lined f n rs u
   read-lines f rs u e =
-      let x : From f 0 none (cleared_of t) rs u = subst (ReadAs f 0 none (cleared_of t)) e
-      (lines-told f (length f) 0 1 none (cleared_of t) (clear-order t fits) tt nothing (omega arith)) in
+      let x : From f 0 None (cleared_of t) rs u = subst (ReadAs f 0 None (cleared_of t)) e
+      (lines-told f (length f) 0 1 None (cleared_of t) (clear-order t fits) tt nothing (omega arith)) in
       record {
         text = x.text;
         rises = x.rises;
@@ -295,14 +292,14 @@ module _ (t : List ℕ) (n : ℕ) (w : Table t n) where
         count = omega (arith, x.count, no-records);
       }
     where
-      new : (p : Point) (r : Record) → (look_up (cleared_of t) p ≡ Held r) ⊎ Memᴰ r rs → Memᴰ r rs
+      new : (p : Point) (r : Record) → (look_up (cleared_of t) p ≡ Some r) ⊎ Memᴰ r rs → Memᴰ r rs
       new p r (inl h) = held-absent h (clear-absent t fits p)
       new p r (inr m) = m
 
   -- valid records that rise, no more of them than slots, are read from their lines
   pub lines-read : (rs : List Record) → Rising Before rs → Valid rs → length rs ≤ n → (u : List ℕ) × (read_lines (lines rs) (cleared_of t) ≡ Read rs u)
   lines-read rs rise ok h =
-      from-lines (lines rs) (length (lines rs)) 0 1 none (cleared_of t) rs (clear-order t fits) tt nothing rise ok (λ r m. omega arith)
+      from-lines (lines rs) (length (lines rs)) 0 1 None (cleared_of t) rs (clear-order t fits) tt nothing rise ok (λ r m. omega arith)
       (let c = clear-free t fits in let d = table-slots t n w in omega arith)
       (subst (Stands (lines rs) 0 (lines rs)) (zero-add (length (lines rs))) (stands_at (lines rs) (lines rs) [] 0 (sym (append-nil (lines rs)))))
       (omega arith)

@@ -2,8 +2,7 @@
 -- `Lines`, `read_lines` the lines of a file entered, or refused · `Restored`, `restore_all` what a reduced file leaves out, entered · `completed` and
 -- judged · `TablesAfter` number, line, table and scratch.
 -- Assumes nothing.
-use Rattle.std.specs.Prelude.{Bool, true, false, cond, List, [], ◌∷◌, ℕ, zero, suc, ◌+◌, eqb, length}
-use Rattle.std.proofs.Math.Option.{Option, none, some}
+use Rattle.std.specs.Prelude.{Bool, true, false, cond, List, [], ◌∷◌, ℕ, zero, suc, ◌+◌, eqb, length, Option, Some, None}
 use Rattle.laws.specs.Choices.{unless}
 use Rattle.laws.specs.Some.{some_of}
 use Rattle.lattice.specs.Records.{valid_of}
@@ -33,8 +32,8 @@ after r (Fault number line) = Fault number line
 
 -- "Lines rise strictly": r is above the line before, where there is one
 abbrev pub above : Option Record → Record → Bool
-above none r = true
-above (some q) r = before q r
+above None r = true
+above (Some q) r = before q r
 
 -- "8: too few free slots"
 abbrev pub no_slot : Found → Bool
@@ -51,11 +50,11 @@ line_read i q t rest (Good r next) = unless (above q r) (Fault 10 i) (cond (no_s
 -- the lines of file f from position p on: no more than so many are left
 unfoldable pub lines_from : List ℕ → ℕ → ℕ → ℕ → Option Record → List ℕ → Lines
 lines_from f zero p i q t = Read [] t
-lines_from f (suc left) p i q t = line_read i q t (λ r next. lines_from f left next (i + 1) (some r) (enter_of t r)) (line_at f p)
+lines_from f (suc left) p i q t = line_read i q t (λ r next. lines_from f left next (i + 1) (Some r) (enter_of t r)) (line_at f p)
 
 -- a line has a byte at least, so a file has no more lines than bytes
 abbrev pub read_lines : List ℕ → List ℕ → Lines
-read_lines f t = lines_from f (length f) 0 1 none t
+read_lines f t = lines_from f (length f) 0 1 None t
 
 -- ---- "The reduced reader then takes the degree 6 records in file order and enters each absent adjacent point, j rising, as d 3, level n, orientation
 -- (6+2j+k) mod 4."

@@ -1,15 +1,14 @@
 -- What a reduced file leaves out, step by step as the code enters it.
--- `restored_by` a number and a table as what restoring has come to · `restore-there`, `restore-entered`, `restore-invalid`, `restore-full`,
--- `restore-neither` one record · `Mends` a step, and whether it met a record that should not be there: `mends_there`, `mends-entered`, `mends-stopped` ·
--- `to_none`, `to-more`, `to-stopped` one star, `Rounding` so far · `star-six`, `star-other` · `file_records` the records of a file, read again:
--- `read-records` · `Restoring` so far: `restoring-start`, `restoring-end`, `restoring-more`, `restoring-stopped`.
+-- `restored_by` a number and a table as what restoring has come to · `restore-there`, `restore-entered` one record · `Mends` a
+-- step, and whether it met a record that should not be there: `mends_there`, `mends-entered`, `mends-stopped` ·
+-- `to_none`, `to-more`, `to-stopped` one star, `Rounding` so far · `star-six` · `file_records` the records of a file, read again:
+-- `read-records` · `Restoring` so far: `restoring-start`, `restoring-over`, `restoring-more`, `restoring-stopped`.
 -- Assumes nothing.
-use Rattle.std.specs.Prelude.{◌≡◌, Bool, true, false, cond, ◌||◌, eqb, length}
+use Rattle.std.specs.Prelude.{◌≡◌, Bool, true, false, cond, ◌||◌, eqb, length, Result, Ok, Err, Option, Some, None}
 use Rattle.std.proofs.Math.Path.{refl, sym, ap}
 use Rattle.std.proofs.Common.{◌∙◌, subst, eq-eqb, ne_eqb}
-use Rattle.std.proofs.Math.Bool.{or_assoc}
+use Rattle.std.proofs.Math.Bool.{or_assoc, or_comm}
 use mathlib.Core.List.{List, [], ◌∷◌}
-use Rattle.std.proofs.Math.Option.{Option, none, some}
 use Prim.Native.Nat.{ℕ, zero, suc, ◌+◌, ◌-◌, ◌≤◌, ◌<◌}
 use native.Mathlib.Omega.{arith}
 use Rattle.std.proofs.Math.Decide.{ℕ_discrete}
@@ -19,6 +18,7 @@ use Rattle.lattice.specs.Records.{valid_of}
 use Rattle.lattice.specs.RecordLaws.{Inner, inner}
 use Rattle.lattice.specs.Subdivision.{born_of}
 use Rattle.lattice.specs.declared.records.Record.{Record}
+use Rattle.lattice.specs.declared.refusals.Refusal.{Refusal}
 use Rattle.table.specs.Slots.{slot_at, put_slot}
 use Rattle.table.specs.Search.{find_of}
 use Rattle.table.specs.Entries.{held_in, look_up, enter_of}
@@ -56,15 +56,10 @@ module _ (t : List ℕ) (r : Record) where
   pub restore-entered : (i : ℕ) → find_of t r.at ≡ found.Free i → valid_of r ≡ true → With (put_slot t i r) ≡ restore (With t) r
   restore-entered i e v = ap With (put-enter t r i e) ∙ ap (λ (b : Bool). cond b (With (enter_of t r)) (Stopped 11)) (sym v) ∙ restore-by (found.Free i) e
 
-  pub restore-invalid : (i : ℕ) → find_of t r.at ≡ found.Free i → valid_of r ≡ false → Stopped 11 ≡ restore (With t) r
-  restore-invalid i e v = ap (λ (b : Bool). cond b (With (enter_of t r)) (Stopped 11)) (sym v) ∙ restore-by (found.Free i) e
-
-  pub restore-full : find_of t r.at ≡ found.Full → valid_of r ≡ true → Stopped 8 ≡ restore (With t) r
-  restore-full e v = ap (λ (b : Bool). Stopped (cond b 8 11)) (sym v) ∙ restore-by found.Full e
-
-  -- neither valid nor a slot: 11
-  pub restore-neither : find_of t r.at ≡ found.Full → valid_of r ≡ false → Stopped 11 ≡ restore (With t) r
-  restore-neither e v = ap (λ (b : Bool). Stopped (cond b 8 11)) (sym v) ∙ restore-by found.Full e
+-- whether a record was met that should have been left out
+abbrev pub kept_told : Result Bool Refusal → Bool
+kept_told (Ok kept) = kept
+kept_told (Err why) = false
 
 -- what a step of restoring comes to from t: x; and, where t is t₀ with records entered, whether it met what t₀ should not have is b
 pub record Mends (t₀ t : List ℕ) (x : Restored) (b : Bool) (number : ℕ) (kept : Bool) (u : List ℕ) : Type 0 where
@@ -122,9 +117,6 @@ module _ (v : Record) (x : Restored) where
   pub star-six : v.d ≡ 6 → restore_to v 6 x ≡ restore_star v x
   star-six e = ap (λ (b : Bool). cond b (restore_to v 6 x) x) (sym (eq-eqb v.d 6 e))
 
-  pub star-other : (v.d ≡ 6 → ⊥) → x ≡ restore_star v x
-  star-other e = ap (λ (b : Bool). cond b (restore_to v 6 x) x) (sym (ne_eqb v.d 6 e))
-
 -- the first j adjacent points of v restored in t to u
 pub record Rounding (t₀ t : List ℕ) (v : Record) (j : ℕ) (u : List ℕ) (kept : Bool) : Type 0 where
   pub within : j ≤ 6
@@ -155,7 +147,7 @@ module _ {t₀ t : List ℕ} {v : Record} {j : ℕ} {u : List ℕ} {kept : Bool}
         let e = by-stopped number u' nz in
         mends-stopped nz (e ∙ sym (to-stopped v (With t) 6 (j + 1) number (omega arith) (one ∙ e)))
 
-    pub rounding-more : number ≡ 0 → length u' ≡ length u → Rounding t₀ t v (j + 1) u' (k || kept)
+    pub rounding-more : number ≡ 0 → length u' ≡ length u → Rounding t₀ t v (j + 1) u' (kept || k)
     rounding-more z l =
         let s : suc j ≡ j + 1 = omega arith in
         record {
@@ -163,7 +155,7 @@ module _ {t₀ t : List ℕ} {v : Record} {j : ℕ} {u : List ℕ} {kept : Bool}
           so = one ∙ by-none number u' z;
           long = l ∙ g.long;
           since = λ w. m.since (g.since w) z;
-          keeps = λ w. (λ i. m.keeps (g.since w) z i || g.keeps w i) ∙ ap (star_keeps t₀ v) s;
+          keeps = λ w. or_comm kept k ∙ (λ i. m.keeps (g.since w) z i || g.keeps w i) ∙ ap (star_keeps t₀ v) s;
         }
 
 -- ---- the records of a file, read again
@@ -190,7 +182,7 @@ Same qs (Fault number line) = Unit
 same_lines : (f : List ℕ) (left p i : ℕ) (q : Option Record) (t : List ℕ) → Same (records_at f left p) (lines_from f left p i q t)
 unfolding records_at lines_from
 same_lines f zero p i q t = refl
-same_lines f (suc left) p i q t = go (line_at f p) (λ r next. same_lines f left next (i + 1) (some r) (enter_of t r))
+same_lines f (suc left) p i q t = go (line_at f p) (λ r next. same_lines f left next (i + 1) (Some r) (enter_of t r))
   where
     with_it : (r : Record) (qs : List Record) (x : Lines) → Same qs x → Same (r ∷ qs) (after r x)
     with_it r qs (Read rs u) e = ap (λ (l : List Record). r ∷ l) e
@@ -201,15 +193,15 @@ same_lines f (suc left) p i q t = go (line_at f p) (λ r next. same_lines f left
     judge r qs x e true true = tt
     judge r qs x e true false = with_it r qs x e
 
-    go : (l : Line) → ((r : Record) (next : ℕ) → Same (records_at f left next) (lines_from f left next (i + 1) (some r) (enter_of t r)))
-        → Same (line_record (λ r next. records_at f left next) l) (line_read i q t (λ r next. lines_from f left next (i + 1) (some r) (enter_of t r)) l)
+    go : (l : Line) → ((r : Record) (next : ℕ) → Same (records_at f left next) (lines_from f left next (i + 1) (Some r) (enter_of t r)))
+        → Same (line_record (λ r next. records_at f left next) l) (line_read i q t (λ r next. lines_from f left next (i + 1) (Some r) (enter_of t r)) l)
     go End ih = refl
     go Bad ih = tt
     go (Good r next) ih =
-        judge r (records_at f left next) (lines_from f left next (i + 1) (some r) (enter_of t r)) (ih r next) (above q r) (no_slot (find_of t r.at))
+        judge r (records_at f left next) (lines_from f left next (i + 1) (Some r) (enter_of t r)) (ih r next) (above q r) (no_slot (find_of t r.at))
 
 pub read-records : (f t : List ℕ) (rs : List Record) (u : List ℕ) → read_lines f t ≡ Read rs u → file_records f ≡ rs
-read-records f t rs u e = subst (Same (file_records f)) e (same_lines f (length f) 0 1 none t)
+read-records f t rs u e = subst (Same (file_records f)) e (same_lines f (length f) 0 1 None t)
 
 -- one line, where enough are left
 pub records-step : (f : List ℕ) (left p : ℕ) → length f ≤ p + left → (l : Line) → line_at f p ≡ l
@@ -262,11 +254,13 @@ module _ {f t₀ t₁ : List ℕ} {p : ℕ} {t : List ℕ} {kept : Bool} (w : Re
         keeps = λ o z. sym (w.keeps ∙ ap (λ (rs : List Record). kept || keeps rs) e ∙ or-false kept);
       }
 
-  pub restoring-end : line_at f p ≡ End → Mends t₀ t₁ all (keeps (file_records f)) 0 kept t
-  restoring-end e = ended (step End e)
-
-  pub restoring-bad : line_at f p ≡ Bad → Mends t₀ t₁ all (keeps (file_records f)) 0 kept t
-  restoring-bad e = ended (step Bad e)
+  pub restoring-over : ((v : Record) (next : ℕ) → line_at f p ≡ Good v next → ⊥) → Mends t₀ t₁ all (keeps (file_records f)) 0 kept t
+  restoring-over other = go (line_at f p) refl
+    where
+      go : (l : Line) → line_at f p ≡ l → Mends t₀ t₁ all (keeps (file_records f)) 0 kept t
+      go End e = ended (step End e)
+      go Bad e = ended (step Bad e)
+      go (Good v next) e = absurd (other v next e)
 
   module _ (v : Record) (next : ℕ) (good : line_at f p ≡ Good v next) {number : ℕ} {k : Bool} {u : List ℕ}
       (m : Mends t₀ t (restore_star v (With t)) (record_keeps t₀ v) number k u) where

@@ -5,7 +5,7 @@
 -- Why: what is restored has degree 3, so the degree 6 records of the finished table are the file's; and the table before restoring holds the file's
 -- records and no other.
 -- Assumes nothing.
-use Rattle.std.specs.Prelude.{◌≡◌, refl, ◌⊎◌, Bool, true, false, ◌&&◌, ℕ, ◌<◌, eqb}
+use Rattle.std.specs.Prelude.{◌≡◌, refl, ◌⊎◌, Bool, true, false, ◌&&◌, ℕ, ◌<◌, eqb, Option, Some, None}
 use Rattle.std.proofs.Common.{sym, ap, ◌∙◌, inl, inr, arith, eq-eqb, eqb-true, ne_eqb}
 use mathlib.Core.List.{List, Memᴰ}
 use Rattle.laws.specs.Each.{not-both, both_left, both_right, same_test, among-at, at-among}
@@ -18,10 +18,6 @@ use Rattle.table.specs.Slots.{slots_of, slot_at}
 use Rattle.table.specs.Order.{InOrder}
 use Rattle.table.specs.Entries.{look_up, records_of}
 use Rattle.table.specs.MapLaws.{lookup-point, lookup-stands, slot-looked, looked-records, records-looked}
-use Rattle.table.specs.declared.slots.Slot.{Slot}
-use Rattle.table.specs.declared.slots.Slot.TheVariants.{Free, Holds}
-use Rattle.table.specs.declared.entries.Looked.{Looked}
-use Rattle.table.specs.declared.entries.Looked.TheVariants.{Absent, Held}
 use Rattle.writers.specs.Files.{redundant}
 use Rattle.writers.specs.RedundantLaws.{Redundant, redundant-is, is-redundant}
 use Rattle.readers.specs.Readers.{With, restore_all}
@@ -30,14 +26,14 @@ use Rattle.readers.specs.ReadLaws.{Lined}
 use Rattle.readers.specs.RestoreLaws.{RestoredOf, restore-all}
 use Rattle.readers.specs.Keeps.{is_three, star_keeps}
 
-abbrev pub slot_keeps : List ℕ → Slot → Bool
-slot_keeps t Free = false
-slot_keeps t (Holds v) = eqb v.d 6 && star_keeps t v 6
+abbrev pub slot_keeps : List ℕ → Option Record → Bool
+slot_keeps t None = false
+slot_keeps t (Some v) = eqb v.d 6 && star_keeps t v 6
 
 abbrev pub table_keeps : List ℕ → ℕ → Bool
 table_keeps t n = among n (λ i. slot_keeps t (slot_at t i))
 
-module _ (t : List ℕ) (s : Slot) (v : Record) (held : s ≡ Holds v) where
+module _ (t : List ℕ) (s : Option Record) (v : Record) (held : s ≡ Some v) where
   pub six-keeps : v.d ≡ 6 → star_keeps t v 6 ≡ slot_keeps t s
   six-keeps e = sym (ap (slot_keeps t) held ∙ ap (λ (b : Bool). b && star_keeps t v 6) (eq-eqb v.d 6 e))
 
@@ -48,26 +44,26 @@ module _ (t : List ℕ) (s : Slot) (v : Record) (held : s ≡ Holds v) where
 
 module _ (t : List ℕ) (o : InOrder t) where
   -- r is one of the records, and redundant among them
-  table-keeps : table_keeps t (slots_of t) ≡ true → (r : Record) × (look_up t r.at ≡ Held r) × Redundant t r
+  table-keeps : table_keeps t (slots_of t) ≡ true → (r : Record) × (look_up t r.at ≡ Some r) × Redundant t r
   table-keeps h = let (i, l, e) = among-at (λ i. slot_keeps t (slot_at t i)) (slots_of t) h in slot i l (slot_at t i) refl e
     where
-      star : (v : Record) → look_up t v.at ≡ Held v → v.d ≡ 6 → (j : ℕ) → j < 6 → (x : Looked) → look_up t (adjacent_at v j) ≡ x → is_three x ≡ true
-          → (r : Record) × (look_up t r.at ≡ Held r) × Redundant t r
-      star v k six j b Absent e h = absurd (not-both h refl)
-      star v k six j b (Held r) e h =
+      star : (v : Record) → look_up t v.at ≡ Some v → v.d ≡ 6 → (j : ℕ) → j < 6 → (x : Option Record) → look_up t (adjacent_at v j) ≡ x → is_three x ≡ true
+          → (r : Record) × (look_up t r.at ≡ Some r) × Redundant t r
+      star v k six j b None e h = absurd (not-both h refl)
+      star v k six j b (Some r) e h =
           let at = lookup-point t o (adjacent_at v j) r e in (
             r,
             ap (look_up t) at ∙ e,
             record { three = eqb-true r.d 3 h; centre = v; listed = looked-records t o v.at v k; six = six; place = j; below = b; adjacent = sym at },
           )
 
-      slot : (i : ℕ) → i < slots_of t → (s : Slot) → slot_at t i ≡ s → slot_keeps t s ≡ true → (r : Record) × (look_up t r.at ≡ Held r) × Redundant t r
-      slot i l Free e h = absurd (not-both h refl)
-      slot i l (Holds v) e h =
+      slot : (i : ℕ) → i < slots_of t → (s : Option Record) → slot_at t i ≡ s → slot_keeps t s ≡ true → (r : Record) × (look_up t r.at ≡ Some r) × Redundant t r
+      slot i l None e h = absurd (not-both h refl)
+      slot i l (Some v) e h =
           let (j, b, x) = among-at (λ j. is_three (look_up t (adjacent_at v j))) 6 (both_right (eqb v.d 6) (star_keeps t v 6) h) in
           star v (slot-looked t o i v l e) (eqb-true v.d 6 (both_left (eqb v.d 6) (star_keeps t v 6) h)) j b (look_up t (adjacent_at v j)) refl x
 
-  keeps-table : (r : Record) → look_up t r.at ≡ Held r → Redundant t r → table_keeps t (slots_of t) ≡ true
+  keeps-table : (r : Record) → look_up t r.at ≡ Some r → Redundant t r → table_keeps t (slots_of t) ≡ true
   keeps-table r found w =
       let v = w.centre in
       let s = lookup-stands t o v.at v (records-looked t o v w.listed) in
@@ -92,7 +88,7 @@ keeps-redundant f n rs t u w a = same_test (table_keeps t (slots_of t)) (some_of
         let m = looked-records u a.order v.at v (a.keeps v.at v (records-looked t w.order v x.listed)) in
         at_some (redundant u) rs r (w.only r.at r found) (is-redundant u r (centred t u r x m))
 
-    old : (v : Record) → v.d ≡ 6 → (look_up t v.at ≡ Held v) ⊎ (v.d ≡ 3) → look_up t v.at ≡ Held v
+    old : (v : Record) → v.d ≡ 6 → (look_up t v.at ≡ Some v) ⊎ (v.d ≡ 3) → look_up t v.at ≡ Some v
     old v six (inl k) = k
     old v six (inr k) = absurd (let z : ◌≡◌ {A = ℕ} 6 3 = sym six ∙ k in omega arith)
 

@@ -4,23 +4,17 @@
 ghost use Rattle.std.specs.Prelude.{◌≡◌, true, ◌+◌, ◌*◌, ◌≤◌, length};
 ghost use Rattle.laws.specs.Some.{some_of};
 ghost use Rattle.lattice.specs.Records.{valid_of};
+ghost use Rattle.lattice.specs.Refusals.{number_told};
 ghost use Rattle.table.specs.Entries.{held_in, look_up};
 ghost use Rattle.table.specs.Order.{InOrder};
 ghost use Rattle.table.specs.Slots.{slot_width, Table, slots_of, slot_at, cleared_of};
 ghost use Rattle.readers.specs.Readers.{With, restore, restore_to, restore_star, restore_all};
 ghost use Rattle.readers.specs.Keeps.{is_three, star_keeps, record_keeps, Since};
-ghost use Rattle.readers.specs.RestoreSteps.{Mends, file_records};
+ghost use Rattle.readers.specs.RestoreSteps.{kept_told, Mends, file_records};
 
-use lattice::{DONE, NO_ROOM, NOT_GROWN, Record, born, valid};
-use table::{Found, Looked, clear, copy, find, held_in, write_slot};
+use lattice::{Record, Refusal, born, valid};
+use table::{Found, clear, copy, find, held_in, write_slot};
 use text::{Line, parse_line};
-
-// What restoring came to: a number, and where it is 0 whether the file has a record that it should have left out.
-#[derive(Clone, Copy)]
-pub struct Mended {
-    pub number: u8,
-    pub kept: bool,
-}
 
 // Slot i of a table of so many bytes held a record of degree 3.
 fn was_three(before: &[u8], bytes: usize, i: usize) -> bool
@@ -32,122 +26,90 @@ fn was_three(before: &[u8], bytes: usize, i: usize) -> bool
     }
     let l = held_in(before, i);
     match l {
-        Looked::Absent => false,
-        Looked::Held(u) => u.d == 3,
+        None => false,
+        Some(u) => u.d == 3,
     }
 }
 
-// Enters a record where its point is absent: 11 where it is not valid, else 8 where no slot is free, else 0. A record found is one of the file's where its
-// slot was taken before.
-fn restore_record(table: &mut [u8], before: &[u8], n: usize, r: Record) -> Mended
+// Enters a record where its point is absent: 11 where it is not valid, else 8 where no slot is free; else whether the record found is one of the file's of
+// degree 3, as it is where its slot was taken before.
+fn restore_record(table: &mut [u8], before: &[u8], n: usize, r: Record) -> Result<bool, Refusal>
     requires { Table table.old n }
     ensures { Mends before.now table.old (restore (With table.old) r) (is_three (look_up before.now r.at))
-        result.number result.kept table.new }
+        (number_told result) (kept_told result) table.new }
 {
-    let q = r.at;
-    let f = find(table, q, n);
-    match f {
-        Found::At(i) => {
-            let kept = was_three(before, table.len(), i);
-            Mended { number: DONE, kept }
-        }
+    match find(table, r.at, n) {
+        Found::At(i) => Ok(was_three(before, table.len(), i)),
         Found::Free(i) => {
             if !valid(r) {
-                return Mended {
-                    number: NOT_GROWN,
-                    kept: false,
-                };
+                return Err(Refusal::NotGrown);
             }
             write_slot(table, i, r);
-            Mended {
-                number: DONE,
-                kept: false,
-            }
+            Ok(false)
         }
         Found::Full => {
             if !valid(r) {
-                return Mended {
-                    number: NOT_GROWN,
-                    kept: false,
-                };
+                return Err(Refusal::NotGrown);
             }
-            Mended {
-                number: NO_ROOM,
-                kept: false,
-            }
+            Err(Refusal::NoRoom)
         }
     }
 }
 
-// All six of v's adjacent points, in star order, up to the first refusal.
-fn restore_round(table: &mut [u8], before: &[u8], n: usize, v: Record) -> Mended
+// All six of v's adjacent points, in star order, up to the first refusal: whether one is kept that should have been left out.
+fn restore_round(table: &mut [u8], before: &[u8], n: usize, v: Record) -> Result<bool, Refusal>
     requires { Table table.old n × ((valid_of v ≡ true) × (v.d ≡ 6)) }
     ensures { Mends before.now table.old (restore_to v 6 (With table.old)) (star_keeps before.now v 6)
-        result.number result.kept table.new }
+        (number_told result) (kept_told result) table.new }
 {
     let mut kept = false;
-    let mut j: u8 = 0;
-    while j < 6 {
-        let s = restore_record(table, before, n, born(v, j));
-        if s.number != DONE {
-            return s;
-        }
-        kept = s.kept | kept;
-        j += 1;
+    for j in 0..6 {
+        kept |= restore_record(table, before, n, born(v, j))?;
     }
-    Mended { number: DONE, kept }
+    Ok(kept)
 }
 
 // The same where v has degree 6; else nothing.
-pub fn restore_star(table: &mut [u8], before: &[u8], n: usize, v: Record) -> Mended
+pub fn restore_star(table: &mut [u8], before: &[u8], n: usize, v: Record) -> Result<bool, Refusal>
     requires { Table table.old n × (valid_of v ≡ true) }
     ensures { Mends before.now table.old (restore_star v (With table.old)) (record_keeps before.now v)
-        result.number result.kept table.new }
+        (number_told result) (kept_told result) table.new }
 {
-    let d = v.d;
-    if d != 6 {
-        return Mended {
-            number: DONE,
-            kept: false,
-        };
+    if v.d != 6 {
+        return Ok(false);
     }
     restore_round(table, before, n, v)
 }
 
 // The same of the records of a file, in its order.
-fn restore_all(table: &mut [u8], before: &[u8], n: usize, file: &[u8]) -> Mended
+fn restore_all(table: &mut [u8], before: &[u8], n: usize, file: &[u8]) -> Result<bool, Refusal>
     requires { Table table.old n × Since before.now table.old }
     ensures { Mends before.now table.old (restore_all (file_records file.now) (With table.old))
-        (some_of (record_keeps before.now) (file_records file.now)) result.number result.kept table.new }
+        (some_of (record_keeps before.now) (file_records file.now)) (number_told result) (kept_told result) table.new }
 {
     let mut kept = false;
     let mut at = 0;
-    loop {
-        let l = parse_line(file, at);
-        match l {
-            Line::End => return Mended { number: DONE, kept },
-            Line::Bad => return Mended { number: DONE, kept },
-            Line::Good(v, next) => {
-                let s = restore_star(table, before, n, v);
-                if s.number != DONE {
-                    return s;
-                }
-                kept = kept | s.kept;
-                at = next;
-            }
-        }
+    while let Line::Good(v, next) = parse_line(file, at) {
+        kept |= restore_star(table, before, n, v)?;
+        at = next;
     }
+    Ok(kept)
 }
 
 // The same with the table as the lines left it in scratch meanwhile.
-pub fn restore_file(table: &mut [u8], scratch: &mut [u8], n: usize, file: &[u8]) -> Mended
+pub fn restore_file(
+    table: &mut [u8],
+    scratch: &mut [u8],
+    n: usize,
+    file: &[u8],
+) -> Result<bool, Refusal>
     requires { (length scratch.old ≡ length table.old) × (InOrder table.old × (n ≡ slots_of table.old)) }
     ensures mends { Mends table.old table.old (restore_all (file_records file.now) (With table.old))
-        (some_of (record_keeps table.old) (file_records file.now)) result.number result.kept table.new }
+        (some_of (record_keeps table.old) (file_records file.now)) (number_told result) (kept_told result) table.new }
     ensures scratch_after { scratch.new ≡ cleared_of scratch.old }
 {
     copy(table, scratch);
-    let s = restore_all(table, scratch, n, file);
+    let kept = restore_all(table, scratch, n, file);
     clear(scratch);
-    s
+    kept
 }

@@ -1,7 +1,7 @@
--- The call by cases. `both_of` both outputs · `judged-held` a mended table holds every line's record · `call-unfit`, `call-refused`, `call-written` what the
--- call answers, by what was judged.
+-- The call by cases. `written_told`, `changed_told` what it tells · `both_of` both outputs · `judged-held` a mended table holds every line's record ·
+-- `call-unfit`, `call-refused`, `call-written` what the call answers, by what was judged.
 -- Assumes nothing.
-use Rattle.std.specs.Prelude.{◌≡◌, ◌&&◌, eqb, length, replicate, drop}
+use Rattle.std.specs.Prelude.{◌≡◌, ◌&&◌, eqb, length, replicate, drop, Result, Ok, Err}
 use Rattle.std.proofs.Math.Path.{refl, sym, ap}
 use Rattle.std.proofs.Common.{◌∙◌, arith}
 use Rattle.std.proofs.Math.Bool.{Bool, true, false, cond}
@@ -11,6 +11,7 @@ use Rattle.std.proofs.Math.Decide.{dec_lt}
 use borrow.Author.Tests.{le-leb, lt-leb, le-ltb, eqb-true}
 use Rattle.laws.specs.Each.{both_right}
 use Rattle.laws.specs.Stores.{drop-stored}
+use Rattle.lattice.specs.declared.refusals.Refusal.{Refusal}
 use Rattle.table.specs.Slots.{Table, fits_length, lengths_fit, slots_of, cleared_of}
 use Rattle.table.specs.Order.{InOrder}
 use Rattle.table.specs.MapLaws.{clear-length}
@@ -27,6 +28,16 @@ use Rattle.salvage.specs.FilledLaws.{mends, mends-order, mends-slots}
 use Rattle.salvage.specs.JudgeLaws.{judged_file, records-valid}
 use Rattle.salvage.specs.ListLaws.{AllHeld}
 use Rattle.salvage.specs.NoteLaws.{Capped, Puts}
+use Rattle.salvage.specs.declared.calls.Salvaged.{Salvaged}
+
+-- the bytes of both outputs, as they are told
+abbrev pub written_told : Result Salvaged Refusal → ℕ
+written_told (Ok done) = done.written
+written_told (Err why) = 0
+
+abbrev pub changed_told : Result Salvaged Refusal → ℕ
+changed_told (Ok done) = done.changed
+changed_told (Err why) = 0
 
 -- the number, the bytes written, and both outputs after
 pub record Both : Type 0 where
@@ -178,12 +189,13 @@ puts-over l xs l' r p h =
     p.bytes (omega arith) (omega arith) ∙ drop-stored l 0 xs (omega arith) ∙ ap (λ (n : ℕ). xs ++ drop n l) e
 
 -- a file that has room, written
-pub put-told : (file o : List ℕ) → length file ≤ length o → (a b : ℕ) (o' : List ℕ) → output_after a b o' ≡ put_of file o → (b ≡ length file) × (o' ≡ over file o)
+pub put-told : (file o : List ℕ) → length file ≤ length o → (a b : ℕ) (o' : List ℕ) → output_after a b o' ≡ put_of file o
+    → (b ≡ length file) × (o' ≡ over file o) × (a ≡ 0)
 unfolding put_of
 put-told file o h a b o' e =
     let k : output_after a b o' ≡ output_after 0 (length file) (file ++ drop (length file) o)
     = e ∙ ap (λ (x : Bool). cond x (output_after 13 0 o) (output_after 0 (length file) (file ++ drop (length file) o))) (le-ltb (length o) (length file) h) in
-    (ap (λ (x : OutputAfter). x.bytes) k, ap (λ (x : OutputAfter). x.out) k)
+    (ap (λ (x : OutputAfter). x.bytes) k, ap (λ (x : OutputAfter). x.out) k, ap (λ (x : OutputAfter). x.number) k)
 
 -- past the room
 pub capped-past : (room x r : ℕ) → Capped room x r → room < r → room < x

@@ -1,11 +1,10 @@
 -- Sorted records entered into a cleared table. `enter-all` where they are no more than the free slots, they are held · `enter-short` else 8 · `filled-lined`,
 -- `filled-short` the same of a cleared table · `reader-agrees` "as that reader has them": reading their lines ends alike, and with the same table.
 -- Assumes nothing.
-use Rattle.std.specs.Prelude.{◌≡◌, refl, Bool, true, cond, ℕ, zero, suc, ◌+◌, ◌-◌, ◌≤◌, ◌<◌, length}
+use Rattle.std.specs.Prelude.{◌≡◌, refl, Bool, true, cond, ℕ, zero, suc, ◌+◌, ◌≤◌, ◌<◌, length, Option, None, Some}
 use Rattle.std.proofs.Common.{sym, ap, ◌∙◌, subst, arith, zero-add}
 use mathlib.Core.List.Memᴰ
 use mathlib.Core.List.{List, [], ◌∷◌, ◌++◌, append_assoc, append-nil, Memᴰ}
-use Rattle.std.proofs.Math.Option.{Option, none, some}
 use Rattle.std.proofs.Math.Decide.{dec_lt}
 use Rattle.lattice.specs.Records.{valid_of}
 use Rattle.lattice.specs.declared.records.Record.{Record}
@@ -15,7 +14,6 @@ use Rattle.table.specs.Order.{InOrder}
 use Rattle.table.specs.Entries.{look_up, enter_of}
 use Rattle.table.specs.MapLaws.{Apart, find-free, find-full, enter-keeps, enter-free, enter-length, records-count}
 use Rattle.table.specs.MapLaws.{clear-order, clear-absent, clear-free, clear-length, table_of, table-slots}
-use Rattle.table.specs.declared.entries.Looked.TheVariants.{Absent}
 use Rattle.text.specs.Line.{line_of, lines, line_at}
 use Rattle.text.specs.LineLengths.{lines-least}
 use Rattle.text.specs.ReadingLaws.{Stands, stands_at}
@@ -43,9 +41,9 @@ pub record Entered (t : List ℕ) (seen rs : List Record) : Type 0 where
 
 -- none of them is there
 abbrev pub NoneThere : List ℕ → List Record → Type 0
-NoneThere t rs = (r : Record) → Memᴰ r rs → look_up t r.at ≡ Absent
+NoneThere t rs = (r : Record) → Memᴰ r rs → look_up t r.at ≡ None
 
-module _ (t : List ℕ) (o : InOrder t) (r : Record) (v : valid_of r ≡ true) (a : look_up t r.at ≡ Absent) where
+module _ (t : List ℕ) (o : InOrder t) (r : Record) (v : valid_of r ≡ true) (a : look_up t r.at ≡ None) where
   step_room : 0 < free_slots t → entering (With t) r ≡ With (enter_of t r)
   step_room free =
       let f = find-free t o.fits r.at a free in
@@ -93,7 +91,7 @@ enter-short (r ∷ rs) seen t h v a lack l =
     ok : valid_of r ≡ true
     ok = v r (Memᴰ.head refl)
 
-    gone : look_up t r.at ≡ Absent
+    gone : look_up t r.at ≡ None
     gone = lack r (Memᴰ.head refl)
 
     go : Dec (0 < free_slots t) → (0 < free_slots t → enter_all rs (With (enter_of t r)) ≡ Stopped 8) → enter_all rs (entering (With t) r) ≡ Stopped 8
@@ -159,11 +157,11 @@ unfolding lines_from lines enter_all
 lines-alike f zero p i q t [] o s low rise ok late st h = (refl, refl)
 lines-alike f zero p i q t (r ∷ rs) o s low rise ok late st h = absurd (omega (arith, st.past, lines-least (r ∷ rs)))
 lines-alike f (suc left) p i q t [] o s low rise ok late st h =
-    subst (EndsAlike [] (With t)) (sym (ap (line_read i q t (λ r next. lines_from f left next (i + 1) (some r) (enter_of t r)))
+    subst (EndsAlike [] (With t)) (sym (ap (line_read i q t (λ r next. lines_from f left next (i + 1) (Some r) (enter_of t r)))
     (line-end f p (omega (arith, st.past)))))
     (refl, refl)
 lines-alike f (suc left) p i q t (r ∷ rs) o s low rise ok late st h =
-    go (dec_lt 0 (free_slots t)) (λ free. lines-alike f left next (i + 1) (some r) (enter_of t r) rs
+    go (dec_lt 0 (free_slots t)) (λ free. lines-alike f left next (i + 1) (Some r) (enter_of t r) rs
     (line-adds t o q low r valid high free (λ z. Unit) tt).order valid
     (line-below t o q low r valid high free) rise.1
     (λ x m. ok x (Memᴰ.tail m))
@@ -177,7 +175,7 @@ lines-alike f (suc left) p i q t (r ∷ rs) o s low rise ok late st h =
     high : bound q ≤ order_of r.at
     high = late r (Memᴰ.head refl)
 
-    absent : look_up t r.at ≡ Absent
+    absent : look_up t r.at ≡ None
     absent = line-absent t o q low r valid high
 
     next : ℕ
@@ -187,29 +185,29 @@ lines-alike f (suc left) p i q t (r ∷ rs) o s low rise ok late st h =
     e = lines_next f p (length f) r rs valid st
 
     go : Dec (0 < free_slots t)
-        → (0 < free_slots t → EndsAlike rs (enter_all rs (With (enter_of t r))) (lines_from f left next (i + 1) (some r) (enter_of t r)))
+        → (0 < free_slots t → EndsAlike rs (enter_all rs (With (enter_of t r))) (lines_from f left next (i + 1) (Some r) (enter_of t r)))
         → EndsAlike (r ∷ rs) (enter_all rs (entering (With t) r)) (lines_from f (suc left) p i q t)
     go (yes free) ih =
         let is = lines-good f left p i q t r next e.0 (bound-above q r s valid high) (room-line t o q low r valid high free) in
         subst (EndsAlike (r ∷ rs) (enter_all rs (entering (With t) r))) (sym is)
-        (subst (λ (x : Restored). EndsAlike (r ∷ rs) (enter_all rs x) (after r (lines_from f left next (i + 1) (some r) (enter_of t r))))
+        (subst (λ (x : Restored). EndsAlike (r ∷ rs) (enter_all rs x) (after r (lines_from f left next (i + 1) (Some r) (enter_of t r))))
         (sym (step_room t o r valid absent free))
-        (alike-after r rs (enter_all rs (With (enter_of t r))) (lines_from f left next (i + 1) (some r) (enter_of t r)) (ih free)))
+        (alike-after r rs (enter_all rs (With (enter_of t r))) (lines_from f left next (i + 1) (Some r) (enter_of t r)) (ih free)))
     go (no free) ih =
-        let none : free_slots t ≡ 0 = omega arith in
+        let None : free_slots t ≡ 0 = omega arith in
         let a = bound-above q r s valid high in
-        let b : no_slot (find_of t r.at) ≡ true = ap no_slot (find-full t o.fits r.at absent none) in
+        let b : no_slot (find_of t r.at) ≡ true = ap no_slot (find-full t o.fits r.at absent None) in
         let is : lines_from f (suc left) p i q t ≡ Fault 8 i
-        = ap (line_read i q t (λ x n. lines_from f left n (i + 1) (some x) (enter_of t x))) e.0
-        ∙ (λ j. cond (a j) (cond (b j) (Fault 8 i) (after r (lines_from f left next (i + 1) (some r) (enter_of t r)))) (Fault 10 i)) in
+        = ap (line_read i q t (λ x n. lines_from f left n (i + 1) (Some x) (enter_of t x))) e.0
+        ∙ (λ j. cond (a j) (cond (b j) (Fault 8 i) (after r (lines_from f left next (i + 1) (Some r) (enter_of t r)))) (Fault 10 i)) in
         subst (EndsAlike (r ∷ rs) (enter_all rs (entering (With t) r))) (sym is)
-        (refl, ap (enter_all rs) (step-full t o r valid absent none) ∙ enter-stopped rs 8)
+        (refl, ap (enter_all rs) (step-full t o r valid absent None) ∙ enter-stopped rs 8)
 
 -- the sorted lines read into a cleared table, and their records entered
 pub reader-agrees : (t : List ℕ) (n : ℕ) → Table t n → (rs : List Record) → Rising Before rs → Valid rs
     → EndsAlike rs (enter_all rs (With (cleared_of t))) (read_lines (lines rs) (cleared_of t))
 reader-agrees t n w rs rises v =
-    lines-alike (lines rs) (length (lines rs)) 0 1 none (cleared_of t) rs (clear-order t (fits t n w)) tt
+    lines-alike (lines rs) (length (lines rs)) 0 1 None (cleared_of t) rs (clear-order t (fits t n w)) tt
     (λ p r h. held-absent h (clear-absent t (fits t n w) p)) rises v (λ r m. omega arith)
     (subst (Stands (lines rs) 0 (lines rs)) (zero-add (length (lines rs))) (stands_at (lines rs) (lines rs) [] 0 (sym (append-nil (lines rs)))))
     (omega arith)

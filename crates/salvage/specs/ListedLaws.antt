@@ -1,12 +1,12 @@
 -- The list of changes, put line by line and slot by slot. `Listing` the lines up to a position are listed: `listing_start`, `listing-over`, `listing-dropped`,
 -- `listing-kept` · `notes-restored` what is listed of the slots is a line for each record that no line has · `listed-all` the whole list.
 -- Assumes nothing.
-use Rattle.std.specs.Prelude.{◌≡◌, Bool, cond, ◌||◌, not, length, replicate}
+use Rattle.std.specs.Prelude.{◌≡◌, Bool, cond, ◌||◌, not, length, replicate, Option, Some, None}
 use Rattle.std.proofs.Math.Path.{refl, sym, ap}
 use Rattle.std.proofs.Common.{◌∙◌, subst, arith}
 use Rattle.std.proofs.Math.Bool.{true, false}
 use mathlib.Core.List.{List, [], ◌∷◌, ◌++◌, append_assoc, append-nil, Memᴰ}
-use Prim.Native.Nat.{ℕ, zero, suc, ◌+◌, ◌-◌, ◌≤◌, ◌<◌}
+use Prim.Native.Nat.{ℕ, zero, suc, ◌+◌, ◌≤◌, ◌<◌}
 use Rattle.laws.specs.Each.{same_test}
 use Rattle.laws.specs.Some.{some_of, some_at, at_some}
 use Rattle.lattice.specs.declared.records.Record.{Record}
@@ -16,16 +16,12 @@ use Rattle.table.specs.Search.{same_point, find_of}
 use Rattle.table.specs.Order.{InOrder, is_at}
 use Rattle.table.specs.Entries.{look_up, listed, records_below, records_of}
 use Rattle.table.specs.MapLaws.{find-held, at_held, slot-looked, same_refl, same_true}
-use Rattle.table.specs.declared.slots.Slot.{Slot}
-use Rattle.table.specs.declared.slots.Slot.TheVariants.{Free, Holds}
 use Rattle.table.specs.declared.probe.Found.{Found}
-use Rattle.table.specs.declared.probe.Found.TheVariants as found
-use Rattle.table.specs.declared.entries.Looked.TheVariants.{Held}
 use Rattle.sorting.specs.Sorting.{insert_by, sort_by}
 use Rattle.writers.specs.Files.{before, sorted, leave_out}
 use Rattle.writers.specs.Kept.{mark_bytes}
 use Rattle.readers.specs.Additions.{held_same}
-use Rattle.salvage_lines.specs.OldLines.{same_record, piece_at, OldLine, Dropped, Kept, salvaged, kept}
+use Rattle.salvage_lines.specs.OldLines.{same_record, piece_at, OldLine, salvaged, kept}
 use Rattle.salvage.specs.Salvage.{dropped_word, normalised_word, repeat_word, restored_word, change, change_if}
 use Rattle.salvage.specs.Salvage.{changes_at, changes_from, restored_in, restored_changes, changes}
 use Rattle.salvage_lines.specs.LinesOn.{salvaged_on, salvaged-on, records_on, on-over, on-dropped, on-kept, records-over, records-dropped}
@@ -53,7 +49,7 @@ pub record Listing (t f o₀ : List ℕ) (room p line at : ℕ) (o m : List ℕ)
   pub puts : Puts o₀ 0 room text o at
   pub whole : changes_from 1 [] (salvaged f) ≡ text ++ changes_from line seen (salvaged_on f p)
   pub marks : Marked t seen m
-  pub rest : (r : Record) → Memᴰ r (records_on f p) → look_up t r.at ≡ Held r
+  pub rest : (r : Record) → Memᴰ r (records_on f p) → look_up t r.at ≡ Some r
   pub all : (r : Record) → (some_of (same_record r) seen || some_of (same_record r) (records_on f p)) ≡ some_of (same_record r) (kept (salvaged f))
   pub few : line ≤ p + 1
   pub within : p ≤ length f
@@ -101,7 +97,7 @@ module _ (t f o₀ : List ℕ) (room p line at : ℕ) (o m : List ℕ) (g : List
       }
 
   module _ (q : Record) (changed : Bool) (next : ℕ) (e : piece_at f p ≡ piece.Kept q changed next) where
-    stands : look_up t q.at ≡ Held q
+    stands : look_up t q.at ≡ Some q
     stands = g.rest q (subst (Memᴰ q) (sym (records-kept f p q changed next e)) (Memᴰ.head refl))
 
     pub listing-kept : InOrder t → (again : Bool) (m' : List ℕ) → again ≡ marked_where (find_of t q.at) m → Marks m (is_at (find_of t q.at)) m'
@@ -182,13 +178,13 @@ restored-count [] (y ∷ ys) e = absurd (omega arith)
 restored-count (x ∷ xs) [] e = absurd (omega arith)
 restored-count (x ∷ xs) (y ∷ ys) e = ap (λ (l : List ℕ). change 0 restored_word ++ l) (restored-count xs ys (omega arith))
 
-module _ (t : List ℕ) (o : InOrder t) (rs : List Record) (held : (r : Record) → Memᴰ r rs → look_up t r.at ≡ Held r) (m : List ℕ) (w : Marked t rs m)
+module _ (t : List ℕ) (o : InOrder t) (rs : List Record) (held : (r : Record) → Memᴰ r rs → look_up t r.at ≡ Some r) (m : List ℕ) (w : Marked t rs m)
   where
     -- some line has the record
     abbrev lined : Record → Bool
     lined r = some_of (λ q. same_point q.at r.at) rs
 
-    lined-same : (r : Record) → look_up t r.at ≡ Held r → some_of (same_record r) rs ≡ lined r
+    lined-same : (r : Record) → look_up t r.at ≡ Some r → some_of (same_record r) rs ≡ lined r
     lined-same r h = same_test (some_of (same_record r) rs) (lined r) forth back
       where
         forth : some_of (same_record r) rs ≡ true → lined r ≡ true
@@ -202,7 +198,7 @@ module _ (t : List ℕ) (o : InOrder t) (rs : List Record) (held : (r : Record) 
             let z : q ≡ r = held_same (ap (look_up t) (sym (same_true q.at r.at s)) ∙ held q k) h in
             at_some (same_record r) rs q k (ap (same_record r) z ∙ same-record r)
 
-    slot-marked : (i : ℕ) (r : Record) → i < slots_of t → slot_at t i ≡ Holds r → marked_at m i ≡ lined r
+    slot-marked : (i : ℕ) (r : Record) → i < slots_of t → slot_at t i ≡ Some r → marked_at m i ≡ lined r
     slot-marked i r l s =
         let h = slot-looked t o i r l s in
         let (j, e, z) = find-held t o.fits r.at r h in
@@ -221,9 +217,9 @@ module _ (t : List ℕ) (o : InOrder t) (rs : List Record) (held : (r : Record) 
         one r true e = refl
         one r false e = sym (append-nil (change 0 restored_word))
 
-        slot : (s : Slot) → slot_at t i ≡ s → note_of (marked_at m i) s ≡ restored_changes (leave_out lined (listed s))
-        slot Free e = refl
-        slot (Holds r) e = ap (λ (b : Bool). change_if (not b) 0 restored_word) (slot-marked i r (omega arith) e) ∙ one r (lined r) refl
+        slot : (s : Option Record) → slot_at t i ≡ s → note_of (marked_at m i) s ≡ restored_changes (leave_out lined (listed s))
+        slot None e = refl
+        slot (Some r) e = ap (λ (b : Bool). change_if (not b) 0 restored_word) (slot-marked i r (omega arith) e) ∙ one r (lined r) refl
 
     -- a line for each record that no line has
     pub notes-restored : notes_below t m (slots_of t) ≡ restored_changes (restored_in rs t)

@@ -14,7 +14,7 @@ use crate::notes::put_note;
 use lattice::Point;
 use marks::{mark, marked};
 use salvage_lines::{Piece, piece_at};
-use table::{Found, Slot, find, read_slot};
+use table::{Found, find, read_slot};
 use writers::MARK_BYTES;
 
 // Whether a record of this point had a line before; from now on it has.
@@ -76,8 +76,8 @@ fn put_slot(
     ensures { Puts out.old at room (slot_note table.now marks.now i) out.new result }
 {
     match read_slot(table, i) {
-        Slot::Free => at,
-        Slot::Holds(_) => put_if(out, at, room, !marked(marks, i), 0, b"restored"),
+        None => at,
+        Some(_) => put_if(out, at, room, !marked(marks, i), 0, b"restored"),
     }
 }
 
@@ -97,6 +97,7 @@ fn put_lines(
     let mut p = 0;
     let mut line: u64 = 1;
     let mut at = 0;
+    // where the next line begins only reading this one tells
     loop {
         match piece_at(file, p) {
             Piece::Over => return at,
@@ -128,11 +129,9 @@ fn put_slots(
     requires start_bound { (start ≤ room + 1) × (room + 1 < 2 ^ 64) }
     ensures { Puts out.old start room (notes_below table.now marks.now n) out.new result }
 {
-    let mut i = 0;
     let mut at = start;
-    while i < n {
+    for i in 0..n {
         at = put_slot(table, marks, i, out, at, room);
-        i += 1;
     }
     at
 }

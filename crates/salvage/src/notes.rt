@@ -17,6 +17,7 @@ fn digit_count(n: u64) -> usize
 {
     let mut v = n;
     let mut w: usize = 1;
+    // digits divided off: a `for` would need their number, which is asked for
     while 9 < v {
         v = v / 10;
         w += 1;

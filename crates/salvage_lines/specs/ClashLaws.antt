@@ -2,7 +2,7 @@
 -- that do · `Holding` a table holds exactly the records of a list: `holding-agree` · `ahead-clashes` records that go together with what is held, and lines
 -- behind them.
 -- Assumes nothing.
-use Rattle.std.specs.Prelude.{◌≡◌, refl, ◌⊎◌, Bool, true, false, ◌&&◌, not, ℕ, eqb}
+use Rattle.std.specs.Prelude.{◌≡◌, refl, ◌⊎◌, Bool, true, false, ◌&&◌, not, ℕ, eqb, Option, Some, None}
 use Rattle.std.proofs.Common.{sym, ap, ◌∙◌, inl, inr, eqb-true, eq-eqb}
 use mathlib.Core.List.{List, ◌++◌, Memᴰ}
 use mathlib.Core.List.Memᴰ
@@ -14,8 +14,6 @@ use Rattle.table.specs.Search.{same_point}
 use Rattle.table.specs.Order.{InOrder}
 use Rattle.table.specs.Entries.{look_up}
 use Rattle.table.specs.MapLaws.{same_refl, same_true, lookup-point}
-use Rattle.table.specs.declared.entries.Looked.{Looked}
-use Rattle.table.specs.declared.entries.Looked.TheVariants.{Absent, Held}
 use Rattle.text.specs.Line.{rec}
 use Rattle.readers.specs.Additions.{held_same}
 use Rattle.salvage_lines.specs.OldLines.{same_record, clash, clashes}
@@ -99,8 +97,8 @@ none-agree rs h r q m n e = go (same_record r q) refl
 
 pub record Holding (t : List ℕ) (rs : List Record) : Type 0 where
   pub order : InOrder t
-  pub held : (r : Record) → Memᴰ r rs → look_up t r.at ≡ Held r
-  pub only : (p : Point) (r : Record) → look_up t p ≡ Held r → Memᴰ r rs
+  pub held : (r : Record) → Memᴰ r rs → look_up t r.at ≡ Some r
+  pub only : (p : Point) (r : Record) → look_up t p ≡ Some r → Memᴰ r rs
 
 pub holding-agree : (t : List ℕ) (rs : List Record) → Holding t rs → Agree rs
 holding-agree t rs h r q m n e = held_same (h.held r m) (ap (look_up t) e ∙ h.held q n)
@@ -108,9 +106,9 @@ holding-agree t rs h r q m n e = held_same (h.held r m) (ap (look_up t) e ∙ h.
 -- ---- what is held, and the lines behind
 
 -- a record of a table's point that is another than the table's
-abbrev pub differs : Looked → Record → Bool
-differs Absent r = false
-differs (Held q) r = not (same_record q r)
+abbrev pub differs : Option Record → Record → Bool
+differs None r = false
+differs (Some q) r = not (same_record q r)
 
 abbrev pub against : List ℕ → Record → Bool
 against t r = differs (look_up t r.at) r
@@ -120,14 +118,14 @@ module _ (t : List ℕ) (xs ys : List Record) (h : Holding t xs) where
   pub against-clashes : (r : Record) → Memᴰ r ys → against t r ≡ true → clashes (xs ++ ys) ≡ true
   against-clashes r m e = go (look_up t r.at) refl e
     where
-      go : (l : Looked) → look_up t r.at ≡ l → differs l r ≡ true → clashes (xs ++ ys) ≡ true
-      go Absent k d = absurd (not-both d refl)
-      go (Held q) k d =
+      go : (l : Option Record) → look_up t r.at ≡ l → differs l r ≡ true → clashes (xs ++ ys) ≡ true
+      go None k d = absurd (not-both d refl)
+      go (Some q) k d =
           let n = h.only r.at q k in
           let at : q.at ≡ r.at = point q n k in
           pair-clashes (xs ++ ys) q r (Memᴰ.append_left ys n) (Memᴰ.append_right xs m) at (λ z. not-both d (ap not (sym (ap (same_record q) z) ∙ same-record q)))
         where
-          point : (q : Record) → Memᴰ q xs → look_up t r.at ≡ Held q → q.at ≡ r.at
+          point : (q : Record) → Memᴰ q xs → look_up t r.at ≡ Some q → q.at ≡ r.at
           point q n k = lookup-point t h.order r.at q k
 
   -- all of them do: what clashes, clashes behind
@@ -137,12 +135,12 @@ module _ (t : List ℕ) (xs ys : List Record) (h : Holding t xs) where
       with-held : (x y : Record) → Memᴰ x xs → Memᴰ y ys → x.at ≡ y.at → x ≡ y
       with-held x y m n e = go (same_record x y) refl
         where
-          looked : look_up t y.at ≡ Held x
+          looked : look_up t y.at ≡ Some x
           looked = ap (look_up t) (sym e) ∙ h.held x m
 
           go : (b : Bool) → same_record x y ≡ b → x ≡ y
           go true k = record_same x y k
-          go false k = absurd (not-both (ap (λ (l : Looked). differs l y) looked ∙ ap not k) (none-at (against t) ys y none n))
+          go false k = absurd (not-both (ap (λ (l : Option Record). differs l y) looked ∙ ap not k) (none-at (against t) ys y none n))
 
       back : clashes ys ≡ true → clashes (xs ++ ys) ≡ true
       back e =

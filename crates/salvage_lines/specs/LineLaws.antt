@@ -1,16 +1,17 @@
--- A line taken apart as the code does it: `piece-over`, `piece-bad`, `piece-kept`, `piece-dropped` · `Along` a line passed byte by byte: `along-goes`,
--- `along-stops`, `along-ends` · `piece-next` the next line begins past this one, and within the file.
+-- A line taken apart as the code does it: `piece-over`, `piece-bad`, `piece-kept`, `piece-dropped` · `before_feed` the bytes of a line before its
+-- line feed: `span-feed`, `span-none` · `past-line` the next line begins past this one, and within the file.
 -- Assumes nothing.
-use Rattle.std.specs.Prelude.{◌≡◌, Bool, true, false, cond, ◌&&◌, not, List, [], ◌∷◌, ℕ, suc, ◌+◌, ◌-◌, ◌≤◌, ◌<◌, eqb, length, get_or, drop}
+use Rattle.std.specs.Prelude.{◌≡◌, refl, Bool, true, false, cond, ◌&&◌, not, List, [], ◌∷◌, ℕ, suc, ◌+◌, ◌≤◌, ◌<◌, eqb, ltb, ◌==◌, length, drop}
+use Rattle.std.specs.Prelude.{Option, Some, None}
+use Rattle.std.specs.List.{position, position_or_len}
 use Rattle.std.proofs.Math.Path.{sym}
-use Rattle.std.proofs.Common.{ap, ◌∙◌, arith, add-one, eq-eqb, ne_eqb, drop_of_length-le, length-drop, drop-cons}
+use Rattle.std.proofs.Common.{ap, ◌∙◌, arith, length-drop, ltb-true, ltb-false}
 use Rattle.lattice.specs.Records.{valid_of}
 use Rattle.lattice.specs.declared.records.Record.{Record}
 use Rattle.text.specs.Decimal.{feed}
 use Rattle.text.specs.Line.{spelled_at}
 use Rattle.text.specs.declared.line.Line.TheVariants.{Good, Bad, End}
 use Rattle.salvage_lines.specs.OldLines.{may_normalise, tidied, same_record, line_span, past_line, judged_piece, piece_of, piece_at}
-use Rattle.salvage_lines.specs.declared.line.Piece.{Piece}
 use Rattle.salvage_lines.specs.declared.line.Piece.TheVariants as piece
 
 module _ (f : List ℕ) (p : ℕ) where
@@ -44,39 +45,57 @@ module _ (f : List ℕ) (p : ℕ) where
       pub dropped-told : (a && v) ≡ false → piece.Dropped next ≡ piece_at f p
       dropped-told h = piece-dropped (told ∙ h)
 
--- ---- a line passed, byte by byte
+-- ---- a line passed
 
-span-stop : (f : List ℕ) (i : ℕ) → i < length f → get_or f i 0 ≡ feed → line_span (drop i f) ≡ 1
+-- the bytes before the first line feed, where there is one
+abbrev pub before_feed : List ℕ → Option ℕ
+before_feed xs = position (λ c. c == feed) xs
+
+abbrev count : List ℕ → ℕ
+count xs = position_or_len (λ c. c == feed) xs
+
+span-stops : (xs : List ℕ) → count xs < length xs → line_span xs ≡ count xs + 1
 unfolding line_span
-span-stop f i h e = ap line_span (drop-cons f i 0 h) ∙ rw (eq-eqb (get_or f i 0) feed e)
+span-stops [] h = absurd (omega arith)
+span-stops (c ∷ xs) h = go (eqb c feed) h (span-stops xs)
+  where
+    go : (b : Bool) → cond (not b) (1 + count xs) 0 < length (c ∷ xs) → (count xs < length xs → line_span xs ≡ count xs + 1)
+        → cond b 1 (suc (line_span xs)) ≡ cond (not b) (1 + count xs) 0 + 1
+    go true k ih = refl
+    go false k ih = let e = ih (omega arith) in omega arith
 
-span-step : (f : List ℕ) (i : ℕ) → i < length f → (get_or f i 0 ≡ feed → ⊥) → line_span (drop i f) ≡ suc (line_span (drop (i + 1) f))
+span-ends : (xs : List ℕ) → length xs ≤ count xs → line_span xs ≡ length xs
 unfolding line_span
-span-step f i h e = ap line_span (drop-cons f i 0 h) ∙ rw (ne_eqb (get_or f i 0) feed e) (ap (λ (k : ℕ). suc (line_span (drop k f))) (sym (add-one i)))
+span-ends [] h = refl
+span-ends (c ∷ xs) h = go (eqb c feed) h (span-ends xs)
+  where
+    go : (b : Bool) → length (c ∷ xs) ≤ cond (not b) (1 + count xs) 0 → (length xs ≤ count xs → line_span xs ≡ length xs)
+        → cond b 1 (suc (line_span xs)) ≡ length (c ∷ xs)
+    go true k ih = absurd (omega arith)
+    go false k ih = let e = ih (omega arith) in omega arith
 
-span-past : (f : List ℕ) (i : ℕ) → length f ≤ i → line_span (drop i f) ≡ 0
-unfolding line_span
-span-past f i h = ap line_span (drop_of_length-le f {i = i} h)
+-- to its line feed, or to the end of the file
+pub span-feed : (xs : List ℕ) (n : ℕ) → Some n ≡ before_feed xs → (n < length xs) × (line_span xs ≡ n + 1)
+span-feed xs n = go (ltb (count xs) (length xs)) refl
+  where
+    go : (b : Bool) → ltb (count xs) (length xs) ≡ b → Some n ≡ cond b (Some (count xs)) None → (n < length xs) × (line_span xs ≡ n + 1)
+    go true h e =
+        let l = ltb-true (count xs) (length xs) h in
+        let z : n ≡ count xs = cc in
+        let s = span-stops xs l in
+        (omega arith, omega arith)
+    go false h e = absurd (let z : ◌≡◌ {A = ℕ} 0 1 = cc in omega arith)
 
--- from `at` on the reader has come to i
-abbrev pub Along : List ℕ → ℕ → ℕ → Type 0
-Along f at i = at + line_span (drop at f) ≡ i + line_span (drop i f)
-
-module _ (f : List ℕ) (at i : ℕ) (w : Along f at i) where
-  pub along-goes : i < length f → (get_or f i 0 ≡ feed → ⊥) → Along f at (i + 1)
-  along-goes h e = omega (arith, w, span-step f i h e)
-
-  pub along-stops : i < length f → get_or f i 0 ≡ feed → i + 1 ≡ past_line f at
-  unfolding past_line
-  along-stops h e = omega (arith, w, span-stop f i h e)
-
-  pub along-ends : length f ≤ i → i ≡ past_line f at
-  unfolding past_line
-  along-ends h = omega (arith, w, span-past f i h)
+pub span-none : (xs : List ℕ) → None ≡ before_feed xs → line_span xs ≡ length xs
+span-none xs = go (ltb (count xs) (length xs)) refl
+  where
+    go : (b : Bool) → ltb (count xs) (length xs) ≡ b → None ≡ cond b (Some (count xs)) None → line_span xs ≡ length xs
+    go true h e = absurd (let z : ◌≡◌ {A = ℕ} 0 1 = cc in omega arith)
+    go false h e = span-ends xs (ltb-false (count xs) (length xs) h)
 
 -- ---- where the next line begins
 
-span-most : (xs : List ℕ) → line_span xs ≤ length xs
+pub span-most : (xs : List ℕ) → line_span xs ≤ length xs
 unfolding line_span
 span-most [] = omega arith
 span-most (c ∷ xs) = go (eqb c feed) (span-most xs)

@@ -18,7 +18,6 @@ use Rattle.text.specs.declared.line.Line.TheVariants.{Good, Bad, End}
 use Rattle.salvage_lines.specs.OldLines.{may_normalise, tidied, same_record, past_line, judged_piece, piece_of, piece_at, OldLine, Dropped, Kept, piece_then}
 use Rattle.salvage_lines.specs.OldLines.{salvaged_from, salvaged, kept}
 use Rattle.salvage_lines.specs.LineLaws.{past-line}
-use Rattle.salvage_lines.specs.declared.line.Piece.{Piece}
 use Rattle.salvage_lines.specs.declared.line.Piece.TheVariants as piece
 
 -- the next line begins past this one, within the file

@@ -1,7 +1,7 @@
 -- Lines taken into a table as a set of records: what the promises of rounds.rt cite. `Takes` one record · `Goes` one line · `Gathers` the lines from a
 -- position on · `Gathering` the same on the way: `gathering-start`, `gathering-on`, `gathering-all`, `gathering-clash`, `gathering-full`, `gathering-upto`.
 -- Assumes nothing.
-use Rattle.std.specs.Prelude.{◌≡◌, refl, ◌⊎◌, Bool, true, false, not, ℕ, ◌+◌, ◌-◌, ◌≤◌, ◌<◌, length}
+use Rattle.std.specs.Prelude.{◌≡◌, refl, ◌⊎◌, Bool, true, false, not, ℕ, ◌+◌, ◌-◌, ◌≤◌, ◌<◌, length, Option, Some, None}
 use Rattle.std.proofs.Common.{sym, ap, ◌∙◌, subst, inl, inr, arith}
 use mathlib.Core.List.Memᴰ
 use mathlib.Core.List.{List, [], ◌∷◌, ◌++◌, append_assoc, append-nil, Memᴰ}
@@ -16,9 +16,6 @@ use Rattle.table.specs.Order.{InOrder}
 use Rattle.table.specs.Entries.{look_up, enter_of}
 use Rattle.table.specs.MapLaws.{at_held, at-free, at-full, enter-order, enter-finds, enter-keeps, enter-free, enter-there, enter-full, enter-length}
 use Rattle.table.specs.MapLaws.{clear-order, clear-absent, clear-free, table_of, table-slots, same_or_not}
-use Rattle.table.specs.declared.entries.Looked.{Looked}
-use Rattle.table.specs.declared.entries.Looked.TheVariants.{Absent, Held}
-use Rattle.table.specs.declared.slots.Slot.TheVariants.{Free, Holds}
 use Rattle.table.specs.declared.probe.Found.TheVariants as found
 use Rattle.readers.specs.Additions.{held-absent, held_same}
 use Rattle.salvage_lines.specs.OldLines.{same_record, clashes, piece_at}
@@ -38,9 +35,9 @@ use Rattle.salvage_lines.specs.declared.rounds.Gathered.TheVariants as gathered
 
 abbrev pub Takes : List ℕ → Record → Taken → List ℕ → Type 0
 Takes t r taken.Against u = (against t r ≡ true) × (u ≡ t)
-Takes t r taken.Again u = (look_up t r.at ≡ Held r) × (u ≡ t)
-Takes t r taken.New u = (look_up t r.at ≡ Absent) × ((0 < free_slots t) × (u ≡ enter_of t r))
-Takes t r taken.NoSlot u = (look_up t r.at ≡ Absent) × ((free_slots t ≡ 0) × (u ≡ t))
+Takes t r taken.Again u = (look_up t r.at ≡ Some r) × (u ≡ t)
+Takes t r taken.New u = (look_up t r.at ≡ None) × ((0 < free_slots t) × (u ≡ enter_of t r))
+Takes t r taken.NoSlot u = (look_up t r.at ≡ None) × ((free_slots t ≡ 0) × (u ≡ t))
 
 module _ (t : List ℕ) (o : InOrder t) (r : Record) (u : List ℕ) (e : u ≡ enter_of t r) where
   pub takes-new : (i : ℕ) → find_of t r.at ≡ found.Free i → Takes t r taken.New u
@@ -53,19 +50,19 @@ module _ (t : List ℕ) (o : InOrder t) (r : Record) (u : List ℕ) (e : u ≡ e
     pub takes-there : u ≡ t
     takes-there = let w = at_held t o.fits r.at i f in e ∙ enter-there t o.fits r w.rec w.looked
 
-    takes-held : (q : Record) → slot_at u i ≡ Holds q → look_up t r.at ≡ Held q
+    takes-held : (q : Record) → slot_at u i ≡ Some q → look_up t r.at ≡ Some q
     takes-held q s =
         let w = at_held t o.fits r.at i f in
-        let x : Holds w.rec ≡ Holds q = sym w.holds ∙ ap (λ (v : List ℕ). slot_at v i) (sym takes-there) ∙ s in
-        w.looked ∙ ap Held (holds-eq w.rec q x)
+        let x : Some w.rec ≡ Some q = sym w.holds ∙ ap (λ (v : List ℕ). slot_at v i) (sym takes-there) ∙ s in
+        w.looked ∙ ap Some (holds-eq w.rec q x)
 
-    pub takes-again : (q : Record) → slot_at u i ≡ Holds q → same_record q r ≡ true → Takes t r taken.Again u
-    takes-again q s h = (takes-held q s ∙ ap Held (record_same q r h), takes-there)
+    pub takes-again : (q : Record) → slot_at u i ≡ Some q → same_record q r ≡ true → Takes t r taken.Again u
+    takes-again q s h = (takes-held q s ∙ ap Some (record_same q r h), takes-there)
 
-    pub takes-against : (q : Record) → slot_at u i ≡ Holds q → same_record q r ≡ false → Takes t r taken.Against u
-    takes-against q s h = (ap (λ (l : Looked). differs l r) (takes-held q s) ∙ ap not h, takes-there)
+    pub takes-against : (q : Record) → slot_at u i ≡ Some q → same_record q r ≡ false → Takes t r taken.Against u
+    takes-against q s h = (ap (λ (l : Option Record). differs l r) (takes-held q s) ∙ ap not h, takes-there)
 
-    pub takes-free : {A : Type 0} → slot_at u i ≡ Free → A
+    pub takes-free : {A : Type 0} → slot_at u i ≡ None → A
     takes-free s =
         let w = at_held t o.fits r.at i f in
         free-holds w.rec s (ap (λ (v : List ℕ). slot_at v i) takes-there ∙ w.holds)
@@ -75,14 +72,14 @@ module _ (t : List ℕ) (o : InOrder t) (r : Record) (u : List ℕ) (e : u ≡ e
 -- the line's record is passed: it is dropped, or held already, or entered
 pub data Went (rs qs : List Record) (t : List ℕ) : ℕ → List ℕ → Type 0 where
   gone : rs ≡ qs → Went rs qs t 0 t
-  again : (r : Record) → rs ≡ r ∷ qs → look_up t r.at ≡ Held r → Went rs qs t 0 t
-  entered : (r : Record) → rs ≡ r ∷ qs → valid_of r ≡ true → look_up t r.at ≡ Absent → 0 < free_slots t → Went rs qs t 1 (enter_of t r)
+  again : (r : Record) → rs ≡ r ∷ qs → look_up t r.at ≡ Some r → Went rs qs t 0 t
+  entered : (r : Record) → rs ≡ r ∷ qs → valid_of r ≡ true → look_up t r.at ≡ None → 0 < free_slots t → Went rs qs t 1 (enter_of t r)
 
 -- the line at p and a table t: what became of it, and the table u after
 abbrev pub Goes : List ℕ → ℕ → List ℕ → Step → List ℕ → Type 0
 Goes f p t step.Over u = (records_on f p ≡ []) × (u ≡ t)
 Goes f p t step.Clash u = ((r : Record) × Memᴰ r (records_on f p) × (against t r ≡ true)) × (u ≡ t)
-Goes f p t step.Full u = ((r : Record) × Memᴰ r (records_on f p) × (look_up t r.at ≡ Absent)) × ((free_slots t ≡ 0) × (u ≡ t))
+Goes f p t step.Full u = ((r : Record) × Memᴰ r (records_on f p) × (look_up t r.at ≡ None)) × ((free_slots t ≡ 0) × (u ≡ t))
 Goes f p t (step.On next new) u = Moves f p next × Went (records_on f p) (records_on f next) t new u
 
 module _ (f : List ℕ) (p : ℕ) (t : List ℕ) where
@@ -118,7 +115,7 @@ module _ (f : List ℕ) (p : ℕ) (t : List ℕ) where
 
 -- a record of theirs is absent, and no slot is free
 abbrev pub Short : List Record → List ℕ → Type 0
-Short rs t = ((r : Record) × Memᴰ r rs × (look_up t r.at ≡ Absent)) × (free_slots t ≡ 0)
+Short rs t = ((r : Record) × Memᴰ r rs × (look_up t r.at ≡ None)) × (free_slots t ≡ 0)
 
 -- the records before line p are held; from there on they are left
 pub record Left (f : List ℕ) (at : ℕ) (room : ℕ) (p : ℕ) (t : List ℕ) : Type 0 where
@@ -150,7 +147,7 @@ gathering-start f at room t n w c some in-file =
     let fits = table_of t n w in
     let free : free_slots t ≡ slots_of t = ap free_slots c ∙ clear-free t fits in
     let slots : slots_of t ≡ n = table-slots t n w in
-    let absent : (p : Point) → look_up t p ≡ Absent = λ p. ap (λ (u : List ℕ). look_up u p) c ∙ clear-absent t fits p in
+    let absent : (p : Point) → look_up t p ≡ None = λ p. ap (λ (u : List ℕ). look_up u p) c ∙ clear-absent t fits p in
     record {
       seen = [];
       whole = refl;
@@ -167,7 +164,7 @@ gathering-start f at room t n w c some in-file =
     }
 
 -- one record more is held
-pub holding-more : (t : List ℕ) (xs : List Record) (r : Record) → Holding t xs → valid_of r ≡ true → look_up t r.at ≡ Absent → 0 < free_slots t
+pub holding-more : (t : List ℕ) (xs : List Record) (r : Record) → Holding t xs → valid_of r ≡ true → look_up t r.at ≡ None → 0 < free_slots t
     → Holding (enter_of t r) (xs ++ r ∷ [])
 holding-more t xs r h v a free =
     record {
@@ -179,18 +176,18 @@ holding-more t xs r h v a free =
     o : InOrder t
     o = h.order
 
-    old : (q : Record) → Memᴰ q xs ⊎ Memᴰ q (r ∷ []) → look_up (enter_of t r) q.at ≡ Held q
+    old : (q : Record) → Memᴰ q xs ⊎ Memᴰ q (r ∷ []) → look_up (enter_of t r) q.at ≡ Some q
     old q (inl m) = enter-keeps t o r v q.at (λ e. held-absent (h.held q m) (ap (look_up t) e ∙ a)) ∙ h.held q m
-    old q (inr m) = subst (λ (x : Record). look_up (enter_of t r) x.at ≡ Held x) (sym (Memᴰ.eq_of_singleton m)) (enter-finds t o r v a free)
+    old q (inr m) = subst (λ (x : Record). look_up (enter_of t r) x.at ≡ Some x) (sym (Memᴰ.eq_of_singleton m)) (enter-finds t o r v a free)
 
-    new : (p : Point) (q : Record) → look_up (enter_of t r) p ≡ Held q → Dec (p ≡ r.at) → Memᴰ q (xs ++ r ∷ [])
+    new : (p : Point) (q : Record) → look_up (enter_of t r) p ≡ Some q → Dec (p ≡ r.at) → Memᴰ q (xs ++ r ∷ [])
     new p q k (yes e) =
         let x : r ≡ q = held_same (enter-finds t o r v a free) (ap (look_up (enter_of t r)) (sym e) ∙ k) in
         Memᴰ.append_right xs (subst (λ (y : Record). Memᴰ y (r ∷ [])) x (Memᴰ.head refl))
     new p q k (no e) = Memᴰ.append_left (r ∷ []) (h.only p q (sym (enter-keeps t o r v p e) ∙ k))
 
 -- a record that is held already
-pub holding-again : (t : List ℕ) (xs : List Record) (r : Record) → Holding t xs → look_up t r.at ≡ Held r → Holding t (xs ++ r ∷ [])
+pub holding-again : (t : List ℕ) (xs : List Record) (r : Record) → Holding t xs → look_up t r.at ≡ Some r → Holding t (xs ++ r ∷ [])
 holding-again t xs r h e = record {
   order = h.order;
   held = λ q m. old q (Memᴰ.append_cases xs m);
@@ -198,9 +195,9 @@ holding-again t xs r h e = record {
       (h.only p q k);
 }
   where
-    old : (q : Record) → Memᴰ q xs ⊎ Memᴰ q (r ∷ []) → look_up t q.at ≡ Held q
+    old : (q : Record) → Memᴰ q xs ⊎ Memᴰ q (r ∷ []) → look_up t q.at ≡ Some q
     old q (inl m) = h.held q m
-    old q (inr m) = subst (λ (x : Record). look_up t x.at ≡ Held x) (sym (Memᴰ.eq_of_singleton m)) e
+    old q (inr m) = subst (λ (x : Record). look_up t x.at ≡ Some x) (sym (Memᴰ.eq_of_singleton m)) e
 
 module _ (f : List ℕ) (at room : ℕ) (t₀ : List ℕ) (p left : ℕ) (t : List ℕ) (g : Gathering f at room t₀ p left t) where
   pub gathering-all : (u : List ℕ) → Goes f p t step.Over u → Gathers f at room t₀ gathered.All u

@@ -1,9 +1,10 @@
 // A line of an old file: parsed as a record's line of any numbers, normalised, and kept where it is then a valid record.
-ghost use Rattle.std.specs.Prelude.{◌≡◌};
+ghost use Rattle.std.specs.Prelude.{◌≡◌, drop};
 ghost use Rattle.lattice.specs.Points.{normal_of};
 ghost use Rattle.salvage_lines.specs.OldLines.{may_normalise, orientation_of, tidied, same_record, past_line, piece_at};
+ghost use Rattle.salvage_lines.specs.LineLaws.{before_feed};
 
-use lattice::{Level, Point, Record, normalise, same_point, valid};
+use lattice::{Point, Record, normalise, same_point, valid};
 use text::{FEED, Line, in_limits, spelled};
 
 const LAST_TURN: u8 = 11;
@@ -21,7 +22,7 @@ pub enum Piece {
 fn may_normalise(r: Record) -> bool
     ensures { result ≡ may_normalise r }
 {
-    in_limits(r.at) & (r.k <= LAST_TURN)
+    in_limits(r.at) && r.k <= LAST_TURN
 }
 
 // The orientation, normalised.
@@ -48,13 +49,10 @@ fn normal(p: Point) -> Point
 fn tidy(r: Record) -> Record
     ensures { result ≡ tidied r }
 {
-    let at = normal(r.at);
-    let k = orientation(r.d, r.k);
     Record {
-        at,
-        d: r.d,
-        k,
-        n: Level(r.n.0),
+        at: normal(r.at),
+        k: orientation(r.d, r.k),
+        ..r
     }
 }
 
@@ -65,18 +63,24 @@ pub fn same_record(r: Record, q: Record) -> bool
     same_point(r.at, q.at) & ((r.d == q.d) & ((r.k == q.k) & (r.n.0 == q.n.0)))
 }
 
+// How many bytes stand before the first line feed.
+fn before_feed(rest: &[u8]) -> Option<usize>
+    ensures { result ≡ before_feed rest.now }
+{
+    rest.iter().position(|byte| *byte == FEED)
+}
+
 // Where the line at a position ends: past its line feed, or at the end of the file.
 fn past_line(file: &[u8], at: usize) -> usize
     ensures { result ≡ past_line file.now at }
 {
-    let mut i = at;
-    while i < file.len() {
-        if file[i] == FEED {
-            return i + 1;
-        }
-        i += 1;
+    if file.len() <= at {
+        return at;
     }
-    i
+    match before_feed(&file[at..]) {
+        Some(count) => at + count + 1,
+        None => file.len(),
+    }
 }
 
 // What is salvaged of the line at a position.

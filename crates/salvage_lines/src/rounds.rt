@@ -15,7 +15,7 @@ ghost use Rattle.salvage_lines.specs.Rounds.{Takes, Goes, Gathers};
 
 use crate::line::{Piece, piece_at, same_record};
 use lattice::Record;
-use table::{Found, Looked, Slot, clear, enter, look_up, read_slot};
+use table::{Found, clear, enter, look_up, read_slot};
 
 // What became of a record: its point is held with another one; the same is held; it is entered; it is absent, and no slot is free.
 #[derive(Clone, Copy)]
@@ -54,8 +54,8 @@ fn take(table: &mut [u8], n: usize, r: Record) -> Taken
         Found::Free(_) => Taken::New,
         Found::Full => Taken::NoSlot,
         Found::At(i) => match read_slot(table, i) {
-            Slot::Free => Taken::Again, // a point is found where its record stands
-            Slot::Holds(q) => {
+            None => Taken::Again, // a point is found where its record stands
+            Some(q) => {
                 if same_record(q, r) {
                     return Taken::Again;
                 }
@@ -90,6 +90,7 @@ pub fn gather(table: &mut [u8], n: usize, file: &[u8], at: usize, room: usize) -
 {
     let mut p = at;
     let mut left = room;
+    // what is counted down is the room, by the records that entered, and no index
     while 0 < left {
         match take_line(table, n, file, p) {
             Step::Over => return Gathered::All,
@@ -110,8 +111,8 @@ fn goes_against(table: &[u8], n: usize, r: Record) -> bool
     ensures { result ≡ against table.now r }
 {
     match look_up(table, r.at, n) {
-        Looked::Absent => false,
-        Looked::Held(q) => !same_record(q, r),
+        None => false,
+        Some(q) => !same_record(q, r),
     }
 }
 
@@ -121,6 +122,7 @@ fn some_against(table: &[u8], n: usize, file: &[u8], at: usize) -> bool
     ensures { result ≡ some_of (against table.now) (records_on file.now at) }
 {
     let mut p = at;
+    // where the next line begins only reading this one tells
     loop {
         match piece_at(file, p) {
             Piece::Over => return false,
@@ -145,6 +147,7 @@ pub fn has_clash(table: &mut [u8], n: usize, file: &[u8]) -> bool
 {
     let half = n / 2;
     let mut at = 0;
+    // a round a turn: where the next begins only this one tells
     loop {
         clear(table);
         match gather(table, n, file, at, half) {

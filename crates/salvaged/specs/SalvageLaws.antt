@@ -2,7 +2,7 @@
 -- dropped, or its record stands in the output · `record-told` each record of it is that of a line, or restored · `Alike`, `alike-judged` files whose lines
 -- are the same records after normalising.
 -- Assumes nothing.
-use Rattle.std.specs.Prelude.{◌≡◌, ◌⊎◌, true, false, ◌&&◌, ℕ, ◌≤◌, length}
+use Rattle.std.specs.Prelude.{◌≡◌, ◌⊎◌, true, false, ◌&&◌, ℕ, ◌≤◌, length, Some}
 use Rattle.std.proofs.Math.Path.{refl}
 use Rattle.std.proofs.Common.{sym, ap, ◌∙◌, inl, inr, arith}
 use Rattle.std.proofs.Math.Bool.{Bool, cond}
@@ -15,7 +15,6 @@ use Rattle.table.specs.SlotLaws.{lengths-table}
 use Rattle.table.specs.Search.{find_of}
 use Rattle.table.specs.Entries.{look_up, enter_of, records_of}
 use Rattle.table.specs.MapLaws.{records-looked, looked-records}
-use Rattle.table.specs.declared.entries.Looked.TheVariants.{Held}
 use Rattle.writers.specs.Files.{sorted, full_file}
 use Rattle.writers.specs.FileLaws.{sorted-holds, holds-sorted}
 use Rattle.mesh.specs.Grown.{Grown}
@@ -139,7 +138,7 @@ module _ (t s f o l : List ℕ) (e : Ends t s f o l) where
 
   -- every input line is accounted for: it is dropped, or its record stands in the table, and so in the output
   pub line-stands : (r : Record) (changed : Bool) → Memᴰ (Kept r changed) (salvaged f)
-      → (look_up e.table r.at ≡ Held r) × Memᴰ r (sorted (records_of e.table))
+      → (look_up e.table r.at ≡ Some r) × Memᴰ r (sorted (records_of e.table))
   line-stands r changed m =
       let k = mem-mended (kept (salvaged f)) agree (records-valid f) r (kept-mem (salvaged f) r changed m) in
       let h = mended.restores.adds.keeps r.at r (mended.lined.held r k) in
@@ -149,7 +148,7 @@ module _ (t s f o l : List ℕ) (e : Ends t s f o l) where
   pub record-told : (r : Record) → Memᴰ r (sorted (records_of e.table)) → Memᴰ r (kept (salvaged f)) ⊎ RestoredOf (sorted_lines (salvaged f)) r
   record-told r m = go (mended.restores.adds.only r.at r (records-looked e.table (mends-order mended) r (sorted-holds e.table r m)))
     where
-      go : (look_up mended.first r.at ≡ Held r) ⊎ RestoredOf (sorted_lines (salvaged f)) r → Memᴰ r (kept (salvaged f))
+      go : (look_up mended.first r.at ≡ Some r) ⊎ RestoredOf (sorted_lines (salvaged f)) r → Memᴰ r (kept (salvaged f))
           ⊎ RestoredOf (sorted_lines (salvaged f)) r
       go (inl h) = inl (mended-mem (kept (salvaged f)) agree (records-valid f) r (mended.lined.only r.at r h))
       go (inr h) = inr h

@@ -13,7 +13,7 @@ use Rattle.lattice.specs.Points.{normal_of}
 use Rattle.lattice.specs.Records.{valid_of}
 use Rattle.lattice.specs.declared.records.Record.{Record}
 use Rattle.text.specs.Limits.{farthest, deepest, in_limits}
-use Rattle.text.specs.Line.{rec, point_text, star_text, line_of, lines, spelled_at}
+use Rattle.text.specs.Line.{rec, point_text, star_text, line_of, lines, good_or_bad, spelled_at}
 use Rattle.text.specs.LineLaws.{place-write, star-write, stands-within}
 use Rattle.text.specs.LineLengths.{line-least}
 use Rattle.text.specs.Near.{Near, valid-near}
@@ -69,7 +69,7 @@ module _ (r : Record) (w : Spelt r) where
       let hn = near.n in
       let here = stands-within s (omega (arith, line-least r)) in
       rw (lt-leb (length f) p here, place-write f p (p + length tp) r.at (omega arith) (omega arith) (omega arith) (stands-first tp ts s))
-      (star-write f (p + length tp) next r.at r.d r.k r.n.0 (omega arith) (omega arith) (omega arith) (stands-then tp ts s))
+      (ap good_or_bad (star-write f (p + length tp) next r.at r.d r.k r.n.0 (omega arith) (omega arith) (omega arith) (stands-then tp ts s)))
 
   pub piece-spelt : (f : List ℕ) (p next : ℕ) → Stands f p (line_of r) next → piece_at f p ≡ piece.Kept (tidied r) (not (same_record r (tidied r))) next
   piece-spelt f p next s = sym (piece-kept f p r next (spelt-read f p next s) (λ i. w.limits i && w.valid i))

@@ -5,7 +5,7 @@
 -- Why entering keeps order: the search for the new point passed other points' records only, so no slot on its way is free; the slots of old records
 -- stay taken, and fewer are free.
 -- Assumes nothing.
-use Rattle.std.specs.Prelude.{◌≡◌, true, cond}
+use Rattle.std.specs.Prelude.{◌≡◌, true, cond, Option, Some, None}
 use Rattle.std.proofs.Math.Path.{refl, ap, fun_ext}
 use Rattle.std.proofs.Common.{sym, ◌∙◌, subst}
 use Prim.Native.Nat.{ℕ, zero, suc, ◌+◌, ◌≤◌, ◌<◌}
@@ -19,19 +19,17 @@ use Rattle.table.specs.Search.{home_of, same_point, meets, search_from, seek}
 use Rattle.table.specs.Order.{steps, EachValid, NoneTwice}
 use Rattle.table.specs.SearchLaws.{holds-eq, free-holds}
 use Rattle.table.specs.OrderLaws.{Gaps, free-at, free-far, Ordered, Far, far, nearer, present}
-use Rattle.table.specs.declared.slots.Slot.{Slot}
-use Rattle.table.specs.declared.slots.Slot.TheVariants.{Free, Holds}
 use Rattle.table.specs.declared.probe.Meet.{Meet}
 use Rattle.table.specs.declared.probe.Meet.TheVariants.{Hit, Other}
 use Rattle.table.specs.declared.probe.Found.TheVariants as found
 
 -- record r stands in some slot
-pub record Stands (n : ℕ) (f : ℕ → Slot) (r : Record) : Type 0 where
+pub record Stands (n : ℕ) (f : ℕ → Option Record) (r : Record) : Type 0 where
   pub slot : ℕ
   pub below : slot < n
-  pub holds : f slot ≡ Holds r
+  pub holds : f slot ≡ Some r
 
-module _ (n : ℕ) (some : 0 < n) (f g : ℕ → Slot) (j : ℕ) (old : (i : ℕ) → (i ≡ j → ⊥) → g i ≡ f i) where
+module _ (n : ℕ) (some : 0 < n) (f g : ℕ → Option Record) (j : ℕ) (old : (i : ℕ) → (i ≡ j → ⊥) → g i ≡ f i) where
   -- a slot of g: slot j, or one of f's
   data Which (i : ℕ) : Type 0 where
     it : i ≡ j → Which i
@@ -44,19 +42,19 @@ module _ (n : ℕ) (some : 0 < n) (f g : ℕ → Slot) (j : ℕ) (old : (i : ℕ
       go (yes e) = it e
       go (no e) = not-it e (old i e)
 
-  module _ (r : Record) (new : g j ≡ Holds r) where
-    at_j : (i : ℕ) (q : Record) → i ≡ j → g i ≡ Holds q → q ≡ r
+  module _ (r : Record) (new : g j ≡ Some r) where
+    at_j : (i : ℕ) (q : Record) → i ≡ j → g i ≡ Some q → q ≡ r
     at_j i q e h = holds-eq q r (sym h ∙ ap g e ∙ new)
 
     -- a free slot of g is a free one of f, and not slot j
-    free_was : (s : ℕ) → g s ≡ Free → f s ≡ Free
+    free_was : (s : ℕ) → g s ≡ None → f s ≡ None
     free_was s e = go (which s)
       where
-        go : Which s → f s ≡ Free
+        go : Which s → f s ≡ None
         go (it x) = free-holds r (ap g (sym x) ∙ e) new
         go (not-it x z) = sym z ∙ e
 
-    free-not-j : (s : ℕ) → g s ≡ Free → s ≡ j → ⊥
+    free-not-j : (s : ℕ) → g s ≡ None → s ≡ j → ⊥
     free-not-j s e x = free-holds r (ap g (sym x) ∙ e) new
 
     valid-kept : EachValid n f → valid_of r ≡ true → EachValid n g
@@ -71,7 +69,7 @@ module _ (n : ℕ) (some : 0 < n) (f g : ℕ → Slot) (j : ℕ) (old : (i : ℕ
       G : Gaps n some f r.at j
       G = free-at n some f r.at j gap
 
-      absent : (i : ℕ) (q : Record) → i < n → f i ≡ Holds q → q.at ≡ r.at → ⊥
+      absent : (i : ℕ) (q : Record) → i < n → f i ≡ Some q → q.at ≡ r.at → ⊥
       absent i q hi e same =
           let x : seek n f r.at ≡ found.At i = ap (seek n f) (sym same) ∙ present n some f ord i q hi e in
           let z : ◌≡◌ {A = ℕ} 0 1 = cc in
@@ -118,15 +116,15 @@ module _ (n : ℕ) (some : 0 < n) (f g : ℕ → Slot) (j : ℕ) (old : (i : ℕ
           go (not-it x z) = record { slot = s.slot; below = s.below; holds = sym z ∙ s.holds }
 
     -- ---- a record replaced: slot j held one of the same point
-    module _ (was : Record) (held : f j ≡ Holds was) (same : r.at ≡ was.at) (here : j < n) where
+    module _ (was : Record) (held : f j ≡ Some was) (same : r.at ≡ was.at) (here : j < n) where
       meets-same : (p : Point) (i : ℕ) → meets (g i) p ≡ meets (f i) p
       meets-same p i = go (which i)
         where
           go : Which i → meets (g i) p ≡ meets (f i) p
           go (it e) =
-              ap (λ (x : ℕ). meets (g x) p) e ∙ ap (λ (x : Slot). meets x p) new ∙ ap (λ (q : Point). cond (same_point q p) Hit Other) same
-              ∙ sym (ap (λ (x : Slot). meets x p) held) ∙ ap (λ (x : ℕ). meets (f x) p) (sym e)
-          go (not-it x z) = ap (λ (s : Slot). meets s p) z
+              ap (λ (x : ℕ). meets (g x) p) e ∙ ap (λ (x : Option Record). meets x p) new ∙ ap (λ (q : Point). cond (same_point q p) Hit Other) same
+              ∙ sym (ap (λ (x : Option Record). meets x p) held) ∙ ap (λ (x : ℕ). meets (f x) p) (sym e)
+          go (not-it x z) = ap (λ (s : Option Record). meets s p) z
 
       -- every search ends as before
       pub replace-seek : (p : Point) → seek n g p ≡ seek n f p
@@ -135,10 +133,10 @@ module _ (n : ℕ) (some : 0 < n) (f g : ℕ → Slot) (j : ℕ) (old : (i : ℕ
       -- a held slot of g is one of f, with a record of the same point
       record Back (i : ℕ) (q : Record) : Type 0 where
         rec : Record
-        holds : f i ≡ Holds rec
+        holds : f i ≡ Some rec
         point : q.at ≡ rec.at
 
-      back : (i : ℕ) (q : Record) → g i ≡ Holds q → Back i q
+      back : (i : ℕ) (q : Record) → g i ≡ Some q → Back i q
       back i q e = go (which i)
         where
           go : Which i → Back i q
@@ -175,7 +173,7 @@ module _ (n : ℕ) (some : 0 < n) (f g : ℕ → Slot) (j : ℕ) (old : (i : ℕ
 
 -- ---- the number of free slots
 
-module _ (f g : ℕ → Slot) (j : ℕ) (old : (i : ℕ) → (i ≡ j → ⊥) → g i ≡ f i) where
+module _ (f g : ℕ → Option Record) (j : ℕ) (old : (i : ℕ) → (i ≡ j → ⊥) → g i ≡ f i) where
   count-before : (n : ℕ) → n ≤ j → free_below g n ≡ free_below f n
   unfolding free_below
   count-before zero h = refl
@@ -201,9 +199,9 @@ module _ (f g : ℕ → Slot) (j : ℕ) (old : (i : ℕ) → (i ≡ j → ⊥) �
           let b : is_free (g n) ≡ is_free (f n) = ap is_free (old n x) in
           omega arith
 
-module _ (f : ℕ → Slot) where
+module _ (f : ℕ → Option Record) where
   -- all free, one free, none free
-  pub count-all : (n : ℕ) → ((i : ℕ) → i < n → f i ≡ Free) → free_below f n ≡ n
+  pub count-all : (n : ℕ) → ((i : ℕ) → i < n → f i ≡ None) → free_below f n ≡ n
   unfolding free_below
   count-all zero h = refl
   count-all (suc n) h =
@@ -211,7 +209,7 @@ module _ (f : ℕ → Slot) where
       let b : is_free (f n) ≡ 1 = ap is_free (h n (omega arith)) in
       omega arith
 
-  pub free_one : (n s : ℕ) → s < n → f s ≡ Free → 0 < free_below f n
+  pub free_one : (n s : ℕ) → s < n → f s ≡ None → 0 < free_below f n
   unfolding free_below
   free_one zero s h e = absurd (omega arith)
   free_one (suc n) s h e = go (ℕ_discrete s n) (λ l. free_one n s l e)
@@ -220,19 +218,19 @@ module _ (f : ℕ → Slot) where
       go (yes x) ih = let a : is_free (f n) ≡ 1 = ap (λ (y : ℕ). is_free (f y)) (sym x) ∙ ap is_free e in omega arith
       go (no x) ih = let a = ih (omega arith) in omega arith
 
-  pub some-free : (n : ℕ) → 0 < free_below f n → (s : ℕ) × (s < n) × (f s ≡ Free)
+  pub some-free : (n : ℕ) → 0 < free_below f n → (s : ℕ) × (s < n) × (f s ≡ None)
   unfolding free_below
   some-free zero h = absurd (omega arith)
   some-free (suc n) h = go (f n) refl (λ k. some-free n k)
     where
-      go : (c : Slot) → f n ≡ c → (0 < free_below f n → (s : ℕ) × (s < n) × (f s ≡ Free)) → (s : ℕ) × (s < suc n) × (f s ≡ Free)
-      go Free e ih = (n, omega arith, e)
-      go (Holds r) e ih =
+      go : (c : Option Record) → f n ≡ c → (0 < free_below f n → (s : ℕ) × (s < n) × (f s ≡ None)) → (s : ℕ) × (s < suc n) × (f s ≡ None)
+      go None e ih = (n, omega arith, e)
+      go (Some r) e ih =
           let z : is_free (f n) ≡ 0 = ap is_free e in
           let w = ih (omega arith) in
           (w.0, omega (arith, w.1), w.2)
 
-  pub none_free : (n : ℕ) → ((s : ℕ) → s < n → f s ≡ Free → ⊥) → free_below f n ≡ 0
+  pub none_free : (n : ℕ) → ((s : ℕ) → s < n → f s ≡ None → ⊥) → free_below f n ≡ 0
   none_free n h = go (dec_lt 0 (free_below f n))
     where
       go : Dec (0 < free_below f n) → free_below f n ≡ 0

@@ -2,31 +2,27 @@
 -- `look_up` the record at a point · `enter_of` a record entered · `replace_of` one put in place of that at its point · `records_of` all of them · `holds`
 -- a point is there · `slot_found` in which slot.
 -- Assumes nothing.
-use Rattle.std.specs.Prelude.{Bool, true, false, List, [], ◌∷◌, ◌++◌, ℕ, zero, suc}
+use Rattle.std.specs.Prelude.{Bool, true, false, List, [], ◌∷◌, ◌++◌, ℕ, zero, suc, Option, Some, None}
 use Rattle.lattice.specs.declared.points.Point.{Point}
 use Rattle.lattice.specs.declared.records.Record.{Record}
 use Rattle.table.specs.Slots.{slots_of, slot_at, put_slot}
 use Rattle.table.specs.Search.{find_of}
-use Rattle.table.specs.declared.slots.Slot.{Slot}
-use Rattle.table.specs.declared.slots.Slot.TheVariants.{Free, Holds}
 use Rattle.table.specs.declared.probe.Found.{Found}
-use Rattle.table.specs.declared.entries.Looked.{Looked}
-use Rattle.table.specs.declared.entries.Looked.TheVariants.{Absent, Held}
 use Rattle.table.specs.declared.probe.Found.TheVariants as found
 
 -- the record that a slot holds
-abbrev pub held_in : Slot → Looked
-held_in Free = Absent
-held_in (Holds r) = Held r
+abbrev pub held_in : Option Record → Option Record
+held_in None = None
+held_in (Some r) = Some r
 
 -- the record where a search has ended
-abbrev pub looked_at : List ℕ → Found → Looked
+abbrev pub looked_at : List ℕ → Found → Option Record
 looked_at t (found.At i) = held_in (slot_at t i)
-looked_at t (found.Free i) = Absent
-looked_at t found.Full = Absent
+looked_at t (found.Free i) = None
+looked_at t found.Full = None
 
 -- the record at a point
-unfoldable pub look_up : List ℕ → Point → Looked
+unfoldable pub look_up : List ℕ → Point → Option Record
 look_up t p = looked_at t (find_of t p)
 
 -- "A new record takes the first free slot so met."
@@ -49,9 +45,9 @@ unfoldable pub replace_of : List ℕ → Record → List ℕ
 replace_of t r = replace_at t r (find_of t r.at)
 
 -- the records of a table, in the order of their slots
-abbrev pub listed : Slot → List Record
-listed Free = []
-listed (Holds r) = r ∷ []
+abbrev pub listed : Option Record → List Record
+listed None = []
+listed (Some r) = r ∷ []
 
 unfoldable pub records_below : List ℕ → ℕ → List Record
 records_below t zero = []
@@ -67,9 +63,9 @@ slot_found n (found.Free i) = n
 slot_found n found.Full = n
 
 -- a point is in the table
-abbrev pub is_held : Looked → Bool
-is_held Absent = false
-is_held (Held r) = true
+abbrev pub is_held : Option Record → Bool
+is_held None = false
+is_held (Some r) = true
 
 abbrev pub holds : List ℕ → Point → Bool
 holds t p = is_held (look_up t p)

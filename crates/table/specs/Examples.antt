@@ -1,6 +1,6 @@
 -- Worked examples, computed from the bytes: one hexagon in a table of 16 slots.
 -- Assumes nothing.
-use Rattle.std.specs.Prelude.{◌≡◌, refl, true, false, List, [], ◌∷◌, ℕ, replicate, ℤ, pos, negsuc}
+use Rattle.std.specs.Prelude.{◌≡◌, refl, true, false, List, [], ◌∷◌, ℕ, replicate, ℤ, pos, negsuc, Some, None}
 use Rattle.laws.specs.Words.{word_at}
 use Rattle.lattice.specs.Points.{pt}
 use Rattle.lattice.specs.declared.records.Record.{Record}
@@ -8,7 +8,6 @@ use Rattle.table.specs.Slots.{slots_in, slot_at, free_at, record_at, put_slot, r
 use Rattle.table.specs.Search.{home_of, same_point, search_from, find_of}
 use Rattle.table.specs.Order.{placed_at, all_placed, in_order_of}
 use Rattle.table.specs.Entries.{look_up, enter_of, replace_of}
-use Rattle.table.specs.declared.entries.Looked.TheVariants.{Absent, Held}
 use Rattle.table.specs.declared.probe.Found.TheVariants as found
 
 -- [a, b, 0], of degree d, k = n = 0
@@ -46,13 +45,13 @@ unfolding in_order_of all_placed placed_at find_of entered hexagon vertex empty 
     same_point search_from enter_of free_below
 in_order = (refl, refl, refl)
 
-found-there : (find_of one (pt (negsuc 0) (pos 1) 0) ≡ found.At 10) × (look_up one (pt (pos 0) (pos 0) 0) ≡ Held (vertex (pos 0) (pos 0) 3)) ×
-    (look_up one (pt (pos 2) (pos 0) 0) ≡ Absent)
+found-there : (find_of one (pt (negsuc 0) (pos 1) 0) ≡ found.At 10) × (look_up one (pt (pos 0) (pos 0) 0) ≡ Some (vertex (pos 0) (pos 0) 3)) ×
+    (look_up one (pt (pos 2) (pos 0) 0) ≡ None)
 unfolding find_of look_up entered hexagon vertex empty one slots_in slot_at free_at record_at word_at put_slot record_bytes home_of same_point search_from enter_of
 found-there = (refl, refl, refl)
 
 -- a record put in place of the centre's
-replaced : look_up (replace_of one (vertex (pos 0) (pos 0) 6)) (pt (pos 0) (pos 0) 0) ≡ Held (vertex (pos 0) (pos 0) 6)
+replaced : look_up (replace_of one (vertex (pos 0) (pos 0) 6)) (pt (pos 0) (pos 0) 0) ≡ Some (vertex (pos 0) (pos 0) 6)
 unfolding find_of look_up entered hexagon vertex empty one slots_in slot_at free_at record_at word_at put_slot record_bytes home_of same_point search_from enter_of replace_of
 replaced = refl
 

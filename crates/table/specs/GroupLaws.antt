@@ -4,7 +4,7 @@
 -- Assumes nothing.
 use Rattle.std.proofs.Math.Path.{◌≡◌, refl, ap}
 use Rattle.std.proofs.Common.{sym, ◌∙◌, arith}
-use Rattle.std.specs.Prelude.{Bool, true, false, cond, List, ℕ, ◌+◌, ◌*◌, ◌≤◌, ◌<◌, ℤ}
+use Rattle.std.specs.Prelude.{Bool, true, false, cond, List, ℕ, ◌+◌, ◌*◌, ◌≤◌, ◌<◌, ℤ, Some, None}
 use Rattle.std.proofs.Math.Decide.{dec_lt, ℕ_discrete}
 use Rattle.std.proofs.Math.ListN.{get_or}
 use Rattle.lattice.specs.Points.{pt}
@@ -18,7 +18,6 @@ use Rattle.table.specs.SlotLaws.{free-byte, table-slots}
 use Rattle.table.specs.SearchLaws.{same_true, Kind, kind, free, own, alien}
 use Rattle.table.specs.OrderLaws.{slots-some, order-slots, present, test-order}
 use Rattle.table.specs.LookLaws.{at_held}
-use Rattle.table.specs.declared.slots.Slot.TheVariants.{Free, Holds}
 use Rattle.table.specs.declared.probe.Meet.TheVariants.{Hit, Other}
 use Rattle.table.specs.declared.probe.Found.TheVariants as found
 
@@ -34,7 +33,7 @@ module _ (t : List ℕ) (p : Point) where
       go : (b : Bool) → free_at t (slot_width * i) ≡ b → meets (slot_at t i) p ≡ Hit
       go true f = absurd (omega (arith, depth, free-byte t (slot_width * i) f (slot_width * i + 8) 8 refl (omega arith)))
       go false f =
-          ap (λ (b : Bool). meets (cond b Free (Holds (record_at t (slot_width * i)))) p) f ∙ ap (λ (b : Bool). cond b Hit Other) e
+          ap (λ (b : Bool). meets (cond b None (Some (record_at t (slot_width * i)))) p) f ∙ ap (λ (b : Bool). cond b Hit Other) e
 
   hit-found : InOrder t → (i : ℕ) → i < slots_of t → meets (slot_at t i) p ≡ Hit → find_of t p ≡ found.At i
   unfolding find_of

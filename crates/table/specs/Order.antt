@@ -1,14 +1,12 @@
 -- Document 01, "Table in memory": "A table is in order when ..".
 -- `InOrder` the four conditions, for the reader · `in_order_of` the same as a test that computes: OrderLaws shows that it is true where and only where they hold.
 -- Assumes nothing.
-use Rattle.std.specs.Prelude.{◌≡◌, Bool, true, false, cond, ◌&&◌, List, ℕ, ◌+◌, ◌-◌, ◌≤◌, ◌<◌, eqb, leb, length}
+use Rattle.std.specs.Prelude.{◌≡◌, Bool, true, false, cond, ◌&&◌, List, ℕ, ◌+◌, ◌-◌, ◌≤◌, ◌<◌, eqb, leb, length, Option, Some, None}
 use Rattle.laws.specs.Rules.{upto}
 use Rattle.lattice.specs.Records.{valid_of}
 use Rattle.lattice.specs.declared.records.Record.{Record}
 use Rattle.table.specs.Slots.{Table, fits_length, slots_of, slot_at}
 use Rattle.table.specs.Search.{home_of, find_of}
-use Rattle.table.specs.declared.slots.Slot.{Slot}
-use Rattle.table.specs.declared.slots.Slot.TheVariants.{Free, Holds}
 use Rattle.table.specs.declared.probe.Found.{Found}
 use Rattle.table.specs.declared.probe.Found.TheVariants as found
 
@@ -20,18 +18,18 @@ steps n h i = cond (leb h i) (i - h) (i + n - h)
 abbrev pub OnTheWay : ℕ → ℕ → ℕ → ℕ → Type 0
 OnTheWay n h i s = steps n h s ≤ steps n h i
 
-module _ (n : ℕ) (f : ℕ → Slot) where
+module _ (n : ℕ) (f : ℕ → Option Record) where
   -- "each slot is free or holds a valid record"
   abbrev pub EachValid : Type 0
-  EachValid = (i : ℕ) (r : Record) → i < n → f i ≡ Holds r → valid_of r ≡ true
+  EachValid = (i : ℕ) (r : Record) → i < n → f i ≡ Some r → valid_of r ≡ true
 
   -- "no point stands twice"
   abbrev pub NoneTwice : Type 0
-  NoneTwice = (i j : ℕ) (r q : Record) → i < n → j < n → f i ≡ Holds r → f j ≡ Holds q → r.at ≡ q.at → i ≡ j
+  NoneTwice = (i j : ℕ) (r q : Record) → i < n → j < n → f i ≡ Some r → f j ≡ Some q → r.at ≡ q.at → i ≡ j
 
   -- "no slot from a record's home (itself included) on to its own slot, wrapping, is free"
   abbrev pub NoneFreeBefore : Type 0
-  NoneFreeBefore = (i s : ℕ) (r : Record) → i < n → s < n → f i ≡ Holds r → OnTheWay n (home_of r.at n) i s → f s ≡ Free → ⊥
+  NoneFreeBefore = (i s : ℕ) (r : Record) → i < n → s < n → f i ≡ Some r → OnTheWay n (home_of r.at n) i s → f s ≡ None → ⊥
 
 -- "A table is in order when its length fits, each slot is free or holds a valid record, no point stands twice, and no slot from a record's home
 -- (itself included) on to its own slot, wrapping, is free."
@@ -48,9 +46,9 @@ is_at (found.At j) i = eqb j i
 is_at (found.Free j) i = false
 is_at found.Full i = false
 
-abbrev pub placed_slot : List ℕ → ℕ → Slot → Bool
-placed_slot t i Free = true
-placed_slot t i (Holds r) = valid_of r && is_at (find_of t r.at) i
+abbrev pub placed_slot : List ℕ → ℕ → Option Record → Bool
+placed_slot t i None = true
+placed_slot t i (Some r) = valid_of r && is_at (find_of t r.at) i
 
 -- slot i is free, or holds a valid record that the search for its point finds there
 unfoldable pub placed_at : List ℕ → ℕ → Bool

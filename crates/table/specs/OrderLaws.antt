@@ -5,7 +5,7 @@
 -- The test asks one thing of each record, that its own search ends at it. A search that ends at slot i met other records only: so no slot on the way
 -- is free; and of two records of one point the search finds one slot only, so there are no two.
 -- Assumes nothing.
-use Rattle.std.specs.Prelude.{◌≡◌, Bool, false, ◌&&◌, List, ℕ, ◌≤◌, ◌<◌, length}
+use Rattle.std.specs.Prelude.{◌≡◌, Bool, false, ◌&&◌, List, ℕ, ◌≤◌, ◌<◌, length, Option, Some, None}
 use Rattle.std.proofs.Math.Path.{refl, sym, ap}
 use Rattle.std.proofs.Common.{◌∙◌, subst, arith}
 use Rattle.std.proofs.Math.Bool.{true}
@@ -21,8 +21,6 @@ use Rattle.table.specs.Order.{steps, EachValid, NoneTwice, NoneFreeBefore, InOrd
 use Rattle.table.specs.SlotLaws.{home_below, table-test, test_table, slots-table, no-slots}
 use Rattle.table.specs.SearchLaws.{walk, Others, search-found, search-full, walk-below, steps-below, steps-walk, walk_steps, Kind, kind, free}
 use Rattle.table.specs.SearchLaws.{own, alien, own-hit, End, ends, hits, gaps, full}
-use Rattle.table.specs.declared.slots.Slot.{Slot}
-use Rattle.table.specs.declared.slots.Slot.TheVariants.{Free, Holds}
 use Rattle.table.specs.declared.probe.Meet.{Meet}
 use Rattle.table.specs.declared.probe.Meet.TheVariants.{Hit, Gap, Other}
 use Rattle.table.specs.declared.probe.Found.{Found}
@@ -30,7 +28,7 @@ use Rattle.table.specs.declared.probe.Found.TheVariants as found
 
 -- ---- a search in n slots
 
-module _ (n : ℕ) (some : 0 < n) (f : ℕ → Slot) (p : Point) where
+module _ (n : ℕ) (some : 0 < n) (f : ℕ → Option Record) (p : Point) where
   -- slot k steps from p's home settles the search, all before it being other points'
   settled : (k : ℕ) (o : Found) → k < n → Others (λ i. meets (f i) p) n (home_of p n) k
       → ((r : Found) → settle (meets (f (walk n (home_of p n) k)) p) (walk n (home_of p n) k) r ≡ o) → seek n f p ≡ o
@@ -48,13 +46,13 @@ module _ (n : ℕ) (some : 0 < n) (f : ℕ → Slot) (p : Point) where
   pub record Hits (i : ℕ) : Type 0 where
     pub below : i < n
     pub rec : Record
-    pub held : f i ≡ Holds rec
+    pub held : f i ≡ Some rec
     pub same : rec.at ≡ p
     pub others : Passed i
 
   pub record Gaps (i : ℕ) : Type 0 where
     pub below : i < n
-    pub free : f i ≡ Free
+    pub free : f i ≡ None
     pub others : Passed i
 
   hits-of : (i : ℕ) → i < n → Passed i → meets (f i) p ≡ Hit → Hits i
@@ -65,10 +63,10 @@ module _ (n : ℕ) (some : 0 < n) (f : ℕ → Slot) (p : Point) where
       go (own r a s b) = record { below = h; rec = r; held = a; same = s; others = os }
       go (alien r a b) = absurd (let q : ◌≡◌ {A = ℕ} 0 1 = cc in omega arith)
 
-  free_of : (i : ℕ) → meets (f i) p ≡ Gap → f i ≡ Free
+  free_of : (i : ℕ) → meets (f i) p ≡ Gap → f i ≡ None
   free_of i e = go (kind (f i) p)
     where
-      go : Kind (f i) p → f i ≡ Free
+      go : Kind (f i) p → f i ≡ None
       go (free a b) = a
       go (own r a s b) = absurd (let q : ◌≡◌ {A = ℕ} 0 1 = cc in omega arith)
       go (alien r a b) = absurd (let q : ◌≡◌ {A = ℕ} 0 1 = cc in omega arith)
@@ -111,7 +109,7 @@ module _ (n : ℕ) (some : 0 < n) (f : ℕ → Slot) (p : Point) where
       go (none e' h) = absurd (let q : ◌≡◌ {A = ℕ} 0 1 = cc in omega arith)
 
   -- a free slot is no nearer to p's home than one before which all are others', and if it is as near it is that one
-  pub free-far : (i s : ℕ) → i < n → s < n → Passed i → f s ≡ Free → (s ≡ i → ⊥) → steps n (home_of p n) i < steps n (home_of p n) s
+  pub free-far : (i s : ℕ) → i < n → s < n → Passed i → f s ≡ None → (s ≡ i → ⊥) → steps n (home_of p n) i < steps n (home_of p n) s
   free-far i s hi hs os e ne = go (dec_lt (steps n (home_of p n) i) (steps n (home_of p n) s)) (dec_lt (steps n (home_of p n) s) (steps n (home_of p n) i))
     where
       go : Dec (steps n (home_of p n) i < steps n (home_of p n) s) → Dec (steps n (home_of p n) s < steps n (home_of p n) i)
@@ -119,7 +117,7 @@ module _ (n : ℕ) (some : 0 < n) (f : ℕ → Slot) (p : Point) where
       go (yes l) d = l
       go (no l) (yes m) =
           let o : meets (f s) p ≡ Other = os s hs m in
-          let g : meets (f s) p ≡ Gap = ap (λ (x : Slot). meets x p) e in
+          let g : meets (f s) p ≡ Gap = ap (λ (x : Option Record). meets x p) e in
           absurd (let q : ◌≡◌ {A = ℕ} 0 1 = cc in omega arith)
       go (no l) (no m) =
           let d : steps n (home_of p n) s ≡ steps n (home_of p n) i = omega arith in
@@ -129,16 +127,16 @@ module _ (n : ℕ) (some : 0 < n) (f : ℕ → Slot) (p : Point) where
 -- ---- a table in order
 
 -- the three conditions on its slots
-pub record Ordered (n : ℕ) (f : ℕ → Slot) : Type 0 where
+pub record Ordered (n : ℕ) (f : ℕ → Option Record) : Type 0 where
   pub valid : EachValid n f
   pub once : NoneTwice n f
   pub reach : NoneFreeBefore n f
 
 -- the last of them: a free slot lies farther from a record's home than the record
-abbrev pub Far : (n : ℕ) (f : ℕ → Slot) → Type 0
-Far n f = (i s : ℕ) (r : Record) → i < n → s < n → f i ≡ Holds r → f s ≡ Free → steps n (home_of r.at n) i < steps n (home_of r.at n) s
+abbrev pub Far : (n : ℕ) (f : ℕ → Option Record) → Type 0
+Far n f = (i s : ℕ) (r : Record) → i < n → s < n → f i ≡ Some r → f s ≡ None → steps n (home_of r.at n) i < steps n (home_of r.at n) s
 
-module _ (n : ℕ) (f : ℕ → Slot) where
+module _ (n : ℕ) (f : ℕ → Option Record) where
   pub far : NoneFreeBefore n f → Far n f
   far reach i s r hi hs e fr = go (dec_lt (steps n (home_of r.at n) i) (steps n (home_of r.at n) s))
     where
@@ -149,9 +147,9 @@ module _ (n : ℕ) (f : ℕ → Slot) where
   pub nearer : Far n f → NoneFreeBefore n f
   nearer h i s r hi hs e w fr = omega (arith, h i s r hi hs e fr)
 
-module _ (n : ℕ) (some : 0 < n) (f : ℕ → Slot) where
+module _ (n : ℕ) (some : 0 < n) (f : ℕ → Option Record) where
   -- the search for a record's point ends at its slot
-  pub present : Ordered n f → (i : ℕ) (r : Record) → i < n → f i ≡ Holds r → seek n f r.at ≡ found.At i
+  pub present : Ordered n f → (i : ℕ) (r : Record) → i < n → f i ≡ Some r → seek n f r.at ≡ found.At i
   present ord i r hi e =
       let h = home_of r.at n in
       let hb = home_below n some r.at in
@@ -169,8 +167,8 @@ module _ (n : ℕ) (some : 0 < n) (f : ℕ → Slot) where
       go j hj s sb sd (alien q a b) = b
 
   -- where each record is valid and its own search ends at it, the slots are in order
-  pub placed-order : ((i : ℕ) (r : Record) → i < n → f i ≡ Holds r → valid_of r ≡ true)
-      → ((i : ℕ) (r : Record) → i < n → f i ≡ Holds r → seek n f r.at ≡ found.At i) → Ordered n f
+  pub placed-order : ((i : ℕ) (r : Record) → i < n → f i ≡ Some r → valid_of r ≡ true)
+      → ((i : ℕ) (r : Record) → i < n → f i ≡ Some r → seek n f r.at ≡ found.At i) → Ordered n f
   placed-order ok finds = record { valid = ok; once = once; reach = nearer n f reach }
     where
       once : NoneTwice n f
@@ -183,7 +181,7 @@ module _ (n : ℕ) (some : 0 < n) (f : ℕ → Slot) where
       reach : Far n f
       reach i s r hi hs e fr =
           free-far n some f r.at i s hi hs (found_at n some f r.at i (finds i r hi e)).others fr
-          (λ x. let y : Free ≡ Holds r = sym fr ∙ ap f x ∙ e in let q : ◌≡◌ {A = ℕ} 0 1 = cc in omega arith)
+          (λ x. let y : None ≡ Some r = sym fr ∙ ap f x ∙ e in let q : ◌≡◌ {A = ℕ} 0 1 = cc in omega arith)
 
 -- ---- the test, on bytes
 
@@ -202,7 +200,7 @@ is_at-true (found.Free j) i e = absurd (let q : ◌≡◌ {A = ℕ} 0 1 = cc in 
 is_at-true found.Full i e = absurd (let q : ◌≡◌ {A = ℕ} 0 1 = cc in omega arith)
 
 module _ (t : List ℕ) where
-  placed-slot : (i : ℕ) (s : Slot) → slot_at t i ≡ s → placed_at t i ≡ placed_slot t i s
+  placed-slot : (i : ℕ) (s : Option Record) → slot_at t i ≡ s → placed_at t i ≡ placed_slot t i s
   unfolding placed_at
   placed-slot i s e = ap (placed_slot t i) e
 
@@ -212,10 +210,10 @@ module _ (t : List ℕ) where
       ap (λ (b : Bool). b && all_placed t (slots_of t)) (table-test t (slots_of t) o.fits)
       ∙ each-upto (placed_at t) (slots_of t) (λ i h. go i h (slot_at t i) refl)
     where
-      go : (i : ℕ) → i < slots_of t → (s : Slot) → slot_at t i ≡ s → placed_at t i ≡ true
-      go i h Free e = placed-slot i Free e
-      go i h (Holds r) e =
-          placed-slot i (Holds r) e ∙ ap (λ (b : Bool). b && is_at (find_of t r.at) i) (o.valid i r h e)
+      go : (i : ℕ) → i < slots_of t → (s : Option Record) → slot_at t i ≡ s → placed_at t i ≡ true
+      go i h None e = placed-slot i None e
+      go i h (Some r) e =
+          placed-slot i (Some r) e ∙ ap (λ (b : Bool). b && is_at (find_of t r.at) i) (o.valid i r h e)
           ∙ ap (λ (x : Found). is_at x i) (present (slots_of t) (slots-some t (slots_of t) o.fits) (slot_at t) (order-slots t o) i r h e) ∙ eq-eqb i i refl
 
   pub test-order : in_order_of t ≡ true → InOrder t
@@ -223,8 +221,8 @@ module _ (t : List ℕ) where
   test-order h =
       let w = test_table t (both_left (fits_length (length t)) (all_placed t (slots_of t)) h) in
       let all = both_right (fits_length (length t)) (all_placed t (slots_of t)) h in
-      let each : (i : ℕ) (r : Record) → i < slots_of t → slot_at t i ≡ Holds r → valid_of r && is_at (find_of t r.at) i ≡ true =
-      λ i r l e. sym (placed-slot i (Holds r) e) ∙ upto-each (placed_at t) (slots_of t) i all l in
+      let each : (i : ℕ) (r : Record) → i < slots_of t → slot_at t i ≡ Some r → valid_of r && is_at (find_of t r.at) i ≡ true =
+      λ i r l e. sym (placed-slot i (Some r) e) ∙ upto-each (placed_at t) (slots_of t) i all l in
       slots-order t w (placed-order (slots_of t) (slots-some t (slots_of t) w) (slot_at t)
       (λ i r l e. both_left (valid_of r) (is_at (find_of t r.at) i) (each i r l e))
       (λ i r l e. is_at-true (find_of t r.at) i (both_right (valid_of r) (is_at (find_of t r.at) i) (each i r l e))))

@@ -1,8 +1,9 @@
 -- A slot compared by its first two words at once: two pairs of words are equal as numbers where and only where both words are. So the rest of a slot
--- is asked only where the pair is that of a free slot (`gap-rest`, else `gap-none`) or of the point (`hit-rest`, else `hit-none`).
+-- is asked only where the pair is that of a free slot (`gap-rest`, else `gap-none`) or of the point (`hit-rest`, else `hit-none`). `paired` the pair of two
+-- numbers that were cast.
 -- Assumes nothing.
-use Rattle.std.specs.Prelude.{◌≡◌, refl, Bool, true, false, ◌&&◌, List, ℕ, ◌+◌, ◌*◌, ◌<◌, eqb, ℤ, get_or}
-use Rattle.std.proofs.Common.{sym, ap, ◌∙◌, arith, eq-eqb, eqb-true, SFits, Fits, to_z, of_z}
+use Rattle.std.specs.Prelude.{◌≡◌, Bool, true, false, ◌&&◌, List, ℕ, ◌+◌, ◌<◌, eqb, ℤ, get_or}
+use Rattle.std.proofs.Common.{sym, ap, ◌∙◌, arith, eq-eqb, eqb-true, SFits, Fits, of_z, to_z, to_z-of_z}
 use Rattle.std.specs.Int.{w32}
 use Rattle.std.proofs.Math.Facts.{of_z-to_z, sfits_to_z, Fits-of_z}
 use Rattle.laws.specs.Words.{word_at}
@@ -26,6 +27,11 @@ word-is : (u : ℕ) (z : ℤ) → u < 4294967296 → SFits w32 z → eq_z (signe
 word-is u z h f =
     let l : Fits w32 u = record { fits = h } in
     sym (same_bits (signed u) z (sfits_to_z l).sfits f.sfits) ∙ ap (λ (v : ℕ). eqb v (of_z w32 z)) (of_z-to_z l)
+
+-- the pair of what two numbers were cast to, as the machine hands them on
+pub paired : (x y : ℤ) (u v f : ℕ) → SFits w32 x → SFits w32 y → u ≡ of_z w32 (to_z w32 (of_z w32 x)) → v ≡ of_z w32 (to_z w32 (of_z w32 y)) → f ≡ pair_of u v
+    → f ≡ pair_of (of_z w32 x) (of_z w32 y)
+paired x y u v f fa fb eu ev e = e ∙ rw (eu, ev, to_z-of_z fa, to_z-of_z fb)
 
 module _ (t : List ℕ) (s f : ℕ) (F : First t s f) where
   abbrev a : ℕ

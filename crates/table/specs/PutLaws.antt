@@ -1,6 +1,6 @@
 -- A table in order as a map, written: a record entered, a record replaced, the table cleared. MapLaws has the index.
 -- Assumes nothing.
-use Rattle.std.specs.Prelude.{◌≡◌, refl, true, List, ℕ, ◌+◌, ◌<◌, length}
+use Rattle.std.specs.Prelude.{◌≡◌, refl, true, List, ℕ, ◌+◌, ◌<◌, length, Some, None}
 use Rattle.std.proofs.Common.{sym, ap, ◌∙◌, subst, arith}
 use Rattle.std.proofs.lemmas.List.{length-replicate}
 use Rattle.lattice.specs.Records.{valid_of}
@@ -15,10 +15,8 @@ use Rattle.table.specs.SlotLaws.{put-length, put_other, cleared-free, table_same
 use Rattle.table.specs.SearchLaws.{free-holds, own-hit, comes-filled}
 use Rattle.table.specs.EntryLaws.{find-told, reached-at}
 use Rattle.table.specs.ChangeLaws.{count-all}
-use Rattle.table.specs.declared.slots.Slot.TheVariants.{Free, Holds}
 use Rattle.table.specs.declared.probe.Meet.TheVariants.{Hit}
 use Rattle.table.specs.declared.probe.Found.{Found}
-use Rattle.table.specs.declared.entries.Looked.TheVariants.{Absent, Held}
 use Rattle.table.specs.WriteLaws.{table_of, entered-order, entered-new, entered-stands, entered-old, entered-free, replaced-order}
 use Rattle.table.specs.WriteLaws.{replaced-find, replaced-new, replaced-stands, replaced-old, replaced-free}
 use Rattle.table.specs.declared.probe.Found.TheVariants as found
@@ -46,7 +44,7 @@ stays t r x e h = ap (enter_at t r) e ∙ h
 
 module _ (t : List ℕ) (w : Table t (slots_of t)) (r : Record) where
   -- nothing changes where the point is there, or no slot is free
-  pub enter-there : (q : Record) → look_up t r.at ≡ Held q → enter_of t r ≡ t
+  pub enter-there : (q : Record) → look_up t r.at ≡ Some q → enter_of t r ≡ t
   enter-there q h = let f = find-held t w r.at q h in stays t r (found.At f.0) f.1 refl
 
   pub enter-full : free_slots t ≡ 0 → enter_of t r ≡ t
@@ -64,7 +62,7 @@ module _ (t : List ℕ) (w : Table t (slots_of t)) (r : Record) where
   pub enter-fills : Fills (slots_of t) (slot_at t) (slot_at (enter_of t r))
   enter-fills = go (searched t w r.at)
     where
-      apart : (i s : ℕ) (q : Record) → slot_at t i ≡ Free → slot_at t s ≡ Holds q → s ≡ i → ⊥
+      apart : (i s : ℕ) (q : Record) → slot_at t i ≡ None → slot_at t s ≡ Some q → s ≡ i → ⊥
       apart i s q f h e = free-holds q (ap (slot_at t) e ∙ f) h
 
       go : Searched t r.at → Fills (slots_of t) (slot_at t) (slot_at (enter_of t r))
@@ -121,7 +119,7 @@ module _ (t : List ℕ) (o : InOrder t) (r : Record) (ok : valid_of r ≡ true) 
       go (room i e l s a k) = subst InOrder (put-enter t r i e) (entered-order t o r ok i l e)
       go (full e a k) = subst InOrder (sym (stays t r found.Full e refl)) o
 
-  pub enter-finds : look_up t r.at ≡ Absent → 0 < free_slots t → look_up (enter_of t r) r.at ≡ Held r
+  pub enter-finds : look_up t r.at ≡ None → 0 < free_slots t → look_up (enter_of t r) r.at ≡ Some r
   enter-finds h f =
       let x = find-free t o.fits r.at h f in
       ap (λ (u : List ℕ). look_up u r.at) (sym (put-enter t r x.0 x.1))
@@ -138,7 +136,7 @@ module _ (t : List ℕ) (o : InOrder t) (r : Record) (ok : valid_of r ≡ true) 
       go (full e a k) = ap (λ (u : List ℕ). look_up u q) (stays t r found.Full e refl)
 
   -- one free slot less
-  pub enter-free : look_up t r.at ≡ Absent → 0 < free_slots t → free_slots (enter_of t r) + 1 ≡ free_slots t
+  pub enter-free : look_up t r.at ≡ None → 0 < free_slots t → free_slots (enter_of t r) + 1 ≡ free_slots t
   enter-free h f = go (searched t o.fits r.at)
     where
       go : Searched t r.at → free_slots (enter_of t r) + 1 ≡ free_slots t
@@ -154,10 +152,10 @@ module _ (t : List ℕ) (o : InOrder t) (r : Record) (ok : valid_of r ≡ true) 
       go (room i e l s a k) = subst InOrder (sym (remains t r (found.Free i) e refl)) o
       go (full e a k) = subst InOrder (sym (remains t r found.Full e refl)) o
 
-  pub replace-finds : (q : Record) → look_up t r.at ≡ Held q → look_up (replace_of t r) r.at ≡ Held r
+  pub replace-finds : (q : Record) → look_up t r.at ≡ Some q → look_up (replace_of t r) r.at ≡ Some r
   replace-finds q h = go (searched t o.fits r.at)
     where
-      go : Searched t r.at → look_up (replace_of t r) r.at ≡ Held r
+      go : Searched t r.at → look_up (replace_of t r) r.at ≡ Some r
       go (there i x e l s a k) = ap (λ (u : List ℕ). look_up u r.at) (sym (put-replace t r i e))
           ∙ lookup-complete (put_slot t i r) (replaced-order t o r ok i l x s (sym a)) r (replaced-new t o r ok i l x s (sym a))
       go (room i e l s a k) = held-not-absent q h a
@@ -200,9 +198,9 @@ pub clear-table : (t : List ℕ) (n : ℕ) → Table t n → Table (cleared_of t
 clear-table t n w = table_same t (cleared_of t) n (clear-length t) w
 
 -- a table with no record in it
-module _ (t : List ℕ) (w : Table t (slots_of t)) (all : (i : ℕ) → i < slots_of t → slot_at t i ≡ Free) where
-  no_record : {A : Type 0} (i : ℕ) (r : Record) → i < slots_of t → slot_at t i ≡ Holds r → A
-  no_record i r l e = let x : Free ≡ Holds r = sym (all i l) ∙ e in absurd (let z : ◌≡◌ {A = ℕ} 0 1 = cc in omega arith)
+module _ (t : List ℕ) (w : Table t (slots_of t)) (all : (i : ℕ) → i < slots_of t → slot_at t i ≡ None) where
+  no_record : {A : Type 0} (i : ℕ) (r : Record) → i < slots_of t → slot_at t i ≡ Some r → A
+  no_record i r l e = let x : None ≡ Some r = sym (all i l) ∙ e in absurd (let z : ◌≡◌ {A = ℕ} 0 1 = cc in omega arith)
 
   none-order : InOrder t
   none-order = record {
@@ -212,16 +210,16 @@ module _ (t : List ℕ) (w : Table t (slots_of t)) (all : (i : ℕ) → i < slot
     reach = λ i s r l m e f g. no_record i r l e;
   }
 
-  none-absent : (p : Point) → look_up t p ≡ Absent
+  none-absent : (p : Point) → look_up t p ≡ None
   none-absent p = go (searched t w p)
     where
-      go : Searched t p → look_up t p ≡ Absent
+      go : Searched t p → look_up t p ≡ None
       go (there i q e l s a k) = no_record i q l s
       go (room i e l s a k) = a
       go (full e a k) = a
 
 module _ (t : List ℕ) (w : Table t (slots_of t)) where
-  cleared : (i : ℕ) → i < slots_of (cleared_of t) → slot_at (cleared_of t) i ≡ Free
+  cleared : (i : ℕ) → i < slots_of (cleared_of t) → slot_at (cleared_of t) i ≡ None
   cleared i l =
       let m : i < slots_of t = subst (λ (k : ℕ). i < slots_in k) (clear-length t) l in
       cleared-free (length t) i (omega (arith, w.long))
@@ -232,7 +230,7 @@ module _ (t : List ℕ) (w : Table t (slots_of t)) where
   pub clear-order : InOrder (cleared_of t)
   clear-order = none-order (cleared_of t) cleared-table cleared
 
-  pub clear-absent : (p : Point) → look_up (cleared_of t) p ≡ Absent
+  pub clear-absent : (p : Point) → look_up (cleared_of t) p ≡ None
   clear-absent p = none-absent (cleared_of t) cleared-table cleared p
 
   pub clear-free : free_slots (cleared_of t) ≡ slots_of t

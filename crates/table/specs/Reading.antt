@@ -3,13 +3,13 @@
 -- `pair_of` two words as one number, `First` those that a slot begins with · `reads_as` a slot's bytes read as a point's record, `NoneIn` those of
 -- none of some slots do, `group` of so many that are asked at once · `run_before` how many slots right before one are taken · `over` more than any weight.
 -- Assumes nothing.
-use Rattle.std.specs.Prelude.{◌≡◌, Bool, false, cond, ◌&&◌, List, ℕ, zero, suc, ◌+◌, ◌*◌, ◌<◌, eqb, get_or, ℤ}
+use Rattle.lattice.specs.declared.records.Record.{Record}
+use Rattle.std.specs.Prelude.{◌≡◌, Bool, false, cond, ◌&&◌, List, ℕ, zero, suc, ◌+◌, ◌*◌, ◌<◌, eqb, get_or, ℤ, Option}
 use Rattle.laws.specs.Words.{word_at}
 use Rattle.lattice.specs.Points.{pt}
 use Rattle.lattice.specs.declared.points.Point.{Point}
 use Rattle.table.specs.Slots.{slot_width, record_at, is_free}
 use Rattle.table.specs.Search.{same_point}
-use Rattle.table.specs.declared.slots.Slot.{Slot}
 
 -- r is the word at p, and what it was made of are bytes
 pub record Word (t : List ℕ) (p r : ℕ) : Type 0 where
@@ -45,7 +45,7 @@ abbrev pub run_on : ℕ → ℕ → ℕ
 run_on run free = cond (eqb free 0) (run + 1) 0
 
 -- how many slots right before slot i are taken, of slots of which slot s is `f s`
-unfoldable pub run_before : (ℕ → Slot) → ℕ → ℕ
+unfoldable pub run_before : (ℕ → Option Record) → ℕ → ℕ
 run_before f zero = 0
 run_before f (suc i) = run_on (run_before f i) (is_free (f i))
 

@@ -2,7 +2,7 @@
 -- `Apart` no two records of a list have one point · `listed-stands`, `stands-listed` what is listed of the first k slots stands there, and back ·
 -- `counted-below`, `apart_below` · `apart-fewer` a list without two of one point is no longer than one that holds all of it.
 -- Assumes nothing.
-use Rattle.std.specs.Prelude.{◌≡◌, ◌⊎◌}
+use Rattle.std.specs.Prelude.{◌≡◌, ◌⊎◌, Option, Some, None}
 use Rattle.std.proofs.Math.Path.{refl, ap, subst}
 use Rattle.std.proofs.Common.{sym, ◌∙◌, inl, inr}
 use mathlib.Core.List.Memᴰ
@@ -16,8 +16,6 @@ use Rattle.table.specs.Slots.{slots_of, slot_at, is_free, free_below}
 use Rattle.table.specs.Order.{InOrder}
 use Rattle.table.specs.Entries.{listed, records_below}
 use Rattle.table.specs.ChangeLaws.{Stands}
-use Rattle.table.specs.declared.slots.Slot.{Slot}
-use Rattle.table.specs.declared.slots.Slot.TheVariants.{Free, Holds}
 
 -- no two records of a list have one point
 abbrev pub Apart : List Record → Type 0
@@ -39,12 +37,12 @@ module _ (t : List ℕ) where
   listed-stands zero r m = absurd (Memᴰ.not-nil m)
   listed-stands (suc k) r m = go (slot_at t k) refl (Memᴰ.append_cases (records_below t k) m) (λ l. listed-stands k r l)
     where
-      go : (s : Slot) → slot_at t k ≡ s → Memᴰ r (records_below t k) ⊎ Memᴰ r (listed (slot_at t k))
+      go : (s : Option Record) → slot_at t k ≡ s → Memᴰ r (records_below t k) ⊎ Memᴰ r (listed (slot_at t k))
           → (Memᴰ r (records_below t k) → Stands k (slot_at t) r) → Stands (suc k) (slot_at t) r
       go s e (inl l) ih = let x = ih l in record { slot = x.slot; below = omega (arith, x.below); holds = x.holds }
-      go Free e (inr l) ih = absurd (Memᴰ.not-nil (subst (λ (s : Slot). Memᴰ r (listed s)) e l))
-      go (Holds q) e (inr l) ih =
-          record { slot = k; below = omega arith; holds = e ∙ ap Holds (sym (Memᴰ.eq_of_singleton (subst (λ (s : Slot). Memᴰ r (listed s)) e l))) }
+      go None e (inr l) ih = absurd (Memᴰ.not-nil (subst (λ (s : Option Record). Memᴰ r (listed s)) e l))
+      go (Some q) e (inr l) ih =
+          record { slot = k; below = omega arith; holds = e ∙ ap Some (sym (Memᴰ.eq_of_singleton (subst (λ (s : Option Record). Memᴰ r (listed s)) e l))) }
 
   pub stands-listed : (k : ℕ) (r : Record) → Stands k (slot_at t) r → Memᴰ r (records_below t k)
   unfolding records_below
@@ -53,7 +51,7 @@ module _ (t : List ℕ) where
     where
       go : Dec (s.slot ≡ k) → (Stands k (slot_at t) r → Memᴰ r (records_below t k)) → Memᴰ r (records_below t k ++ listed (slot_at t k))
       go (yes e) ih =
-          Memᴰ.append_right (records_below t k) (subst (λ (x : Slot). Memᴰ r (listed x)) (sym (ap (slot_at t) (sym e) ∙ s.holds)) (Memᴰ.head refl))
+          Memᴰ.append_right (records_below t k) (subst (λ (x : Option Record). Memᴰ r (listed x)) (sym (ap (slot_at t) (sym e) ∙ s.holds)) (Memᴰ.head refl))
       go (no e) ih = Memᴰ.append_left (listed (slot_at t k)) (ih (record { slot = s.slot; below = omega (arith, s.below); holds = s.holds }))
 
   pub counted-below : (k : ℕ) → length (records_below t k) + free_below (slot_at t) k ≡ k
@@ -65,19 +63,19 @@ module _ (t : List ℕ) where
       let c = one (slot_at t k) in
       omega arith
     where
-      one : (s : Slot) → length (listed s) + is_free s ≡ 1
-      one Free = refl
-      one (Holds r) = refl
+      one : (s : Option Record) → length (listed s) + is_free s ≡ 1
+      one None = refl
+      one (Some r) = refl
 
   pub apart_below : InOrder t → (k : ℕ) → k ≤ slots_of t → Apart (records_below t k)
   unfolding records_below
   apart_below o zero l = tt
   apart_below o (suc k) l = go (slot_at t k) refl (apart_below o k (omega arith))
     where
-      go : (s : Slot) → slot_at t k ≡ s → Apart (records_below t k) → Apart (records_below t k ++ listed (slot_at t k))
-      go Free e a = subst Apart (sym (ap (λ (s : Slot). records_below t k ++ listed s) e ∙ append-nil (records_below t k))) a
-      go (Holds q) e a =
-          subst Apart (sym (ap (λ (s : Slot). records_below t k ++ listed s) e))
+      go : (s : Option Record) → slot_at t k ≡ s → Apart (records_below t k) → Apart (records_below t k ++ listed (slot_at t k))
+      go None e a = subst Apart (sym (ap (λ (s : Option Record). records_below t k ++ listed s) e ∙ append-nil (records_below t k))) a
+      go (Some q) e a =
+          subst Apart (sym (ap (λ (s : Option Record). records_below t k ++ listed s) e))
           (apart_more (records_below t k) q a (λ x m h.
           let s = listed-stands k x m in
           let b : s.slot < slots_of t = omega (arith, s.below) in

@@ -2,7 +2,8 @@
 -- of them holds another point's record, so the search comes to it.
 -- `run_none`, `run_more` the taken slots in a row, counted · `near-test`, `run-group` what a group tells.
 -- Assumes nothing.
-use Rattle.std.specs.Prelude.{◌≡◌, Bool, ◌&&◌, List, leb}
+use Rattle.lattice.specs.declared.records.Record.{Record}
+use Rattle.std.specs.Prelude.{◌≡◌, Bool, ◌&&◌, List, leb, Option, Some, None}
 use Rattle.std.proofs.Math.Path.{refl, ap}
 use Rattle.std.proofs.Common.{sym, ◌∙◌, subst, leb-true}
 use Rattle.std.proofs.Math.Bool.{true, false, cond}
@@ -18,13 +19,11 @@ use Rattle.table.specs.Order.{steps}
 use Rattle.table.specs.Reading.{reads_as, NoneIn, run_on, run_before}
 use Rattle.table.specs.SlotLaws.{table-slots}
 use Rattle.table.specs.SearchLaws.{steps-lo, steps-hi, other-another, free-holds}
-use Rattle.table.specs.declared.slots.Slot.{Slot}
-use Rattle.table.specs.declared.slots.Slot.TheVariants.{Free, Holds}
 use Rattle.table.specs.declared.probe.Meet.TheVariants.{Hit, Other}
 
 -- ---- the taken slots in a row
 
-module _ (f : ℕ → Slot) where
+module _ (f : ℕ → Option Record) where
   pub run_none : 0 ≡ run_before f 0
   unfolding run_before
   run_none = refl
@@ -41,22 +40,22 @@ module _ (f : ℕ → Slot) where
   run-most zero = omega arith
   run-most (suc i) = go (f i) (run-most i)
     where
-      go : (s : Slot) → run_before f i ≤ i → run_on (run_before f i) (is_free s) ≤ suc i
-      go Free l = omega arith
-      go (Holds r) l = omega arith
+      go : (s : Option Record) → run_before f i ≤ i → run_on (run_before f i) (is_free s) ≤ suc i
+      go None l = omega arith
+      go (Some r) l = omega arith
 
   -- none of them is free
-  run-taken : (i s : ℕ) → s < i → i ≤ s + run_before f i → f s ≡ Free → ⊥
+  run-taken : (i s : ℕ) → s < i → i ≤ s + run_before f i → f s ≡ None → ⊥
   unfolding run_before
   run-taken zero s l m e = omega arith
   run-taken (suc i) s l m e = go (f i) refl (dec_lt s i) (λ h k. run-taken i s h k e)
     where
-      go : (c : Slot) → f i ≡ c → Dec (s < i) → (s < i → i ≤ s + run_before f i → ⊥) → ⊥
-      go Free a d k = let z : run_on (run_before f i) (is_free (f i)) ≡ 0 = ap (λ (x : Slot). run_on (run_before f i) (is_free x)) a in omega arith
-      go (Holds r) a (yes h) k =
-          let z : run_on (run_before f i) (is_free (f i)) ≡ run_before f i + 1 = ap (λ (x : Slot). run_on (run_before f i) (is_free x)) a in
+      go : (c : Option Record) → f i ≡ c → Dec (s < i) → (s < i → i ≤ s + run_before f i → ⊥) → ⊥
+      go None a d k = let z : run_on (run_before f i) (is_free (f i)) ≡ 0 = ap (λ (x : Option Record). run_on (run_before f i) (is_free x)) a in omega arith
+      go (Some r) a (yes h) k =
+          let z : run_on (run_before f i) (is_free (f i)) ≡ run_before f i + 1 = ap (λ (x : Option Record). run_on (run_before f i) (is_free x)) a in
           k h (omega arith)
-      go (Holds r) a (no h) k = let q : i ≡ s = omega arith in free-holds r e (ap f (sym q) ∙ a)
+      go (Some r) a (no h) k = let q : i ≡ s = omega arith in free-holds r e (ap f (sym q) ∙ a)
 
 -- ---- what a group tells
 
@@ -76,13 +75,13 @@ near-test h i run k e =
 
 module _ (t : List ℕ) (p : Point) where
   -- a taken slot that does not read as p's record holds another's
-  read-other : (i : ℕ) → reads_as t p i ≡ false → (slot_at t i ≡ Free → ⊥) → meets (slot_at t i) p ≡ Other
+  read-other : (i : ℕ) → reads_as t p i ≡ false → (slot_at t i ≡ None → ⊥) → meets (slot_at t i) p ≡ Other
   unfolding slot_at
   read-other i e n = go (free_at t (slot_width * i)) refl
     where
       go : (b : Bool) → free_at t (slot_width * i) ≡ b → meets (slot_at t i) p ≡ Other
-      go true f = absurd (n (ap (λ (b : Bool). cond b Free (Holds (record_at t (slot_width * i)))) f))
-      go false f = ap (λ (b : Bool). meets (cond b Free (Holds (record_at t (slot_width * i)))) p) f ∙ ap (λ (b : Bool). cond b Hit Other) e
+      go true f = absurd (n (ap (λ (b : Bool). cond b None (Some (record_at t (slot_width * i)))) f))
+      go false f = ap (λ (b : Bool). meets (cond b None (Some (record_at t (slot_width * i)))) p) f ∙ ap (λ (b : Bool). cond b Hit Other) e
 
   -- so does each slot from home on to slot i, which is near it
   pub run-group : (n : ℕ) → Table t n → (h i k : ℕ) → i < n → h ≡ home_of p n → Near h i (run_before (slot_at t) i) k

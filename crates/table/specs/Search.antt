@@ -3,12 +3,11 @@
 -- table's bytes.
 -- Assumes nothing.
 unfoldable pub use Rattle.lattice.specs.Points.{same_point}
-use Rattle.std.specs.Prelude.{cond, List, ℕ, zero, suc, ◌+◌, eqb, ℤ, pos, ◌+ℤ◌, ◌*ℤ◌}
+use Rattle.lattice.specs.declared.records.Record.{Record}
+use Rattle.std.specs.Prelude.{cond, List, ℕ, zero, suc, ◌+◌, eqb, ℤ, pos, ◌+ℤ◌, ◌*ℤ◌, Option, Some, None}
 use Rattle.laws.specs.Residue.{mod_z}
 use Rattle.lattice.specs.declared.points.Point.{Point}
 use Rattle.table.specs.Slots.{slots_of, slot_at}
-use Rattle.table.specs.declared.slots.Slot.{Slot}
-use Rattle.table.specs.declared.slots.Slot.TheVariants.{Free, Holds}
 use Rattle.table.specs.declared.probe.Meet.{Meet}
 use Rattle.table.specs.declared.probe.Meet.TheVariants.{Hit, Gap, Other}
 use Rattle.table.specs.declared.probe.Found.{Found}
@@ -23,9 +22,9 @@ unfoldable pub home_of : Point → ℕ → ℕ
 home_of p n = mod_z (weight_of p.a p.b p.m.0) n
 
 -- what a search for p meets in a slot
-abbrev pub meets : Slot → Point → Meet
-meets Free p = Gap
-meets (Holds r) p = cond (same_point r.at p) Hit Other
+abbrev pub meets : Option Record → Point → Meet
+meets None p = Gap
+meets (Some r) p = cond (same_point r.at p) Hit Other
 
 -- "goes on, wrapping": the slot after slot i of n
 abbrev pub next : ℕ → ℕ → ℕ
@@ -43,7 +42,7 @@ search_from look n i zero = found.Full
 search_from look n i (suc left) = let o = search_from look n (next n i) left in settle (look i) i o
 
 -- "A search starts at its home slot": the search for p in n slots, of which slot i is `f i`
-abbrev pub seek : ℕ → (ℕ → Slot) → Point → Found
+abbrev pub seek : ℕ → (ℕ → Option Record) → Point → Found
 seek n f p = search_from (λ i. meets (f i) p) n (home_of p n) n
 
 -- the search for p in a table

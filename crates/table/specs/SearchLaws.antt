@@ -7,7 +7,7 @@
 -- round, it sees them last, where they settle nothing. Slots that only fill leave them other points'.
 -- Assumes nothing.
 pub use Rattle.lattice.specs.PointLaws.{same_refl, same_true, same_or_not}
-use Rattle.std.specs.Prelude.{◌≡◌, refl, Bool, true, false, cond, ℕ, zero, suc, ◌+◌, ◌-◌, ◌≤◌, ◌<◌, eqb, ltb}
+use Rattle.std.specs.Prelude.{◌≡◌, refl, Bool, true, false, cond, ℕ, zero, suc, ◌+◌, ◌-◌, ◌≤◌, ◌<◌, eqb, ltb, Option, Some, None}
 use Rattle.std.proofs.Common.{sym, ap, ◌∙◌, arith, lt-ltb, le-ltb, le-leb, eq-eqb, ne_eqb}
 use Rattle.std.proofs.Math.Decide.{dec_lt}
 use Rattle.std.proofs.lemmas.Bool.{lt-leb, eqb-false}
@@ -16,8 +16,6 @@ use Rattle.lattice.specs.declared.records.Record.{Record}
 use Rattle.table.specs.Search.{home_of, same_point, meets, next, settle, search_from, seek}
 use Rattle.table.specs.Order.{steps}
 use Rattle.table.specs.Told.{Another, ComesTo, Fills}
-use Rattle.table.specs.declared.slots.Slot.{Slot}
-use Rattle.table.specs.declared.slots.Slot.TheVariants.{Free, Holds}
 use Rattle.table.specs.declared.probe.Meet.{Meet}
 use Rattle.table.specs.declared.probe.Meet.TheVariants.{Hit, Gap, Other}
 use Rattle.table.specs.declared.probe.Found.{Found}
@@ -151,30 +149,30 @@ search-full look n (suc left) i hi hl os =
 
 -- ---- what a slot is to a search for p
 
-pub data Kind (c : Slot) (p : Point) : Type 0 where
-  free : c ≡ Free → meets c p ≡ Gap → Kind c p
-  own : (r : Record) → c ≡ Holds r → r.at ≡ p → meets c p ≡ Hit → Kind c p
-  alien : (r : Record) → c ≡ Holds r → meets c p ≡ Other → Kind c p
+pub data Kind (c : Option Record) (p : Point) : Type 0 where
+  free : c ≡ None → meets c p ≡ Gap → Kind c p
+  own : (r : Record) → c ≡ Some r → r.at ≡ p → meets c p ≡ Hit → Kind c p
+  alien : (r : Record) → c ≡ Some r → meets c p ≡ Other → Kind c p
 
-pub kind : (c : Slot) (p : Point) → Kind c p
-kind Free p = free refl refl
-kind (Holds r) p = go (same_point r.at p) refl
+pub kind : (c : Option Record) (p : Point) → Kind c p
+kind None p = free refl refl
+kind (Some r) p = go (same_point r.at p) refl
   where
-    go : (b : Bool) → same_point r.at p ≡ b → Kind (Holds r) p
+    go : (b : Bool) → same_point r.at p ≡ b → Kind (Some r) p
     go true e = own r refl (same_true r.at p e) (ap (λ (x : Bool). cond x Hit Other) e)
     go false e = alien r refl (ap (λ (x : Bool). cond x Hit Other) e)
 
-pub own-hit : (c : Slot) (r : Record) → c ≡ Holds r → meets c r.at ≡ Hit
-own-hit c r e = ap (λ (x : Slot). meets x r.at) e ∙ ap (λ (b : Bool). cond b Hit Other) (same_refl r.at)
+pub own-hit : (c : Option Record) (r : Record) → c ≡ Some r → meets c r.at ≡ Hit
+own-hit c r e = ap (λ (x : Option Record). meets x r.at) e ∙ ap (λ (b : Bool). cond b Hit Other) (same_refl r.at)
 
-pub holds-eq : (a b : Record) → Holds a ≡ Holds b → a ≡ b
+pub holds-eq : (a b : Record) → Some a ≡ Some b → a ≡ b
 holds-eq a b e = cc
 
-pub free-holds : {A : Type 0} (r : Record) {s : Slot} → s ≡ Free → s ≡ Holds r → A
+pub free-holds : {A : Type 0} (r : Record) {s : Option Record} → s ≡ None → s ≡ Some r → A
 free-holds r e h = absurd (let z : ◌≡◌ {A = ℕ} 0 1 = cc in omega arith)
 
 -- another point's record, in the words of the search and of Told
-another-other : (c : Slot) (p : Point) → Another c p → meets c p ≡ Other
+another-other : (c : Option Record) (p : Point) → Another c p → meets c p ≡ Other
 another-other c p a = go (kind c p)
   where
     go : Kind c p → meets c p ≡ Other
@@ -182,7 +180,7 @@ another-other c p a = go (kind c p)
     go (own r e s m) = absurd (a.other (ap (λ (x : Record). x.at) (holds-eq a.rec r (sym a.holds ∙ e)) ∙ s))
     go (alien r e m) = m
 
-pub other-another : (c : Slot) (p : Point) → meets c p ≡ Other → Another c p
+pub other-another : (c : Option Record) (p : Point) → meets c p ≡ Other → Another c p
 other-another c p h = go (kind c p)
   where
     go : Kind c p → Another c p
@@ -254,7 +252,7 @@ wrapped n h i j hh hi hj l = by-lt i h below above
         omega (arith, steps-lo n h i m, ap (steps n h) (walk-hi n i j w), steps-lo n h (i + j - n) b)
 
 -- the search from home is the search that starts at a slot it comes to
-pub search-resumed : (n : ℕ) (f : ℕ → Slot) (p : Point) (i : ℕ) → home_of p n < n → ComesTo n f p i → seek n f p ≡ search_from (λ s. meets (f s) p) n i n
+pub search-resumed : (n : ℕ) (f : ℕ → Option Record) (p : Point) (i : ℕ) → home_of p n < n → ComesTo n f p i → seek n f p ≡ search_from (λ s. meets (f s) p) n i n
 search-resumed n f p i inside c =
     let h = home_of p n in
     let look : ℕ → Meet = λ s. meets (f s) p in
@@ -272,7 +270,7 @@ search-resumed n f p i inside c =
     ∙ ap (search_from look n i) e
 
 -- slots that have filled are passed still
-pub comes-filled : (n : ℕ) (f g : ℕ → Slot) (p : Point) (i : ℕ) → Fills n f g → ComesTo n f p i → ComesTo n g p i
+pub comes-filled : (n : ℕ) (f g : ℕ → Option Record) (p : Point) (i : ℕ) → Fills n f g → ComesTo n f p i → ComesTo n g p i
 comes-filled n f g p i w c =
     record {
       below = c.below;

@@ -4,7 +4,7 @@
 -- `slot-written` one written in three parts · `put_same`, `put_other`, `put-length` a slot written and read back · `free-none`, `free_more` a count of
 -- free slots · `cleared-free` · `home_below` · `slot_same` equal bytes, equal slots.
 -- Assumes nothing.
-use Rattle.std.specs.Prelude.{◌≡◌, Bool, true, false, ◌&&◌, List, [], ◌∷◌, ◌++◌, ℕ, suc, ◌+◌, ◌*◌, ◌/◌, ◌%◌, ◌≤◌, ◌<◌, leb, length, replicate, ℤ}
+use Rattle.std.specs.Prelude.{◌≡◌, Bool, true, false, ◌&&◌, List, [], ◌∷◌, ◌++◌, ℕ, suc, ◌+◌, ◌*◌, ◌/◌, ◌%◌, ◌≤◌, ◌<◌, leb, length, replicate, ℤ, Option, Some, None}
 use Rattle.std.proofs.Math.Path.{refl, sym, ap}
 use Rattle.std.proofs.Common.{◌∙◌, arith, eq-eqb, ne_eqb, eqb-true, le-leb, leb-true, of_z}
 use Rattle.std.proofs.Math.Bool.{cond}
@@ -28,8 +28,6 @@ use Rattle.table.specs.Slots.{put_slot, is_free, free_below}
 use Rattle.table.specs.Reading.{Word, all_ones}
 use Rattle.table.specs.Ranges.{Writes}
 use Rattle.table.specs.Search.{weight_of, home_of}
-use Rattle.table.specs.declared.slots.Slot.{Slot}
-use Rattle.table.specs.declared.slots.Slot.TheVariants.{Free, Holds}
 
 -- ---- the fit of a length
 
@@ -162,12 +160,12 @@ module _ (t : List ℕ) (p a b c : ℕ) (A : Word t p a) (B : Word t (p + 4) b) 
   free-words = same_test (free_at t p) (all_ones a b c) free_all words-free
 
 module _ (t : List ℕ) (i a b c : ℕ) (A : Word t (slot_width * i) a) (B : Word t (slot_width * i + 4) b) (C : Word t (slot_width * i + 8) c) where
-  pub slot-free : all_ones a b c ≡ true → Free ≡ slot_at t i
+  pub slot-free : all_ones a b c ≡ true → None ≡ slot_at t i
   unfolding slot_at
-  slot-free h = sym (ap (λ (x : Bool). cond x Free (Holds (record_at t (slot_width * i)))) (free-words t (slot_width * i) a b c A B C ∙ h))
+  slot-free h = sym (ap (λ (x : Bool). cond x None (Some (record_at t (slot_width * i)))) (free-words t (slot_width * i) a b c A B C ∙ h))
 
   pub slot_held : (x y : ℤ) → x ≡ signed a → y ≡ signed b → all_ones a b c ≡ false
-      → Holds (record {
+      → Some (record {
         at = pt x y (get_or t (slot_width * i + 8) 0);
         d = get_or t
             (slot_width * i + 9) 0;
@@ -176,8 +174,8 @@ module _ (t : List ℕ) (i a b c : ℕ) (A : Word t (slot_width * i) a) (B : Wor
       }) ≡ slot_at t i
   unfolding slot_at record_at
   slot_held x y ea eb h =
-      let e : cond (free_at t (slot_width * i)) Free (Holds (record_at t (slot_width * i))) ≡ Holds (record_at t (slot_width * i)) = ap
-      (λ (z : Bool). cond z Free (Holds (record_at t (slot_width * i)))) (free-words t (slot_width * i) a b c A B C ∙ h) in
+      let e : cond (free_at t (slot_width * i)) None (Some (record_at t (slot_width * i))) ≡ Some (record_at t (slot_width * i)) = ap
+      (λ (z : Bool). cond z None (Some (record_at t (slot_width * i)))) (free-words t (slot_width * i) a b c A B C ∙ h) in
       rw (ea, eb, A.is, B.is) (sym e)
 
 -- ---- a record that is written in three parts
@@ -266,14 +264,14 @@ module _ (t : List ℕ) (i : ℕ) (r : Record) (room : slot_width * i + slot_wid
         (put_byte (slot_width * i + 4 + 3) 7 (omega arith) (omega arith))
         ∙ word_back (of_z w32 r.at.b) (Fits-of_z {w = w32} {z = r.at.b} w.b-fits).fits
 
-    pub put_same : slot_at (put_slot t i r) i ≡ Holds r
+    pub put_same : slot_at (put_slot t i r) i ≡ Some r
     unfolding slot_at record_at record_bytes
     put_same =
         let u = put_slot t i r in
         let ea : signed (word_at u (slot_width * i)) ≡ r.at.a = ap signed put_a ∙ to_z-of_z {w = w32} {z = r.at.a} w.a-fits in
         let eb : signed (word_at u (slot_width * i + 4)) ≡ r.at.b = ap signed put_b ∙ to_z-of_z {w = w32} {z = r.at.b} w.b-fits in
-        ap (λ (x : Bool). cond x Free (Holds (record_at u (slot_width * i)))) put-taken
-        ∙ ap Holds (λ k. record {
+        ap (λ (x : Bool). cond x None (Some (record_at u (slot_width * i)))) put-taken
+        ∙ ap Some (λ k. record {
           at = pt (ea k) (eb k) (put_byte (slot_width * i + 8) 8 refl (omega arith) k);
           d = put_byte (slot_width * i + 9) 9 refl (omega arith) k;
           k = put_byte (slot_width * i + 10) 10 refl (omega arith) k;
@@ -282,17 +280,17 @@ module _ (t : List ℕ) (i : ℕ) (r : Record) (room : slot_width * i + slot_wid
 
 -- ---- the count of free slots, slot by slot
 
-pub free-none : (f : ℕ → Slot) → 0 ≡ free_below f 0
+pub free-none : (f : ℕ → Option Record) → 0 ≡ free_below f 0
 unfolding free_below
 free-none f = refl
 
-pub free_more : (f : ℕ → Slot) (i : ℕ) {k b : ℕ} → k ≡ free_below f i → b ≡ is_free (f i) → k + b ≡ free_below f (i + 1)
+pub free_more : (f : ℕ → Option Record) (i : ℕ) {k b : ℕ} → k ≡ free_below f i → b ≡ is_free (f i) → k + b ≡ free_below f (i + 1)
 unfolding free_below
 free_more f i {k} {b} a c = let e : suc i ≡ i + 1 = omega arith in rw (a, c) (ap (free_below f) e)
 
 -- ---- a cleared table
 
-pub cleared-free : (l i : ℕ) → slot_width * i + slot_width ≤ l → slot_at (replicate l 255) i ≡ Free
+pub cleared-free : (l i : ℕ) → slot_width * i + slot_width ≤ l → slot_at (replicate l 255) i ≡ None
 unfolding slot_at free_at
 cleared-free l i h =
     let b : (c : ℕ) → c < slot_width

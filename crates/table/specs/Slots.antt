@@ -2,7 +2,7 @@
 -- `slot_width` · `Table t n` t is a table of n slots, `slots_of` how many, `lengths_fit` two tables of one length · `slot_at` what a slot holds, `put_slot` a
 -- slot written · `cleared_of` all free · `free_slots` their number.
 -- Assumes nothing.
-use Rattle.std.specs.Prelude.{◌≡◌, Bool, cond, ◌&&◌, List, [], ◌∷◌, ◌++◌, ℕ, zero, suc, ◌+◌, ◌*◌, ◌/◌, ◌%◌, ◌≤◌, eqb, leb, length, get_or, replicate, ℤ}
+use Rattle.std.specs.Prelude.{◌≡◌, Bool, cond, ◌&&◌, List, [], ◌∷◌, ◌++◌, ℕ, zero, suc, ◌+◌, ◌*◌, ◌/◌, ◌%◌, ◌≤◌, eqb, leb, length, get_or, replicate, ℤ, Option, Some, None}
 use Rattle.std.proofs.lemmas.List.Edits.{sets}
 use Rattle.std.specs.Int.{w32}
 use Rattle.std.proofs.Common.{to_z, of_z}
@@ -10,8 +10,6 @@ use Rattle.laws.specs.Words.{word_at, word_bytes}
 use Rattle.laws.specs.Rules.{upto}
 use Rattle.lattice.specs.Points.{pt}
 use Rattle.lattice.specs.declared.records.Record.{Record}
-use Rattle.table.specs.declared.slots.Slot.{Slot}
-use Rattle.table.specs.declared.slots.Slot.TheVariants.{Free, Holds}
 
 -- "12 bytes a slot"
 abbrev pub slot_width : ℕ
@@ -58,8 +56,8 @@ record_at t p =
     }
 
 -- what slot i holds
-unfoldable pub slot_at : List ℕ → ℕ → Slot
-slot_at t i = cond (free_at t (slot_width * i)) Free (Holds (record_at t (slot_width * i)))
+unfoldable pub slot_at : List ℕ → ℕ → Option Record
+slot_at t i = cond (free_at t (slot_width * i)) None (Some (record_at t (slot_width * i)))
 
 -- the bytes of a record
 unfoldable pub record_bytes : Record → List ℕ
@@ -74,12 +72,12 @@ abbrev pub cleared_of : List ℕ → List ℕ
 cleared_of t = replicate (length t) 255
 
 -- 1 for a free slot, 0 for one that holds a record
-abbrev pub is_free : Slot → ℕ
-is_free Free = 1
-is_free (Holds r) = 0
+abbrev pub is_free : Option Record → ℕ
+is_free None = 1
+is_free (Some r) = 0
 
 -- how many of the first k slots are free
-unfoldable pub free_below : (ℕ → Slot) → ℕ → ℕ
+unfoldable pub free_below : (ℕ → Option Record) → ℕ → ℕ
 free_below f zero = 0
 free_below f (suc k) = free_below f k + is_free (f k)
 

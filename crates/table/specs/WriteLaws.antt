@@ -3,7 +3,7 @@
 -- free one where the search for the record's point ended · `replaced-order`, `replaced-find`, `replaced-new`, `replaced-stands`, `replaced-old`,
 -- `replaced-free` it held a record of the same point.
 -- Assumes nothing.
-use Rattle.std.specs.Prelude.{◌≡◌, true, List, ℕ, ◌+◌, ◌*◌, ◌≤◌, ◌<◌, length}
+use Rattle.std.specs.Prelude.{◌≡◌, true, List, ℕ, ◌+◌, ◌*◌, ◌≤◌, ◌<◌, length, Some, None}
 use Rattle.std.proofs.Common.{sym, ◌∙◌, subst, arith}
 use Rattle.std.proofs.Math.Path.{ap}
 use Rattle.lattice.specs.Records.{valid_of}
@@ -17,7 +17,6 @@ use Rattle.table.specs.SlotLaws.{table-slots, table_same, put_same, put_other, p
 use Rattle.table.specs.OrderLaws.{slots-some, Ordered, order-slots, slots-order}
 use Rattle.table.specs.ChangeLaws.{Stands, enter-ordered, enter-new, enter-stands, enter-old, replace-ordered, replace-seek, replace-new}
 use Rattle.table.specs.ChangeLaws.{replace-stands, replace-old, count-change}
-use Rattle.table.specs.declared.slots.Slot.TheVariants.{Free, Holds}
 use Rattle.table.specs.declared.probe.Found.TheVariants as found
 
 -- record r stands in a slot of t
@@ -39,7 +38,7 @@ module _ (t : List ℕ) (o : InOrder t) (r : Record) (ok : valid_of r ≡ true) 
   slots_kept : slots_of written ≡ slots_of t
   slots_kept = ap slots_in (put-length t j r)
 
-  now-held : slot_at written j ≡ Holds r
+  now-held : slot_at written j ≡ Some r
   now-held = put_same t j r in_table (inside-fits r.at (valid-inside r ok))
 
   others-kept : (i : ℕ) → (i ≡ j → ⊥) → slot_at written i ≡ slot_at t i
@@ -87,7 +86,7 @@ module _ (t : List ℕ) (o : InOrder t) (r : Record) (ok : valid_of r ≡ true) 
         enter-old (slots_of t) (slots-some t (slots_of t) o.fits) (slot_at t)
         (slot_at written) j others-kept r now-held (order-slots t o) found-gap q ne (of-written q s)
 
-    pub entered-free : slot_at t j ≡ Free → free_slots written + 1 ≡ free_slots t
+    pub entered-free : slot_at t j ≡ None → free_slots written + 1 ≡ free_slots t
     entered-free fr =
         let a : is_free (slot_at t j) ≡ 1 = ap is_free fr in
         let b : is_free (slot_at written j) ≡ 0 = ap is_free now-held in
@@ -95,7 +94,7 @@ module _ (t : List ℕ) (o : InOrder t) (r : Record) (ok : valid_of r ≡ true) 
         omega arith
 
   -- a record replaced: slot j holds one of the same point
-  module _ (was : Record) (held : slot_at t j ≡ Holds was) (same : r.at ≡ was.at) where
+  module _ (was : Record) (held : slot_at t j ≡ Some was) (same : r.at ≡ was.at) where
     pub replaced-order : InOrder written
     replaced-order =
         in_order (replace-ordered (slots_of t) (slots-some t (slots_of t) o.fits) (slot_at t)

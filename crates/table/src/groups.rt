@@ -4,7 +4,7 @@ ghost use Rattle.lattice.specs.Points.{pt};
 ghost use Rattle.table.specs.Slots.{slot_width};
 ghost use Rattle.table.specs.Reading.{group, reads_as, NoneIn};
 
-use crate::bytes::{as_word, pair};
+use crate::bytes::pair;
 use crate::probe::first_words;
 use crate::slots::SLOT_WIDTH;
 
@@ -17,7 +17,7 @@ pub fn reads_as(t: &[u8], a: i32, b: i32, m: u8, i: usize) -> bool
     ensures { result ≡ reads_as t.now (pt a b m) i }
 {
     let s = SLOT_WIDTH * i;
-    (first_words(t, s) == pair(as_word(a), as_word(b))) & (t[s + 8] == m)
+    (first_words(t, s) == pair(a.cast_unsigned(), b.cast_unsigned())) & (t[s + 8] == m)
 }
 
 // Slot i where it begins with the words of a and b, else another. No branch: which slot a record stands in cannot be foreseen.
@@ -25,7 +25,7 @@ fn slot_if_begins(t: &[u8], a: i32, b: i32, i: usize, other: usize) -> usize
     requires { slot_width * i + slot_width ≤ length t.now }
     ensures { (result ≡ i → ⊥) → (result ≡ other) × NoneIn t.now a b i 1 }
 {
-    if first_words(t, SLOT_WIDTH * i) == pair(as_word(a), as_word(b)) {
+    if first_words(t, SLOT_WIDTH * i) == pair(a.cast_unsigned(), b.cast_unsigned()) {
         i
     } else {
         other
@@ -39,10 +39,8 @@ pub fn guess_in_group(t: &[u8], a: i32, b: i32, h: usize) -> usize
     ensures none_in { result ≡ h + group → NoneIn t.now a b h group }
 {
     let mut guess = h + GROUP;
-    let mut k = 0;
-    while k < GROUP {
+    for k in 0..GROUP {
         guess = slot_if_begins(t, a, b, h + k, guess);
-        k += 1;
     }
     guess
 }

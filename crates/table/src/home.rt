@@ -14,7 +14,7 @@ const OVER: i64 = 281474976710656;
 pub fn weight(a: i32, b: i32, m: u8) -> i64
     ensures { result ≡ weight_of a b m }
 {
-    7919 * (a as i64) + 104729 * (b as i64) + (m as i64)
+    7919 * i64::from(a) + 104729 * i64::from(b) + i64::from(m)
 }
 
 // What s leaves on division by n.
@@ -22,9 +22,7 @@ fn remainder(s: i64, n: usize) -> usize
     requires { (0 < n) × (n ≤ 65536) }
     ensures { (result ≡ mod_z s n) × (result < n) }
 {
-    let w = n as i64;
-    let r = s % w;
-    if r < 0 { (r + w) as usize } else { r as usize }
+    s.rem_euclid(n as i64) as usize
 }
 
 // The same for the most slots. A number that is not negative leaves its low bits there, which no division has to find.

@@ -1,5 +1,5 @@
 // Whether a table is in order.
-ghost use Rattle.std.specs.Prelude.{◌≡◌, true, ◌<◌};
+ghost use Rattle.std.specs.Prelude.{◌≡◌, true, false, ◌<◌, MatchOption};
 ghost use Rattle.table.specs.Slots.{Table, slot_at, free_slots};
 ghost use Rattle.table.specs.Reading.{run_on, run_before};
 ghost use Rattle.table.specs.Search.{home_of, meets, find_of};
@@ -10,18 +10,14 @@ ghost use Rattle.table.specs.Order.{is_at, placed_at, all_placed, in_order_of};
 use crate::groups::{GROUP, guess_in_group};
 use crate::home::home;
 use crate::probe::{Found, find_from};
-use crate::slots::{Slot, one_if_free, read_slot, slots_of};
+use crate::slots::{one_if_free, read_slot, slots_of};
 use lattice::{Point, valid};
 
 // The search ended at slot i.
 fn is_at(f: Found, i: usize) -> bool
     ensures { result ≡ is_at f i }
 {
-    match f {
-        Found::At(j) => j == i,
-        Found::Free(_) => false,
-        Found::Full => false,
-    }
+    matches!(f, Found::At(j) if j == i)
 }
 
 // How many slots in a row are taken, one slot more seen: none where it is free.
@@ -40,9 +36,10 @@ fn group_reaches(t: &[u8], p: Point, h: usize, i: usize, n: usize, run: usize) -
     ensures { result ≡ true → Reaches t.now p i }
 {
     if (h <= i) & (i <= h + run) & (i <= h + GROUP) & (GROUP <= i) {
-        return guess_in_group(t, p.a, p.b, i - GROUP) == i;
+        guess_in_group(t, p.a, p.b, i - GROUP) == i
+    } else {
+        false
     }
-    false
 }
 
 // The search for p ends at slot i, which holds it: where that is its home, nothing has to be looked at; where it is near, a group.
@@ -56,10 +53,7 @@ fn found_at(t: &[u8], p: Point, i: usize, n: usize, run: usize) -> bool
     if h == i {
         return true;
     }
-    if group_reaches(t, p, h, i, n, run) {
-        return true;
-    }
-    is_at(find_from(t, p, h, n), i)
+    group_reaches(t, p, h, i, n, run) || is_at(find_from(t, p, h, n), i)
 }
 
 // Slot i is free, or holds a valid record that the search for its point finds there.
@@ -68,56 +62,37 @@ fn placed(t: &[u8], i: usize, n: usize, run: usize) -> bool
     requires run_value { run ≡ run_before (slot_at t.now) i }
     ensures { result ≡ placed_at t.now i }
 {
-    let s = read_slot(t, i);
-    match s {
-        Slot::Free => true,
-        Slot::Holds(r) => {
-            if valid(r) {
-                let q = r.at;
-                found_at(t, q, i, n, run)
-            } else {
-                false
-            }
-        }
+    match read_slot(t, i) {
+        None => true,
+        Some(r) => valid(r) && found_at(t, r.at, i, n, run),
     }
 }
 
-// Whether bytes are a table in order, and if so how many slots are free.
-#[derive(Clone, Copy)]
-pub struct Ordered {
-    pub ok: bool,
-    pub free: usize,
-}
-
-// The same of a table of n slots, in one pass.
-fn free_placed(t: &[u8], n: usize) -> Ordered
+// How many slots are free in a table of n slots, where all are placed.
+fn free_placed(t: &[u8], n: usize) -> Option<usize>
     requires { Table t.now n }
-    ensures ok_value { result.ok ≡ all_placed t.now n }
-    ensures free_value { result.ok ≡ true → result.free ≡ free_slots t.now }
+    ensures { MatchOption result (all_placed t.now n ≡ false) (λ f. (all_placed t.now n ≡ true) × (f ≡ free_slots t.now)) }
 {
-    let mut i: usize = 0;
     let mut free = 0;
     let mut run = 0;
-    while i < n {
+    for i in 0..n {
         if !placed(t, i, n, run) {
-            return Ordered { ok: false, free: 0 };
+            return None;
         }
         let one = one_if_free(t, i);
         free += one;
         run = run_on(run, one);
-        i += 1;
     }
-    Ordered { ok: true, free }
+    Some(free)
 }
 
-// The same of any bytes.
-pub fn check_order(t: &[u8]) -> Ordered
-    ensures ok_value { result.ok ≡ in_order_of t.now }
-    ensures free_value { result.ok ≡ true → result.free ≡ free_slots t.now }
+// How many slots are free, where any bytes are a table in order; else none.
+pub fn check_order(t: &[u8]) -> Option<usize>
+    ensures { MatchOption result (in_order_of t.now ≡ false) (λ f. (in_order_of t.now ≡ true) × (f ≡ free_slots t.now)) }
 {
     let n = slots_of(t);
     if n == 0 {
-        return Ordered { ok: false, free: 0 };
+        return None;
     }
     free_placed(t, n)
 }
@@ -127,6 +102,5 @@ pub fn check_order(t: &[u8]) -> Ordered
 pub fn in_order(t: &[u8]) -> bool
     ensures { result ≡ in_order_of t.now }
 {
-    let checked = check_order(t);
-    checked.ok
+    check_order(t).is_some()
 }

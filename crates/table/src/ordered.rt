@@ -35,20 +35,18 @@ pub fn stands(t: &[u8], a: i32, b: i32, m: u8, n: usize) -> bool
 }
 
 // The slot of the record at a point as a request gives it, n where there is none. The slot guessed is asked first.
+// A number and no Option: `slot_found`, which the promise cites, is one.
 pub fn slot_by_guess(t: &[u8], a: i32, b: i32, m: u8, n: usize, guess: usize) -> usize
     requires table { Table t.now n }
     requires t_value { in_order_of t.now ≡ true }
     ensures { result ≡ slot_found n (find_of t.now (normal_of a b m)) }
 {
     let p = normalise(a, b, m);
-    if guess < n {
-        if reads_as(t, p.a, p.b, p.m.0, guess) & (p.m.0 < NO_DEPTH) {
-            return guess;
-        }
+    if guess < n && reads_as(t, p.a, p.b, p.m.0, guess) & (p.m.0 < NO_DEPTH) {
+        return guess;
     }
     match find(t, p, n) {
         Found::At(i) => i,
-        Found::Free(_) => n,
-        Found::Full => n,
+        Found::Free(_) | Found::Full => n,
     }
 }

@@ -5,13 +5,13 @@ ghost use Rattle.table.specs.Slots.{slot_width, Table, free_at, record_at, slot_
 ghost use Rattle.table.specs.Search.{same_point, meets, next, find_of};
 ghost use Rattle.table.specs.Told.{Reaches, Told};
 
-use crate::bytes::{as_word, pair, word};
+use crate::bytes::{pair, word};
 use crate::home::home;
-use crate::slots::{ONES, SLOT_WIDTH};
+use crate::slots::SLOT_WIDTH;
 use lattice::Point;
 
 // Eight bytes of 255.
-const TWO_ONES: u64 = 18446744073709551615;
+const TWO_ONES: u64 = u64::MAX;
 
 // Where a search ends: at the slot of its point, at a free slot, or nowhere, all slots being taken by others.
 #[derive(Clone, Copy)]
@@ -43,10 +43,7 @@ fn is_gap(t: &[u8], s: usize, first: u64) -> bool
     requires first { First t.now s first }
     ensures { result ≡ free_at t.now s }
 {
-    if first == TWO_ONES {
-        return word(t, s + 8) == ONES;
-    }
-    false
+    first == TWO_ONES && word(t, s + 8) == u32::MAX
 }
 
 // The record at byte s, which begins with `first`, is p's.
@@ -55,10 +52,7 @@ fn is_hit(t: &[u8], s: usize, first: u64, p: Point) -> bool
     requires first { First t.now s first }
     ensures { result ≡ same_point (record_at t.now s).at p }
 {
-    if first == pair(as_word(p.a), as_word(p.b)) {
-        return t[s + 8] == p.m.0;
-    }
-    false
+    first == pair(p.a.cast_unsigned(), p.b.cast_unsigned()) && t[s + 8] == p.m.0
 }
 
 // What a search for p meets in slot i. The first two words are compared at once, the rest only where they are what is looked for.
@@ -69,12 +63,12 @@ fn look(t: &[u8], i: usize, p: Point) -> Meet
     let s = SLOT_WIDTH * i;
     let first = first_words(t, s);
     if is_gap(t, s, first) {
-        return Meet::Gap;
+        Meet::Gap
+    } else if is_hit(t, s, first, p) {
+        Meet::Hit
+    } else {
+        Meet::Other
     }
-    if is_hit(t, s, first, p) {
-        return Meet::Hit;
-    }
-    Meet::Other
 }
 
 // The slot after i, wrapping.
@@ -87,6 +81,7 @@ fn after(n: usize, i: usize) -> usize
 }
 
 // The search for p, which comes as far as slot `start`, gone on with from there: once round the table, to the point or the first free slot.
+// A loop, and no `for`: it yields where it ends, and its slots wrap.
 pub fn find_from(t: &[u8], p: Point, start: usize, n: usize) -> Found
     requires { Table t.now n × Reaches t.now p start }
     ensures value { result ≡ find_of t.now p }
@@ -114,6 +109,5 @@ pub fn find(t: &[u8], p: Point, n: usize) -> Found
     ensures value { result ≡ find_of t.now p }
     ensures told { Told t.now p result }
 {
-    let h = home(p, n);
-    find_from(t, p, h, n)
+    find_from(t, p, home(p, n), n)
 }

@@ -3,15 +3,8 @@ ghost use Rattle.std.specs.Prelude.{◌≡◌, ◌+◌, ◌*◌, ◌≤◌, ◌<
 ghost use Rattle.table.specs.Slots.{slot_width, slots_of, slot_at, put_slot, cleared_of, is_free};
 ghost use Rattle.table.specs.Reading.{all_ones};
 
-use crate::bytes::{as_signed, as_word, put_bytes, put_word, word};
+use crate::bytes::{put_bytes, put_word, word};
 use lattice::{Depth, Level, Point, Record};
-
-// What a slot holds.
-#[derive(Clone, Copy)]
-pub enum Slot {
-    Free,
-    Holds(Record),
-}
 
 // The bytes of a slot, and how many slots a table may have.
 pub const SLOT_WIDTH: usize = 12;
@@ -20,36 +13,28 @@ const FEWEST: usize = 16;
 
 pub const MOST: usize = 65536;
 
-// Four bytes of 255.
-pub const ONES: u32 = 4294967295;
-
-// The number of slots, or 0 where the length doesn't fit.
+// The number of slots, or 0 where the length doesn't fit: a number and no Option, since what the C interface promises counts the slots of any bytes.
+#[tactic(auto, unfolding(crate::specs::Slots::slots_in))]
 pub fn slots_of(t: &[u8]) -> usize
     ensures { result ≡ slots_of t.now }
 {
-    let l = t.len();
-    let n = l / SLOT_WIDTH;
-    if l % SLOT_WIDTH != 0 {
-        return 0;
+    let n = t.len() / SLOT_WIDTH;
+    if (t.len() % SLOT_WIDTH == 0) & (FEWEST <= n) & (n <= MOST) {
+        n
+    } else {
+        0
     }
-    if n < FEWEST {
-        return 0;
-    }
-    if MOST < n {
-        return 0;
-    }
-    n
 }
 
 // Three words of ones: twelve bytes of 255.
 fn all_ones(a: u32, b: u32, c: u32) -> bool
     ensures { result ≡ all_ones a b c }
 {
-    (a == ONES) & (b == ONES) & (c == ONES)
+    (a == u32::MAX) & (b == u32::MAX) & (c == u32::MAX)
 }
 
 // What slot i holds.
-pub fn read_slot(t: &[u8], i: usize) -> Slot
+pub fn read_slot(t: &[u8], i: usize) -> Option<Record>
     requires { slot_width * i + slot_width ≤ length t.now }
     ensures { result ≡ slot_at t.now i }
 {
@@ -58,23 +43,17 @@ pub fn read_slot(t: &[u8], i: usize) -> Slot
     let b = word(t, p + 4);
     let c = word(t, p + 8);
     if all_ones(a, b, c) {
-        return Slot::Free;
+        return None;
     }
-    let m = t[p + 8];
-    let d = t[p + 9];
-    let k = t[p + 10];
-    let n = t[p + 11];
-    let za = as_signed(a);
-    let zb = as_signed(b);
-    Slot::Holds(Record {
+    Some(Record {
         at: Point {
-            a: za,
-            b: zb,
-            m: Depth(m),
+            a: a.cast_signed(),
+            b: b.cast_signed(),
+            m: Depth(t[p + 8]),
         },
-        d: d,
-        k: k,
-        n: Level(n),
+        d: t[p + 9],
+        k: t[p + 10],
+        n: Level(t[p + 11]),
     })
 }
 
@@ -84,23 +63,16 @@ pub fn write_slot(t: &mut [u8], i: usize, r: Record)
     ensures { t.new ≡ put_slot t.old i r }
 {
     let p = SLOT_WIDTH * i;
-    let q = r.at;
-    let m = q.m.0;
-    let n = r.n.0;
-    put_word(t, p, as_word(q.a));
-    put_word(t, p + 4, as_word(q.b));
-    put_bytes(t, p + 8, m, r.d, r.k, n);
+    put_word(t, p, r.at.a.cast_unsigned());
+    put_word(t, p + 4, r.at.b.cast_unsigned());
+    put_bytes(t, p + 8, [r.at.m.0, r.d, r.k, r.n.0]);
 }
 
 // Clears a table: every byte becomes 255, so every slot is free.
 pub fn clear(t: &mut [u8])
     ensures { t.new ≡ cleared_of t.old }
 {
-    let mut i = 0;
-    while i < t.len() {
-        t[i] = 255;
-        i += 1;
-    }
+    t.fill(255);
 }
 
 // Copies one table over another of the same length.
@@ -108,11 +80,7 @@ pub fn copy(from: &[u8], to: &mut [u8])
     requires { length to.old ≡ length from.now }
     ensures { to.new ≡ from.now }
 {
-    let mut i = 0;
-    while i < from.len() {
-        to[i] = from[i];
-        i += 1;
-    }
+    to.copy_from_slice(from);
 }
 
 // 1 where slot i is free, else 0.
@@ -120,9 +88,5 @@ pub fn one_if_free(t: &[u8], i: usize) -> usize
     requires { slot_width * i + slot_width ≤ length t.now }
     ensures { (result ≡ is_free (slot_at t.now i)) × (result ≤ 1) }
 {
-    let s = read_slot(t, i);
-    match s {
-        Slot::Free => 1,
-        Slot::Holds(_) => 0,
-    }
+    usize::from(matches!(read_slot(t, i), None))
 }

@@ -6,25 +6,26 @@
 // The promises cite specs/Count and together's specs/Tally.
 #![tactic(auto)]
 
-ghost use Rattle.std.specs.Prelude.{◌≡◌, cond, ◌≤◌, ◌<◌, nat_abs, ◌+ℤ◌};
+ghost use Rattle.std.specs.Prelude.{◌≡◌, ◌≤◌, ◌<◌, nat_abs, ◌+ℤ◌};
 ghost use Rattle.lattice.specs.Bounds.{Small};
 ghost use Rattle.lattice.specs.Points.{pt};
-ghost use Rattle.table.specs.Slots.{slots_of, slot_at};
+ghost use Rattle.table.specs.Slots.{slots_of};
 ghost use Rattle.table.specs.Order.{InOrder};
 ghost use Rattle.table.specs.Entries.{holds};
 ghost use Rattle.mesh.specs.Grown.{Grown};
 ghost use Rattle.firsts.specs.Faces.{bit};
-ghost use Rattle.firsts.specs.Earlier.{slot_sum, plain_of};
+ghost use Rattle.firsts.specs.Earlier.{plain_of};
 ghost use Rattle.counts.specs.Counts.{counts_of};
-ghost use Rattle.together.specs.Tally.{is_centre, on_ground, besides_at, hexagons_in, ground_in, pairs_in};
+ghost use Rattle.together.specs.Tally.{is_centre, besides_at, hexagons_in, ground_in, pairs_in};
+ghost use Rattle.tally.specs.Count as slot;
 
 mod rows;
 
-use counts::{Counts, Surveyed, count_degrees, one_if, survey};
+use counts::{Counts, Surveyed, count_degrees, survey};
 use lattice::{Depth, Point, class};
 use local::all_pass;
-pub use rows::{COUNTS, count};
-use table::{Slot, is_there, read_slot};
+pub use rows::{COUNTS, count, row};
+use table::{is_there, read_slot};
 
 // What the slots of a table add up to: hexagons by their centres, vertices of depth 0, pairs of hexagons side by side.
 #[derive(Clone, Copy)]
@@ -37,10 +38,7 @@ struct Sums {
 fn is_centre(p: Point) -> bool
     ensures { result ≡ is_centre p }
 {
-    if p.m.0 != 0 {
-        return false;
-    }
-    class(p) == 0
+    p.m.0 == 0 && class(p) == 0
 }
 
 // 1 where a record stands at [a + x, b + y, 0], p being [a, b, 0], else 0.
@@ -54,7 +52,7 @@ fn beside(t: &[u8], p: Point, x: i32, y: i32, n: usize) -> u32
         b: p.b + y,
         m: Depth(0),
     };
-    one_if(is_there(t, q, n))
+    u32::from(is_there(t, q, n))
 }
 
 // How many of three hexagons side by side with that of p the table has: of the two of a pair, one has the other there.
@@ -65,41 +63,28 @@ fn besides(t: &[u8], p: Point, n: usize) -> u32
     beside(t, p, 1, 1, n) + beside(t, p, -2, 1, n) + beside(t, p, 1, -2, n)
 }
 
-// Of a centre in slot k, how many of them there are.
-fn pairs_in(t: &[u8], k: usize, n: usize) -> u32
+// What slot k adds to each.
+fn sums_in(t: &[u8], k: usize, n: usize) -> Sums
     requires { InOrder t.now × ((n ≡ slots_of t.now) × (k < n)) }
-    ensures { (result ≡ slot_sum (λ v. cond (is_centre v.at) (besides_at t.now v.at) 0) (slot_at t.now k)) × (result ≤ 3) }
+    ensures hexagons { (result.hexagons ≡ slot.hexagon_at t.now k) × (result.hexagons ≤ 1) }
+    ensures ground { (result.ground ≡ slot.ground_at t.now k) × (result.ground ≤ 1) }
+    ensures pairs { (result.pairs ≡ slot.pairs_at t.now k) × (result.pairs ≤ 3) }
 {
     match read_slot(t, k) {
-        Slot::Free => 0,
-        Slot::Holds(v) => {
-            if is_centre(v.at) {
-                return besides(t, v.at, n);
+        None => Sums {
+            hexagons: 0,
+            ground: 0,
+            pairs: 0,
+        },
+        Some(v) => {
+            let centre = is_centre(v.at);
+            let pairs = if centre { besides(t, v.at, n) } else { 0 };
+            Sums {
+                hexagons: u32::from(centre),
+                ground: u32::from(v.at.m.0 == 0),
+                pairs,
             }
-            0
         }
-    }
-}
-
-// 1 where a centre is in slot k, else 0.
-fn hexagon_in(t: &[u8], k: usize, n: usize) -> u32
-    requires { InOrder t.now × ((n ≡ slots_of t.now) × (k < n)) }
-    ensures { (result ≡ slot_sum (λ v. bit (is_centre v.at)) (slot_at t.now k)) × (result ≤ 1) }
-{
-    match read_slot(t, k) {
-        Slot::Free => 0,
-        Slot::Holds(v) => one_if(is_centre(v.at)),
-    }
-}
-
-// 1 where a vertex of depth 0 is in slot k, else 0.
-fn ground_in(t: &[u8], k: usize, n: usize) -> u32
-    requires { InOrder t.now × ((n ≡ slots_of t.now) × (k < n)) }
-    ensures { (result ≡ slot_sum (λ v. bit (on_ground v.at)) (slot_at t.now k)) × (result ≤ 1) }
-{
-    match read_slot(t, k) {
-        Slot::Free => 0,
-        Slot::Holds(v) => one_if(v.at.m.0 == 0),
     }
 }
 
@@ -113,12 +98,11 @@ fn summed(t: &[u8], n: usize) -> Sums
     let mut hexagons = 0;
     let mut ground = 0;
     let mut pairs = 0;
-    let mut k = 0;
-    while k < n {
-        hexagons += hexagon_in(t, k, n);
-        ground += ground_in(t, k, n);
-        pairs += pairs_in(t, k, n);
-        k += 1;
+    for k in 0..n {
+        let s = sums_in(t, k, n);
+        hexagons += s.hexagons;
+        ground += s.ground;
+        pairs += s.pairs;
     }
     Sums {
         hexagons,

@@ -1,19 +1,13 @@
 -- Document 01, "Files": a record's line. What the promises cite: `line_of` the line of a record, `lines` those of several, `line_at` the line at a
 -- position of any bytes. `point_text`, `star_text` its halves, as written · `place_at`, `star_at`, `spelled_at` the same as read, valid or not.
 -- Assumes nothing.
-use Rattle.std.specs.Prelude.{cond, List, [], ◌∷◌, ◌++◌, ℕ, leb, ℤ, length}
+use Rattle.std.specs.Prelude.{cond, List, [], ◌∷◌, ◌++◌, ℕ, leb, length, Option, Some, None}
 use Rattle.lattice.specs.Points.{pt}
 use Rattle.lattice.specs.Records.{valid_of}
 use Rattle.lattice.specs.declared.points.Point.{Point}
 use Rattle.lattice.specs.declared.records.Record.{Record}
 use Rattle.text.specs.Decimal.{digits, numeral, ended, tab, feed}
 use Rattle.text.specs.Reading.{number_at, signed_at}
-use Rattle.text.specs.declared.decimal.Number.{Number}
-use Rattle.text.specs.declared.decimal.Number.TheVariants.{Natural, NoNumber}
-use Rattle.text.specs.declared.decimal.Signed.{Signed}
-use Rattle.text.specs.declared.decimal.Signed.TheVariants.{Whole, NoWhole}
-use Rattle.text.specs.declared.line.Place.{Place}
-use Rattle.text.specs.declared.line.Place.TheVariants.{At, Nowhere}
 use Rattle.text.specs.declared.line.Line.{Line}
 use Rattle.text.specs.declared.line.Line.TheVariants.{Good, Bad, End}
 
@@ -46,42 +40,39 @@ far = 9999999
 abbrev pub near : ℕ
 near = 255
 
--- what a field and the position past it make, in order; `none` where there is no such field
-abbrev pub on_number : {X : Type 0} → Number → X → (ℕ → ℕ → X) → X
-on_number NoNumber none f = none
-on_number (Natural n q) none f = f n q
-
-abbrev pub on_signed : {X : Type 0} → Signed → X → (ℤ → ℕ → X) → X
-on_signed NoWhole none f = none
-on_signed (Whole z q) none f = f z q
-
-abbrev pub on_place : {X : Type 0} → Place → X → (Point → ℕ → X) → X
-on_place Nowhere none f = none
-on_place (At p q) none f = f p q
+-- what a part and the position past it make, in order; `none` where there is no such part
+abbrev pub on_read : {A X : Type 0} → Option (A × ℕ) → X → (A → ℕ → X) → X
+on_read None none f = none
+on_read (Some (a, q)) none f = f a q
 
 -- a, b and m, each ended by a tab
-unfoldable pub place_at : List ℕ → ℕ → Place
+unfoldable pub place_at : List ℕ → ℕ → Option (Point × ℕ)
 place_at t p =
-    on_signed (signed_at t p far tab) Nowhere λ a past-a.
-    on_signed (signed_at t past-a far tab) Nowhere λ b past-b.
-    on_number (number_at t past-b near tab) Nowhere λ m past-m.
-    At (pt a b m) past-m
+    on_read (signed_at t p far tab) None λ a past-a.
+    on_read (signed_at t past-a far tab) None λ b past-b.
+    on_read (number_at t past-b near tab) None λ m past-m.
+    Some (pt a b m, past-m)
 
 -- the record of the vertex at p
 abbrev pub rec : Point → ℕ → ℕ → ℕ → Record
 rec p d k n = record { at = p; d = d; k = k; n = record { 0 = n } }
 
 -- d and k, each ended by a tab, and n, ended by the line feed
-unfoldable pub star_at : List ℕ → ℕ → Point → Line
+unfoldable pub star_at : List ℕ → ℕ → Point → Option (Record × ℕ)
 star_at t q p =
-    on_number (number_at t q near tab) Bad λ d past-d.
-    on_number (number_at t past-d near tab) Bad λ k past-k.
-    on_number (number_at t past-k near feed) Bad λ n next.
-    Good (rec p d k n) next
+    on_read (number_at t q near tab) None λ d past-d.
+    on_read (number_at t past-d near tab) None λ k past-k.
+    on_read (number_at t past-k near feed) None λ n next.
+    Some (rec p d k n, next)
+
+-- within a file a record stands, or no line of one
+abbrev pub good_or_bad : Option (Record × ℕ) → Line
+good_or_bad None = Bad
+good_or_bad (Some (r, next)) = Good r next
 
 -- the line at p, its record valid or not
 unfoldable pub spelled_at : List ℕ → ℕ → Line
-spelled_at t p = cond (leb (length t) p) End (on_place (place_at t p) Bad λ at past-m. star_at t past-m at)
+spelled_at t p = cond (leb (length t) p) End (good_or_bad (on_read (place_at t p) None λ at past-m. star_at t past-m at))
 
 -- "record not valid"
 abbrev pub judged : Line → Line

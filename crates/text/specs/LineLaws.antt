@@ -3,35 +3,28 @@
 -- is Bad, `line-end` the end of the file. `line-next` how far a line goes · `lines_join`, `lines_next` the lines of several records, one after the
 -- other.
 -- Assumes nothing.
-use Rattle.std.specs.Prelude.{◌≡◌, Bool, true, false, cond, List, [], ◌∷◌, ◌++◌, ℕ, ◌+◌, ◌≤◌, ◌<◌, leb, ℤ, nat_abs, length, drop}
+use Rattle.std.specs.Prelude.{◌≡◌, Bool, true, false, cond, List, [], ◌∷◌, ◌++◌, ℕ, ◌+◌, ◌≤◌, ◌<◌, leb, nat_abs, length, drop, Option, Some, None}
 use Rattle.std.proofs.Math.Path.{refl, subst, ap}
 use Rattle.std.proofs.Common.{sym, ◌∙◌, append_assoc, arith, le-leb, length-append, length-drop}
 use Rattle.std.proofs.lemmas.Bool.{lt-leb}
 use Rattle.std.proofs.Math.Seq.{drop-append_seam}
 use Rattle.laws.specs.Each.{never}
-use Rattle.lattice.specs.Points.{pt}
 use Rattle.lattice.specs.Records.{valid_of}
 use Rattle.lattice.specs.declared.points.Point.{Point}
 use Rattle.lattice.specs.declared.records.Record.{Record}
 use Rattle.text.specs.Decimal.{digits, numeral, ended, tab, feed}
 use Rattle.text.specs.Reading.{number_at, signed_at}
-use Rattle.text.specs.Line.{point_text, star_text, line_of, lines, far, near, on_number, on_signed, on_place, place_at, star_at, spelled_at, judged, line_at, rec}
-use Rattle.text.specs.ReadingLaws.{Stands, stands_at, stands-join, stands-first, stands-then, number_read, number-write, signed-read, signed-write}
+use Rattle.text.specs.Line.{point_text, star_text, line_of, lines, far, near, on_read, place_at, star_at, good_or_bad, spelled_at, judged, line_at, rec}
+use Rattle.text.specs.ReadingLaws.{Stands, stands_at, stands-join, stands-first, stands-then, number_read, number-write, signed-read, signed-write, read-is}
 use Rattle.text.specs.Near.{Near, valid-near}
 use Rattle.text.specs.LineLengths.{line-least}
-use Rattle.text.specs.declared.decimal.Number.{Number}
-use Rattle.text.specs.declared.decimal.Number.TheVariants.{Natural, NoNumber}
-use Rattle.text.specs.declared.decimal.Signed.{Signed}
-use Rattle.text.specs.declared.decimal.Signed.TheVariants.{Whole, NoWhole}
-use Rattle.text.specs.declared.line.Place.{Place}
-use Rattle.text.specs.declared.line.Place.TheVariants.{At, Nowhere}
 use Rattle.text.specs.declared.line.Line.{Line}
 use Rattle.text.specs.declared.line.Line.TheVariants.{Good, Bad, End}
 
 -- ---- a written line parses
 
 pub place-write : (t : List ℕ) (p q : ℕ) (x : Point) → nat_abs x.a ≤ far → nat_abs x.b ≤ far → x.m.0 ≤ near → Stands t p (point_text x) q
-    → place_at t p ≡ At x q
+    → place_at t p ≡ Some (x, q)
 unfolding place_at point_text
 place-write t p q x ha hb hm s =
     let ta = ended (numeral x.a) tab in
@@ -48,7 +41,7 @@ place-write t p q x ha hb hm s =
     )
 
 pub star-write : (t : List ℕ) (p q : ℕ) (x : Point) (d k n : ℕ) → d ≤ near → k ≤ near → n ≤ near → Stands t p (star_text d k n) q
-    → star_at t p x ≡ Good (rec x d k n) q
+    → star_at t p x ≡ Some (rec x d k n, q)
 unfolding star_at star_text
 star-write t p q x d k n hd hk hn s =
     let td = ended (digits d) tab in
@@ -77,8 +70,8 @@ spelled-write t p q r h s =
       lt-leb (length t) p within,
       place-write t p (p + length tp) r.at (omega (arith, h.a)) (omega (arith, h.b)) (omega (arith, h.m))
           (stands-first tp ts s),
+      star-write t (p + length tp) q r.at r.d r.k r.n.0 (omega (arith, h.d)) (omega (arith, h.k)) (omega (arith, h.n)) (stands-then tp ts s),
     )
-    (star-write t (p + length tp) q r.at r.d r.k r.n.0 (omega (arith, h.d)) (omega (arith, h.k)) (omega (arith, h.n)) (stands-then tp ts s))
 
 -- the line of a valid record at p parses to it
 pub line_write : (t : List ℕ) (p q : ℕ) (r : Record) → valid_of r ≡ true → Stands t p (line_of r) q → line_at t p ≡ Good r q
@@ -86,12 +79,6 @@ unfolding line_at
 line_write t p q r v s = rw (spelled-write t p q r (valid-near r v) s, v)
 
 -- ---- only a written line parses
-
-place_is : {x y : Point} {p q : ℕ} → At x p ≡ At y q → (x ≡ y) × (p ≡ q)
-place_is e = (cc, cc)
-
-nowhere : {X : Type 0} {y : Point} {q : ℕ} → Nowhere ≡ At y q → X
-nowhere e = absurd (let z : ◌≡◌ {A = ℕ} 0 1 = cc in omega arith)
 
 good-is : {r s : Record} {p q : ℕ} → Good r p ≡ Good s q → (r ≡ s) × (p ≡ q)
 good-is e = (cc, cc)
@@ -102,80 +89,50 @@ not-bad e = absurd (let z : ◌≡◌ {A = ℕ} 0 1 = cc in omega arith)
 not_end : {X : Type 0} {r : Record} {q : ℕ} → End ≡ Good r q → X
 not_end e = absurd (let z : ◌≡◌ {A = ℕ} 0 1 = cc in omega arith)
 
--- a point is read field by field: what is left of it behind a and b, behind a, and at its start
-abbrev with_m : ℤ → ℤ → Number → Place
-with_m a b n = on_number n Nowhere (λ m past. At (pt a b m) past)
+-- what was read of a part and what is behind it: the part was
+read-some : {A X : Type 0} (o : Option (A × ℕ)) (f : A → ℕ → Option X) (r : X) → on_read o None f ≡ Some r
+    → (a : A) × (q : ℕ) × (o ≡ Some (a, q)) × (f a q ≡ Some r)
+read-some None f r e = absurd (cc)
+read-some (Some (a, q)) f r e = (a, q, refl, e)
 
-abbrev with_b : List ℕ → ℤ → Signed → Place
-with_b t a s = on_signed s Nowhere (λ b past. with_m a b (number_at t past near tab))
+pub place_read : (t : List ℕ) (p q : ℕ) (x : Point) → place_at t p ≡ Some (x, q) → Stands t p (point_text x) q
+unfolding place_at point_text
+place_read t p q x h =
+    let (a, past-a, ea, ha) = read-some (signed_at t p far tab) _ _ h in
+    let (b, past-b, eb, hb) = read-some (signed_at t past-a far tab) _ _ ha in
+    let (m, past-m, em, hm) = read-some (number_at t past-b near tab) _ _ hb in
+    let w = read-is hm in
+    let sm = subst (Stands t past-b (ended (digits m) tab)) w.1 (number_read t past-b near tab m past-m em) in
+    let sb = stands-join (signed-read t past-a far tab b past-b eb).0 sm in
+    subst (λ (y : Point). Stands t p (point_text y) q) w.0 (stands-join (signed-read t p far tab a past-a ea).0 sb)
 
-abbrev with_a : List ℕ → Signed → Place
-with_a t s = on_signed s Nowhere (λ a past. with_b t a (signed_at t past far tab))
+star_read : (t : List ℕ) (p q : ℕ) (x : Point) (s : Record) → star_at t p x ≡ Some (s, q) → (x ≡ s.at) × Stands t p (star_text s.d s.k s.n.0) q
+unfolding star_at star_text
+star_read t p q x s h =
+    let (d, past-d, ed, hd) = read-some (number_at t p near tab) _ _ h in
+    let (k, past-k, ek, hk) = read-some (number_at t past-d near tab) _ _ hd in
+    let (n, next, en, hn) = read-some (number_at t past-k near feed) _ _ hk in
+    let w = read-is hn in
+    let sn = subst (Stands t past-k (ended (digits n) feed)) w.1 (number_read t past-k near feed n next en) in
+    let sk = stands-join (number_read t past-d near tab k past-k ek) sn in (
+      ap (λ (y : Record). y.at) w.0,
+      subst (λ (y : Record). Stands t p (star_text y.d y.k y.n.0) q) w.0 (stands-join (number_read t p near tab d past-d ed) sk),
+    )
 
-module _ (t : List ℕ) (x : Point) (q : ℕ) where
-  m-read : (a b : ℤ) (p : ℕ) (n : Number) → number_at t p near tab ≡ n → with_m a b n ≡ At x q → (m : ℕ) × (pt a b m ≡ x) × Stands t p (ended (digits m) tab) q
-  m-read a b p NoNumber e h = nowhere h
-  m-read a b p (Natural m r) e h = let w = place_is h in (m, w.0, subst (Stands t p (ended (digits m) tab)) w.1 (number_read t p near tab m r e))
-
-  b-read : (a : ℤ) (p : ℕ) (s : Signed) → signed_at t p far tab ≡ s → with_b t a s ≡ At x q
-      → (b : ℤ) × (m : ℕ) × (pt a b m ≡ x) × Stands t p (ended (numeral b) tab ++ ended (digits m) tab) q
-  b-read a p NoWhole e h = nowhere h
-  b-read a p (Whole b r) e h =
-      let w = m-read a b r (number_at t r near tab) refl h in
-      (b, w.0, w.1, stands-join (signed-read t p far tab b r e).0 w.2)
-
-  a_read : (p : ℕ) (s : Signed) → signed_at t p far tab ≡ s → with_a t s ≡ At x q → Stands t p (point_text x) q
-  unfolding point_text
-  a_read p NoWhole e h = nowhere h
-  a_read p (Whole a r) e h =
-      let w = b-read a r (signed_at t r far tab) refl h in
-      subst (λ (y : Point). Stands t p (point_text y) q) w.2 (stands-join (signed-read t p far tab a r e).0 w.3)
-
-pub place_read : (t : List ℕ) (p q : ℕ) (x : Point) → place_at t p ≡ At x q → Stands t p (point_text x) q
-unfolding place_at
-place_read t p q x h = a_read t x q p (signed_at t p far tab) refl h
-
--- and so is the rest of a line, behind d and k, behind d, and at its start
-abbrev with_n : Point → ℕ → ℕ → Number → Line
-with_n x d k v = on_number v Bad (λ n next. Good (rec x d k n) next)
-
-abbrev with_k : List ℕ → Point → ℕ → Number → Line
-with_k t x d v = on_number v Bad (λ k past. with_n x d k (number_at t past near feed))
-
-abbrev with_d : List ℕ → Point → Number → Line
-with_d t x v = on_number v Bad (λ d past. with_k t x d (number_at t past near tab))
-
-module _ (t : List ℕ) (x : Point) (s : Record) (q : ℕ) where
-  n-read : (d k p : ℕ) (v : Number) → number_at t p near feed ≡ v → with_n x d k v ≡ Good s q → (n : ℕ) × (rec x d k n ≡ s) × Stands t p (ended (digits n) feed) q
-  n-read d k p NoNumber e h = not-bad h
-  n-read d k p (Natural n r) e h = let w = good-is h in (n, w.0, subst (Stands t p (ended (digits n) feed)) w.1 (number_read t p near feed n r e))
-
-  k-read : (d p : ℕ) (v : Number) → number_at t p near tab ≡ v → with_k t x d v ≡ Good s q
-      → (k : ℕ) × (n : ℕ) × (rec x d k n ≡ s) × Stands t p (ended (digits k) tab ++ ended (digits n) feed) q
-  k-read d p NoNumber e h = not-bad h
-  k-read d p (Natural k r) e h =
-      let w = n-read d k r (number_at t r near feed) refl h in
-      (k, w.0, w.1, stands-join (number_read t p near tab k r e) w.2)
-
-  d-read : (p : ℕ) (v : Number) → number_at t p near tab ≡ v → with_d t x v ≡ Good s q → (x ≡ s.at) × Stands t p (star_text s.d s.k s.n.0) q
-  unfolding star_text
-  d-read p NoNumber e h = not-bad h
-  d-read p (Natural d r) e h =
-      let w = k-read d r (number_at t r near tab) refl h in (
-        ap (λ (y : Record). y.at) w.2,
-        subst (λ (y : Record). Stands t p (star_text y.d y.k y.n.0) q) w.2 (stands-join (number_read t p near tab d r e) w.3),
-      )
+good-some : (o : Option (Record × ℕ)) (r : Record) (q : ℕ) → good_or_bad o ≡ Good r q → o ≡ Some (r, q)
+good-some None r q e = not-bad e
+good-some (Some (s, k)) r q e = let w = good-is e in λ i. Some (w.0 i, w.1 i)
 
 pub spelled-read : (t : List ℕ) (p q : ℕ) (r : Record) → spelled_at t p ≡ Good r q → Stands t p (line_of r) q
-unfolding spelled_at star_at line_of
-spelled-read t p q r = go (leb (length t) p) (place_at t p) refl
+unfolding spelled_at line_of
+spelled-read t p q r = go (leb (length t) p)
   where
-    go : (b : Bool) (x : Place) → place_at t p ≡ x → cond b End (on_place x Bad (λ at past. star_at t past at)) ≡ Good r q → Stands t p (line_of r) q
-    go true x e h = not_end h
-    go false Nowhere e h = not-bad h
-    go false (At x past) e h =
-        let w = d-read t x r q past (number_at t past near tab) refl h in
-        stands-join (subst (λ (y : Point). Stands t p (point_text y) past) w.0 (place_read t p past x e)) w.1
+    go : (b : Bool) → cond b End (good_or_bad (on_read (place_at t p) None λ at past. star_at t past at)) ≡ Good r q → Stands t p (line_of r) q
+    go true h = not_end h
+    go false h =
+        let (x, past, ex, hx) = read-some (place_at t p) _ _ (good-some _ r q h) in
+        let w = star_read t past q x r hx in
+        stands-join (subst (λ (y : Point). Stands t p (point_text y) past) w.0 (place_read t p past x ex)) w.1
 
 -- what parses is valid, and its line stands there
 pub line_read_lem : (t : List ℕ) (p q : ℕ) (r : Record) → line_at t p ≡ Good r q → (valid_of r ≡ true) × Stands t p (line_of r) q
@@ -230,18 +187,10 @@ over End = true
 over Bad = false
 over (Good r q) = false
 
-on-over : (f : ℕ → ℕ → Line) → ((n q : ℕ) → over (f n q) ≡ false) → (v : Number) → over (on_number v Bad f) ≡ false
+good-over : (o : Option (Record × ℕ)) → over (good_or_bad o) ≡ false
 unfolding over
-on-over f h NoNumber = refl
-on-over f h (Natural n q) = h n q
-
-star-over : (t : List ℕ) (p : ℕ) (x : Point) → over (star_at t p x) ≡ false
-unfolding star_at over
-star-over t p x =
-    on-over (λ d past-d. with_k t x d (number_at t past-d near tab))
-    (λ d past-d. on-over (λ k past-k. with_n x d k (number_at t past-k near feed))
-    (λ k past-k. on-over (λ n next. Good (rec x d k n) next) (λ n next. refl) (number_at t past-k near feed)) (number_at t past-d near tab))
-    (number_at t p near tab)
+good-over None = refl
+good-over (Some (r, q)) = refl
 
 judged-over : (l : Line) → over l ≡ false → over (judged l) ≡ false
 unfolding over
@@ -256,11 +205,7 @@ judged-over (Good r q) h = go (valid_of r)
 -- a position within the file is not its end
 line-over : (t : List ℕ) (p : ℕ) → p < length t → over (line_at t p) ≡ false
 unfolding line_at spelled_at over
-line-over t p h = judged-over (spelled_at t p) (rw (lt-leb (length t) p h) (go (place_at t p)))
-  where
-    go : (x : Place) → over (on_place x Bad (λ at past. star_at t past at)) ≡ false
-    go Nowhere = refl
-    go (At x past) = star-over t past x
+line-over t p h = judged-over (spelled_at t p) (rw (lt-leb (length t) p h) (good-over (on_read (place_at t p) None λ at past. star_at t past at)))
 
 -- within the file, where no valid record's line stands
 pub line-bad : (t : List ℕ) (p : ℕ) → p < length t → ((r : Record) (q : ℕ) → valid_of r ≡ true → Stands t p (line_of r) q → ⊥) → line_at t p ≡ Bad

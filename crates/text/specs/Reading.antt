@@ -2,12 +2,8 @@
 -- `signed_at` a whole one. `is_digit` · `run` the digits that bytes begin with · `value` what they count · `plain` no leading zero · `begins` the next
 -- byte.
 -- Assumes nothing.
-use Rattle.std.specs.Prelude.{Bool, false, cond, ◌&&◌, List, [], ◌∷◌, ℕ, zero, suc, ◌+◌, ◌*◌, ◌-◌, eqb, ltb, leb, pos, negsuc, length, get_or, drop}
+use Rattle.std.specs.Prelude.{Bool, false, cond, ◌&&◌, List, [], ◌∷◌, ℕ, zero, suc, ◌+◌, ◌*◌, ◌-◌, eqb, ltb, leb, ℤ, pos, negsuc, length, get_or, drop, Option, Some, None}
 use Rattle.text.specs.Decimal.{minus, digit}
-use Rattle.text.specs.declared.decimal.Number.{Number}
-use Rattle.text.specs.declared.decimal.Number.TheVariants.{Natural, NoNumber}
-use Rattle.text.specs.declared.decimal.Signed.{Signed}
-use Rattle.text.specs.declared.decimal.Signed.TheVariants.{Whole, NoWhole}
 
 abbrev pub is_digit : ℕ → Bool
 is_digit c = leb (digit 0) c && leb c (digit 9)
@@ -34,24 +30,24 @@ abbrev pub begins : ℕ → List ℕ → Bool
 begins b [] = false
 begins b (c ∷ xs) = eqb c b
 
--- the number that digits s at p make: of at most `most`, and ended by the byte `stop`
-abbrev pub number_of : List ℕ → List ℕ → ℕ → ℕ → ℕ → Number
-number_of s t p most stop = cond (leb (value 0 s) most && (begins stop (drop (p + length s) t) && plain s)) (Natural (value 0 s) (p + length s + 1)) NoNumber
+-- the number that digits s at p make, of at most `most`, and the position past the byte `stop` that ends it
+abbrev pub number_of : List ℕ → List ℕ → ℕ → ℕ → ℕ → Option (ℕ × ℕ)
+number_of s t p most stop = cond (leb (value 0 s) most && (begins stop (drop (p + length s) t) && plain s)) (Some (value 0 s, p + length s + 1)) None
 
 -- the number at p: as many digits as there are
-unfoldable pub number_at : List ℕ → ℕ → ℕ → ℕ → Number
+unfoldable pub number_at : List ℕ → ℕ → ℕ → ℕ → Option (ℕ × ℕ)
 number_at t p most stop = number_of (run (drop p t)) t p most stop
 
-abbrev pub as_whole : Number → Signed
-as_whole NoNumber = NoWhole
-as_whole (Natural n q) = Whole (pos n) q
+abbrev pub as_whole : Option (ℕ × ℕ) → Option (ℤ × ℕ)
+as_whole None = None
+as_whole (Some (n, q)) = Some (pos n, q)
 
 -- "minus only before a nonzero number"
-abbrev pub as_minus : Number → Signed
-as_minus NoNumber = NoWhole
-as_minus (Natural zero q) = NoWhole
-as_minus (Natural (suc n) q) = Whole (negsuc n) q
+abbrev pub as_minus : Option (ℕ × ℕ) → Option (ℤ × ℕ)
+as_minus None = None
+as_minus (Some (zero, q)) = None
+as_minus (Some (suc n, q)) = Some (negsuc n, q)
 
 -- the number at p, with its sign
-unfoldable pub signed_at : List ℕ → ℕ → ℕ → ℕ → Signed
+unfoldable pub signed_at : List ℕ → ℕ → ℕ → ℕ → Option (ℤ × ℕ)
 signed_at t p most stop = cond (begins minus (drop p t)) (as_minus (number_at t (p + 1) most stop)) (as_whole (number_at t p most stop))

@@ -2,7 +2,7 @@
 -- `Stands` bytes stand at a position of a file · `number-write`, `number_read`, `signed-write`, `signed-read` the two laws, without a sign and with one ·
 -- `Scanned` where a reader of digits is, with `scan-..` what each byte does to it.
 -- Assumes nothing.
-use Rattle.std.specs.Prelude.{◌≡◌, refl, Bool, ◌&&◌, ℕ, zero, suc, ◌+◌, ◌*◌, ◌≤◌, ◌<◌, ◌-◌, ltb, ℤ, neg_ℤ, pos, negsuc, nat_abs, get_or, drop}
+use Rattle.std.specs.Prelude.{◌≡◌, refl, Bool, ◌&&◌, ℕ, zero, suc, ◌+◌, ◌*◌, ◌≤◌, ◌<◌, ◌-◌, ltb, ℤ, neg_ℤ, pos, negsuc, nat_abs, get_or, drop, Option, Some, None}
 use Rattle.std.proofs.Math.Path.{sym, ap}
 use Rattle.std.proofs.Common.{◌∙◌, subst, add-one, length-append, drop_of_length-le, drop-cons, drop-drop}
 use Rattle.std.proofs.Math.Bool.{true, false, cond}
@@ -17,9 +17,6 @@ use Rattle.laws.specs.Each.{never, both_left, both_right}
 use Rattle.text.specs.Decimal.{digits, numeral, ended, minus}
 use Rattle.text.specs.Reading.{is_digit, run, value, plain, plainly, begins, number_of, number_at, as_whole, as_minus, signed_at}
 use Rattle.text.specs.DecimalLaws.{Digits, none, more, digits_are, digits-some, digits_value, value-digits, value_grows, digits-plain, digit_low}
-use Rattle.text.specs.declared.decimal.Number.{Number}
-use Rattle.text.specs.declared.decimal.Number.TheVariants.{Natural, NoNumber}
-use Rattle.text.specs.declared.decimal.Signed.TheVariants.{Whole, NoWhole}
 
 -- ---- bytes at a position
 
@@ -94,11 +91,17 @@ run-front (c ∷ xs) = go (is_digit c) (run-front xs)
 
 -- ---- a number, read and written
 
-natural-is : (b : Bool) (n r v q : ℕ) → cond b (Natural n r) NoNumber ≡ Natural v q → (b ≡ true) × (n ≡ v) × (r ≡ q)
-natural-is true n r v q e = (refl, cc, cc)
+-- where something is read, what it is and where it ends
+pub read-is : {A : Type 0} {x y : A} {r q : ℕ} → ◌≡◌ {A = Option (A × ℕ)} (Some (x, r)) (Some (y, q)) → (x ≡ y) × (r ≡ q)
+read-is {A} {x} {y} {r} {q} e =
+    let p : ◌≡◌ {A = A × ℕ} (x, r) (y, q) = cc in
+    (ap (λ (w : A × ℕ). w.0) p, ap (λ (w : A × ℕ). w.1) p)
+
+natural-is : (b : Bool) (n r v q : ℕ) → ◌≡◌ {A = Option (ℕ × ℕ)} (cond b (Some (n, r)) None) (Some (v, q)) → (b ≡ true) × (n ≡ v) × (r ≡ q)
+natural-is true n r v q e = let w = read-is e in (refl, w.0, w.1)
 natural-is false n r v q e = absurd (let z : ◌≡◌ {A = ℕ} 0 1 = cc in omega arith)
 
-pub number-most : (t : List ℕ) (p most stop v q : ℕ) → number_at t p most stop ≡ Natural v q → v ≤ most
+pub number-most : (t : List ℕ) (p most stop v q : ℕ) → number_at t p most stop ≡ Some (v, q) → v ≤ most
 unfolding number_at
 number-most t p most stop v q e =
     let s = run (drop p t) in
@@ -106,7 +109,7 @@ number-most t p most stop v q e =
     subst (λ (n : ℕ). n ≤ most) h.1 (leb-true (value 0 s) most (both_left (leb (value 0 s) most) (begins stop (drop (p + length s) t) && plain s) h.0))
 
 -- only a written number is read
-pub number_read : (t : List ℕ) (p most stop v q : ℕ) → number_at t p most stop ≡ Natural v q → Stands t p (ended (digits v) stop) q
+pub number_read : (t : List ℕ) (p most stop v q : ℕ) → number_at t p most stop ≡ Some (v, q) → Stands t p (ended (digits v) stop) q
 unfolding number_at
 number_read t p most stop v q e =
     let s = run (drop p t) in
@@ -119,7 +122,7 @@ number_read t p most stop v q e =
 
 -- a written number is read back
 pub number-write : (t : List ℕ) (p most stop v q : ℕ) → is_digit stop ≡ false → v ≤ most → Stands t p (ended (digits v) stop) q
-    → number_at t p most stop ≡ Natural v q
+    → number_at t p most stop ≡ Some (v, q)
 unfolding number_at
 number-write t p most stop v q h small s =
     let whole : drop p t ≡ digits v ++ stop ∷ drop q t = s.here ∙ append_snoc (digits v) stop (drop q t) in
@@ -127,62 +130,59 @@ number-write t p most stop v q h small s =
     let met : begins stop (drop (p + length (digits v)) t)
     ≡ true = byte-stands t (p + length (digits v)) stop (drop q t) (stands-rest t (digits v) (stop ∷ drop q t) p whole) in
     let past : p + length (digits v) + 1 ≡ q = omega (arith, s.past, length-append (digits v) (stop ∷ [])) in
-    ap (λ (l : List ℕ). number_of l t p most stop) spelt ∙ rw (digits_value v, le-leb v most small, met, digits-plain v) (ap (Natural v) past)
+    ap (λ (l : List ℕ). number_of l t p most stop) spelt ∙ rw (digits_value v, le-leb v most small, met, digits-plain v) (ap (λ (k : ℕ). Some (v, k)) past)
 
 -- ---- a number with its sign
 
-whole_is : {x z : ℤ} {r q : ℕ} → Whole x r ≡ Whole z q → (x ≡ z) × (r ≡ q)
-whole_is e = (cc, cc)
-
 -- what reading with a sign finds: a minus before a number that is not 0, or a number
-minus-read : (t : List ℕ) (p most stop : ℕ) (n : Number) (z : ℤ) (q : ℕ) → begins minus (drop p t) ≡ true → number_at t (p + 1) most stop ≡ n
-    → as_minus n ≡ Whole z q → Stands t p (ended (numeral z) stop) q × (nat_abs z ≤ most)
-minus-read t p most stop NoNumber z q b e h = absurd (let k : ◌≡◌ {A = ℕ} 0 1 = cc in omega arith)
-minus-read t p most stop (Natural zero r) z q b e h = absurd (let k : ◌≡◌ {A = ℕ} 0 1 = cc in omega arith)
-minus-read t p most stop (Natural (suc n) r) z q b e h =
+minus-read : (t : List ℕ) (p most stop : ℕ) (n : Option (ℕ × ℕ)) (z : ℤ) (q : ℕ) → begins minus (drop p t) ≡ true → number_at t (p + 1) most stop ≡ n
+    → as_minus n ≡ Some (z, q) → Stands t p (ended (numeral z) stop) q × (nat_abs z ≤ most)
+minus-read t p most stop None z q b e h = absurd (let k : ◌≡◌ {A = ℕ} 0 1 = cc in omega arith)
+minus-read t p most stop (Some (zero, r)) z q b e h = absurd (let k : ◌≡◌ {A = ℕ} 0 1 = cc in omega arith)
+minus-read t p most stop (Some (suc n, r)) z q b e h =
     let s = stands-join (stands-byte t p minus b) (number_read t (p + 1) most stop (suc n) r e) in
-    let w = whole_is h in (
+    let w = read-is h in (
       subst (λ (x : ℤ). Stands t p (ended (numeral x) stop) q) w.0 (subst (Stands t p (ended (numeral (negsuc n)) stop)) w.1 s),
       subst (λ (x : ℤ). nat_abs x ≤ most) w.0 (number-most t (p + 1) most stop (suc n) r e),
     )
 
-plus-read : (t : List ℕ) (p most stop : ℕ) (n : Number) (z : ℤ) (q : ℕ) → number_at t p most stop ≡ n → as_whole n ≡ Whole z q
+plus-read : (t : List ℕ) (p most stop : ℕ) (n : Option (ℕ × ℕ)) (z : ℤ) (q : ℕ) → number_at t p most stop ≡ n → as_whole n ≡ Some (z, q)
     → Stands t p (ended (numeral z) stop) q × (nat_abs z ≤ most)
-plus-read t p most stop NoNumber z q e h = absurd (let k : ◌≡◌ {A = ℕ} 0 1 = cc in omega arith)
-plus-read t p most stop (Natural n r) z q e h =
-    let w = whole_is h in (
+plus-read t p most stop None z q e h = absurd (let k : ◌≡◌ {A = ℕ} 0 1 = cc in omega arith)
+plus-read t p most stop (Some (n, r)) z q e h =
+    let w = read-is h in (
       subst (λ (x : ℤ). Stands t p (ended (numeral x) stop) q) w.0
           (subst (Stands t p (ended (numeral (pos n)) stop)) w.1 (number_read t p most stop n r e)),
       subst (λ (x : ℤ). nat_abs x ≤ most) w.0 (number-most t p most stop n r e),
     )
 
 -- only a written number is read
-pub signed-read : (t : List ℕ) (p most stop : ℕ) (z : ℤ) (q : ℕ) → signed_at t p most stop ≡ Whole z q
+pub signed-read : (t : List ℕ) (p most stop : ℕ) (z : ℤ) (q : ℕ) → signed_at t p most stop ≡ Some (z, q)
     → Stands t p (ended (numeral z) stop) q × (nat_abs z ≤ most)
 unfolding signed_at
 signed-read t p most stop z q = go (begins minus (drop p t)) refl
   where
-    go : (b : Bool) → begins minus (drop p t) ≡ b → cond b (as_minus (number_at t (p + 1) most stop)) (as_whole (number_at t p most stop)) ≡ Whole z q
+    go : (b : Bool) → begins minus (drop p t) ≡ b → cond b (as_minus (number_at t (p + 1) most stop)) (as_whole (number_at t p most stop)) ≡ Some (z, q)
         → Stands t p (ended (numeral z) stop) q × (nat_abs z ≤ most)
     go true b h = minus-read t p most stop (number_at t (p + 1) most stop) z q b refl h
     go false b h = plus-read t p most stop (number_at t p most stop) z q refl h
 
 -- the two cases of a reader with a sign
-pub signed-minus : (t : List ℕ) (p most stop : ℕ) (n : Number) → begins minus (drop p t) ≡ true → number_at t (p + 1) most stop ≡ n
+pub signed-minus : (t : List ℕ) (p most stop : ℕ) (n : Option (ℕ × ℕ)) → begins minus (drop p t) ≡ true → number_at t (p + 1) most stop ≡ n
     → as_minus n ≡ signed_at t p most stop
 unfolding signed_at
 signed-minus t p most stop n b e = rw (b, e)
 
-pub signed-plus : (t : List ℕ) (p most stop : ℕ) (n : Number) → begins minus (drop p t) ≡ false → number_at t p most stop ≡ n
+pub signed-plus : (t : List ℕ) (p most stop : ℕ) (n : Option (ℕ × ℕ)) → begins minus (drop p t) ≡ false → number_at t p most stop ≡ n
     → as_whole n ≡ signed_at t p most stop
 unfolding signed_at
 signed-plus t p most stop n b e = rw (b, e)
 
-pub minus-none : (n q : ℕ) → n ≡ 0 → NoWhole ≡ as_minus (Natural n q)
+pub minus-none : (n q : ℕ) → n ≡ 0 → None ≡ as_minus (Some (n, q))
 minus-none zero q e = refl
 minus-none (suc n) q e = absurd (omega arith)
 
-pub minus-some : (n q : ℕ) → (n ≡ 0 → ⊥) → Whole (neg_ℤ (pos n)) q ≡ as_minus (Natural n q)
+pub minus-some : (n q : ℕ) → (n ≡ 0 → ⊥) → Some (neg_ℤ (pos n), q) ≡ as_minus (Some (n, q))
 minus-some zero q h = absurd (h refl)
 minus-some (suc n) q h = refl
 
@@ -192,7 +192,7 @@ no_minus (c ∷ s) rest (more e k) h = let low = digit_low c e in ne_eqb c minus
 
 -- a written number is read back
 pub signed-write : (t : List ℕ) (p most stop : ℕ) (z : ℤ) (q : ℕ) → is_digit stop ≡ false → nat_abs z ≤ most → Stands t p (ended (numeral z) stop) q
-    → signed_at t p most stop ≡ Whole z q
+    → signed_at t p most stop ≡ Some (z, q)
 unfolding signed_at
 signed-write t p most stop (pos n) q h small s =
     let whole : drop p t ≡ digits n ++ stop ∷ drop q t = s.here ∙ append_snoc (digits n) stop (drop q t) in
@@ -225,7 +225,7 @@ run_past : (t : List ℕ) (i : ℕ) → length t ≤ i → run (drop i t) ≡ []
 unfolding run
 run_past t i h = ap run (drop_of_length-le t {i = i} h)
 
-unended : (a c : Bool) (x : Number) → NoNumber ≡ cond (a && (false && c)) x NoNumber
+unended : (a c : Bool) (x : Option (ℕ × ℕ)) → None ≡ cond (a && (false && c)) x None
 unended true c x = refl
 unended false c x = refl
 
@@ -242,9 +242,6 @@ first_plain x y at i h = go (dec_lt at i)
     go (no l) =
         let e : i - at ≡ 0 = omega arith in
         ap (plainly x) e ∙ nothing (eqb x 48) ∙ sym (nothing (eqb y 48)) ∙ sym (ap (plainly y) e)
-
-pub scan_begins : (t : List ℕ) (at most : ℕ) → Scanned t at most at 0
-scan_begins t at most = record { from = omega arith; small = omega arith; long = refl; counts = refl; first = λ h. absurd (omega arith) }
 
 module _ (t : List ℕ) (at most i v : ℕ) (r : Scanned t at most i v) where
   pub scan-next : i < length t → is_digit (get_or t i 0) ≡ true → value 0 (run (drop at t)) ≡ value (v * 10 + (get_or t i 0 - 48)) (run (drop (i + 1) t))
@@ -269,25 +266,25 @@ module _ (t : List ℕ) (at most i v : ℕ) (r : Scanned t at most i v) where
           subst (λ (j : ℕ). get_or (run (drop j t)) 0 0 ≡ get_or t j 0) same (ap (λ (s : List ℕ). get_or s 0 0) (run_step t i h e))
 
   -- a digit that takes it above what is wanted: so is the whole
-  pub scan-over : (stop : ℕ) → i < length t → is_digit (get_or t i 0) ≡ true → most < v * 10 + (get_or t i 0 - 48) → NoNumber ≡ number_at t at most stop
+  pub scan-over : (stop : ℕ) → i < length t → is_digit (get_or t i 0) ≡ true → most < v * 10 + (get_or t i 0 - 48) → None ≡ number_at t at most stop
   unfolding number_at
   scan-over stop h e s =
       let over : most < value 0 (run (drop at t)) = omega (arith, scan-next h e, value_grows (v * 10 + (get_or t i 0 - 48)) (run (drop (i + 1) t))) in
       rw (lt-leb (value 0 (run (drop at t))) most over)
 
   -- the file's end: no byte ends the number
-  pub scan-lacks : (stop : ℕ) → length t ≤ i → NoNumber ≡ number_at t at most stop
+  pub scan-lacks : (stop : ℕ) → length t ≤ i → None ≡ number_at t at most stop
   unfolding number_at
   scan-lacks stop h =
       let s = run (drop at t) in
       let long : at + length s ≡ i = r.long ∙ ap (λ (l : List ℕ). i + length l) (run_past t i h) ∙ omega arith in
       let off : begins stop (drop (at + length s) t) ≡ false = ap (λ (k : ℕ). begins stop (drop k t)) long ∙ ap (begins stop) (drop_of_length-le t {i = i} h) in
-      unended (leb (value 0 s) most) (plain s) (Natural (value 0 s) (at + length s + 1))
-      ∙ (λ j. cond (leb (value 0 s) most && (sym off j && plain s)) (Natural (value 0 s) (at + length s + 1)) NoNumber)
+      unended (leb (value 0 s) most) (plain s) (Some (value 0 s, at + length s + 1))
+      ∙ (λ j. cond (leb (value 0 s) most && (sym off j && plain s)) (Some (value 0 s, at + length s + 1)) None)
 
   -- a byte that is no digit: it is to be the one that ends the number
   pub scan-ends : (stop : ℕ) → i < length t → is_digit (get_or t i 0) ≡ false
-      → cond (eqb (get_or t i 0) stop && plainly (get_or t at 0) (i - at)) (Natural v (i + 1)) NoNumber ≡ number_at t at most stop
+      → cond (eqb (get_or t i 0) stop && plainly (get_or t at 0) (i - at)) (Some (v, i + 1)) None ≡ number_at t at most stop
   unfolding number_at value
   scan-ends stop h e =
       let s = run (drop at t) in
@@ -299,4 +296,4 @@ module _ (t : List ℕ) (at most i v : ℕ) (r : Scanned t at most i v) where
       ∙ ap (begins stop) (drop-cons t i 0 h) in
       let size : length s ≡ i - at = omega arith in
       let form : plain s ≡ plainly (get_or t at 0) (i - at) = ap (plainly (get_or s 0 0)) size ∙ first_plain (get_or s 0 0) (get_or t at 0) at i r.first in
-      sym (λ j. cond (fits j && (next j && form j)) (Natural (counts j) (long j + 1)) NoNumber)
+      sym (λ j. cond (fits j && (next j && form j)) (Some (counts j, long j + 1)) None)

@@ -1,39 +1,11 @@
 // Decimal numbers in bytes: no plus sign, no leading zero, minus only before a nonzero number. Each ends with a byte of the caller's choice, a tab or a
 // line feed.
-ghost use Rattle.std.specs.Prelude.{◌≡◌, cond, ◌+◌, ◌-◌, ◌≤◌, ◌<◌, ltb, neg_ℤ, pos, nat_abs, length, drop};
+ghost use Rattle.std.specs.Prelude.{◌≡◌, ◌+◌, ◌≤◌, ◌<◌, length, drop};
 ghost use Rattle.laws.specs.Stores.{Wrote};
 ghost use Rattle.text.specs.Decimal.{minus, digits, numeral, ended};
-ghost use Rattle.text.specs.Reading.{is_digit, plainly, begins, number_at, signed_at};
+ghost use Rattle.text.specs.Reading.{plainly, begins, number_at, signed_at};
 
 use lattice::size;
-
-// What stands where a number is looked for: a number and the position past the byte that ends it, or none.
-#[derive(Clone, Copy)]
-pub enum Number {
-    Natural(u32, usize),
-    NoNumber,
-}
-
-// The same with a sign.
-#[derive(Clone, Copy)]
-pub enum Signed {
-    Whole(i32, usize),
-    NoWhole,
-}
-
-fn is_digit(c: u8) -> bool
-    ensures { result ≡ is_digit c }
-{
-    (b'0' <= c) & (c <= b'9')
-}
-
-// What a digit's byte counts.
-fn worth(c: u8) -> u64
-    requires { (48 ≤ c) × (c ≤ 57) }
-    ensures { (result ≡ c - 48) × (result < 10) }
-{
-    (c - b'0') as u64
-}
 
 // n digits with this first one are a number: at least one, and no leading zero.
 fn is_plain(first: u8, n: usize) -> bool
@@ -42,79 +14,52 @@ fn is_plain(first: u8, n: usize) -> bool
     if first == b'0' { n == 1 } else { 0 < n }
 }
 
-// The number at a position, of at most `most`, ended by the byte `stop`. A longer one is refused at the first digit that takes it above `most`.
-pub fn read_number(t: &[u8], at: usize, most: u32, stop: u8) -> Number
+// The number at a position, of at most `most`, and the position past the byte `stop` that ends it, or none. A longer one is refused at the first digit that
+// takes it above `most`.
+pub fn read_number(t: &[u8], at: usize, most: u32, stop: u8) -> Option<(u32, usize)>
     ensures { result ≡ number_at t.now at most stop }
 {
     let top = most as u64;
     let mut v: u64 = 0;
-    let mut i = at;
-    while i < t.len() {
+    for i in at..t.len() {
         let c = t[i];
-        if !is_digit(c) {
+        if !c.is_ascii_digit() {
             let first = t[at];
             if (c == stop) & is_plain(first, i - at) {
-                return Number::Natural(v as u32, i + 1);
+                return Some((v as u32, i + 1));
             }
-            return Number::NoNumber;
+            return None;
         }
-        v = v * 10 + worth(c);
+        v = v * 10 + (c - b'0') as u64;
         if top < v {
-            return Number::NoNumber;
+            return None;
         }
-        i += 1;
     }
-    Number::NoNumber // the file ends, and nothing ended the number
+    None // the file ends, and nothing ended the number
 }
 
 // A minus sign stands at a position.
 fn is_minus(t: &[u8], at: usize) -> bool
     ensures { result ≡ begins minus (drop at t.now) }
 {
-    if at < t.len() { t[at] == b'-' } else { false }
-}
-
-// The number below zero of this size.
-fn negative(n: u32) -> i32
-    requires { n < 2147483648 }
-    ensures { result ≡ neg_ℤ (pos n) }
-{
-    let z = n as i32;
-    -z
+    at < t.len() && t[at] == b'-'
 }
 
 // The same as `read_number` with a sign; `most` bounds the size.
-pub fn read_signed(t: &[u8], at: usize, most: u32, stop: u8) -> Signed
+pub fn read_signed(t: &[u8], at: usize, most: u32, stop: u8) -> Option<(i32, usize)>
     requires { most < 2147483648 }
     ensures { result ≡ signed_at t.now at most stop }
 {
     if is_minus(t, at) {
-        match read_number(t, at + 1, most, stop) {
-            Number::NoNumber => Signed::NoWhole,
-            Number::Natural(n, next) => {
-                if n == 0 {
-                    Signed::NoWhole
-                } else {
-                    Signed::Whole(negative(n), next)
-                }
-            }
+        let (n, next) = read_number(t, at + 1, most, stop)?;
+        if n == 0 {
+            return None;
         }
+        Some((-(n as i32), next))
     } else {
-        match read_number(t, at, most, stop) {
-            Number::NoNumber => Signed::NoWhole,
-            Number::Natural(n, next) => Signed::Whole(n as i32, next),
-        }
+        let (n, next) = read_number(t, at, most, stop)?;
+        Some((n as i32, next))
     }
-}
-
-// Every numerator of a record is below it.
-const MILLION: u32 = 1000000;
-
-// 1 where n is past a number, else 0. No branch: how long the next number is cannot be foreseen.
-fn past(n: u32, most: u32) -> usize
-    ensures { (result ≡ cond (ltb most n) 1 0) × (result ≤ 1) }
-{
-    (most < n) as usize
 }
 
 // How many digits a number has.
@@ -122,25 +67,7 @@ pub fn width(n: u32) -> usize
     ensures value { result ≡ length (digits n) }
     ensures lower_bound { (1 ≤ result) × (result ≤ 10) }
 {
-    if n < MILLION {
-        return 1 + past(n, 9) + past(n, 99) + past(n, 999) + past(n, 9999) + past(n, 99999);
-    }
-    long_width(n)
-}
-
-// The same of any number: a power of ten above it has one zero for each digit.
-fn long_width(n: u32) -> usize
-    ensures value { result ≡ length (digits n) }
-    ensures lower_bound { (1 ≤ result) × (result ≤ 10) }
-{
-    let top = n as u64;
-    let mut power: u64 = 10;
-    let mut w: usize = 1;
-    while power <= top {
-        power = power * 10;
-        w += 1;
-    }
-    w
+    n.max(1).ilog10() as usize + 1
 }
 
 // Writes a number's digits, the last before a position, from the last back, and gives the position of the first.
@@ -150,6 +77,7 @@ pub fn digits_back(out: &mut [u8], end: usize, n: u64) -> usize
 {
     let mut at = end;
     let mut v = n;
+    // a `for` over the places would need the number of digits first, which no caller has to know
     while 9 < v {
         at -= 1;
         out[at] = b'0' + (v % 10) as u8;

@@ -14,10 +14,10 @@ mod line;
 mod line_order;
 
 pub use bytes::write_bytes;
-pub use decimal::{Number, digits_back, number_back, read_number, width, write_number};
+pub use decimal::{digits_back, number_back, read_number, width, write_number};
 pub use limits::in_limits;
 pub use line::{
-    FEED, Line, Place, TAB, line_length, parse_line, point_back, point_length, read_point, spelled,
+    FEED, Line, TAB, line_length, parse_line, point_back, point_length, read_point, spelled,
     write_line_back,
 };
 pub use line_order::{order, ordered};

@@ -3,9 +3,7 @@ ghost use Rattle.std.specs.Prelude.{◌≡◌, ◌+◌, ◌≤◌, length};
 ghost use Rattle.laws.specs.Stores.{Wrote};
 ghost use Rattle.text.specs.Line.{point_text, star_text, line_of, place_at, star_at, spelled_at, line_at};
 
-use crate::decimal::{
-    Number, Signed, number_back, read_number, read_signed, signed_back, signed_width, width,
-};
+use crate::decimal::{number_back, read_number, read_signed, signed_back, signed_width, width};
 use lattice::{Depth, Level, Point, Record, valid};
 
 pub const TAB: u8 = b'\t';
@@ -17,13 +15,6 @@ const FAR: u32 = 9999999;
 
 const NEAR: u32 = 255;
 
-// What stands where a point is looked for: a point and the position past its last tab, or none.
-#[derive(Clone, Copy)]
-pub enum Place {
-    At(Point, usize),
-    Nowhere,
-}
-
 // What stands where a line is looked for: a record and the position past its line feed; no line of a record; nothing, the file being at its end.
 #[derive(Clone, Copy)]
 pub enum Line {
@@ -32,51 +23,33 @@ pub enum Line {
     End,
 }
 
-// The point at a position: a, b and m, each with a tab after it.
-pub fn read_point(t: &[u8], at: usize) -> Place
+// The point at a position, a, b and m, each with a tab after it, and the position past the last, or none.
+pub fn read_point(t: &[u8], at: usize) -> Option<(Point, usize)>
     ensures { result ≡ place_at t.now at }
 {
-    match read_signed(t, at, FAR, TAB) {
-        Signed::NoWhole => Place::Nowhere,
-        Signed::Whole(a, past_a) => match read_signed(t, past_a, FAR, TAB) {
-            Signed::NoWhole => Place::Nowhere,
-            Signed::Whole(b, past_b) => match read_number(t, past_b, NEAR, TAB) {
-                Number::NoNumber => Place::Nowhere,
-                Number::Natural(m, past_m) => Place::At(
-                    Point {
-                        a,
-                        b,
-                        m: Depth(m as u8),
-                    },
-                    past_m,
-                ),
-            },
-        },
-    }
+    let (a, past_a) = read_signed(t, at, FAR, TAB)?;
+    let (b, past_b) = read_signed(t, past_a, FAR, TAB)?;
+    let (m, past_m) = read_number(t, past_b, NEAR, TAB)?;
+    let m = Depth(m as u8);
+    Some((Point { a, b, m }, past_m))
 }
 
-// The rest of the line of the vertex at p: d and k, each with a tab after it, and n with the line feed.
-fn read_star(t: &[u8], at: usize, p: Point) -> Line
+// The record of the vertex at p with the rest of its line, d and k, each with a tab after it, and n with the line feed; the position past it; or none.
+fn read_star(t: &[u8], at: usize, p: Point) -> Option<(Record, usize)>
     ensures { result ≡ star_at t.now at p }
 {
-    match read_number(t, at, NEAR, TAB) {
-        Number::NoNumber => Line::Bad,
-        Number::Natural(d, past_d) => match read_number(t, past_d, NEAR, TAB) {
-            Number::NoNumber => Line::Bad,
-            Number::Natural(k, past_k) => match read_number(t, past_k, NEAR, FEED) {
-                Number::NoNumber => Line::Bad,
-                Number::Natural(n, next) => Line::Good(
-                    Record {
-                        at: p,
-                        d: d as u8,
-                        k: k as u8,
-                        n: Level(n as u8),
-                    },
-                    next,
-                ),
-            },
+    let (d, past_d) = read_number(t, at, NEAR, TAB)?;
+    let (k, past_k) = read_number(t, past_d, NEAR, TAB)?;
+    let (n, next) = read_number(t, past_k, NEAR, FEED)?;
+    Some((
+        Record {
+            at: p,
+            d: d as u8,
+            k: k as u8,
+            n: Level(n as u8),
         },
-    }
+        next,
+    ))
 }
 
 // The line at a position, its record valid or not.
@@ -86,9 +59,12 @@ pub fn spelled(t: &[u8], at: usize) -> Line
     if t.len() <= at {
         return Line::End;
     }
-    match read_point(t, at) {
-        Place::Nowhere => Line::Bad,
-        Place::At(p, past_m) => read_star(t, past_m, p),
+    let Some((p, past_m)) = read_point(t, at) else {
+        return Line::Bad;
+    };
+    match read_star(t, past_m, p) {
+        Some((r, next)) => Line::Good(r, next),
+        None => Line::Bad,
     }
 }
 

@@ -5,11 +5,10 @@
 -- the parents lie in directions k, k + 4, k + 8, and none, the last, or the last two were subdivided · `not_yet` then the vertex was not itself ·
 -- `Acute`, `Gap` document 01's star, place by place, `acute-place`, `gap-place` by its table.
 -- Assumes nothing.
-use Rattle.std.specs.Prelude.{◌≡◌, ◌≢◌, true, false, cond}
+use Rattle.std.specs.Prelude.{◌≡◌, ◌≢◌, true, false, cond, Option, Some, None}
 use Rattle.std.proofs.Math.Path.{refl, ap}
 use Rattle.std.proofs.Common.{sym, ◌∙◌}
 use Rattle.std.proofs.Math.Bool.{Bool}
-use Rattle.std.proofs.Math.Option.{some}
 use Prim.Native.Nat.{ℕ, suc, ◌+◌, ◌*◌, ◌%◌, ◌/◌, ◌≤◌, ◌<◌}
 use native.Mathlib.Omega.{arith}
 use Rattle.laws.specs.Each.{not-both}
@@ -18,8 +17,6 @@ use Rattle.lattice.specs.Stars.{adjacent_at, first_at, second_at}
 use Rattle.lattice.specs.Ranks.{move_of}
 use Rattle.lattice.specs.declared.points.Point.{Point}
 use Rattle.lattice.specs.declared.records.Record.{Record}
-use Rattle.lattice.specs.declared.patterns.Spot.{Spot}
-use Rattle.lattice.specs.declared.patterns.Spot.TheVariants.{At, Nothing}
 use Rattle.geometry.specs.SideLaws.{Dir}
 use Rattle.geometry.specs.StarSteps.{turn_of, down_of, star-step}
 use Rattle.growth.specs.Sheets.{vertex}
@@ -132,7 +129,7 @@ pub data Star (M : Mesh) (p : Pt) (r : Record) (b : ℕ) : Type 0 where
   six : full_at M.H M.c p (suc b) ≡ true → r ≡ full_record M p → Star M p r b
   less : {s t : Bool} {d : ℕ} → Degree s t d → (k : ℕ) → Lesser M p b k s t → r ≡ vertex p.at d k b → Star M p r b
 
-module _ (M : Mesh) (p : Pt) (r : Record) (x : rec M.H M.c p ≡ some r) (n : r.d ≢ 0) where
+module _ (M : Mesh) (p : Pt) (r : Record) (x : rec M.H M.c p ≡ Some r) (n : r.d ≢ 0) where
   pub inside : (f : ℕ) → rank p ≡ f → (pres_at M.H M.c p f ≡ true) × (int_at M.H p f ≡ true) × (r ≡ star_at M.c p f)
   inside f e =
       look-inside (pres_at M.H M.c p f) (int_at M.H p f) p.at (star_at M.c p f) r (sym (rec-at M.H M.c p f e) ∙ x) n
@@ -198,7 +195,7 @@ not_yet M p b k f d e s i l = go (T M.c p i) refl
         absurd (not-both (full-par M.H M.c p b (k / 4) (omega arith) full) (ap (λ (q : Pt). T M.c q b) (par-at p k b d.0 e) ∙ s))
 
 -- ---- document 01's star, place by place
-pub record Place (r : Record) (j : ℕ) (a n f : Point) (s : Spot) : Type 0 where
+pub record Place (r : Record) (j : ℕ) (a n f : Point) (s : Option Point) : Type 0 where
   pub below : j < r.d
   pub adjacent : adjacent_at r j ≡ a
   pub next : adjacent_at r (next_place r.d j) ≡ n
@@ -207,7 +204,7 @@ pub record Place (r : Record) (j : ℕ) (a n f : Point) (s : Spot) : Type 0 wher
 
 -- the corner of a cell at x
 abbrev pub Acute : Record → ℕ → Cell → Type 0
-Acute r j k = Place r j (u_of k).at (v_of k).at (z_of k).at (At (y_of k).at)
+Acute r j k = Place r j (u_of k).at (v_of k).at (z_of k).at (Some (y_of k).at)
 
 -- between the parents in directions a and a + 4: whether each was subdivided
 abbrev pub low_of : Pt → ℕ → ℕ → Bool → Pt
@@ -218,10 +215,10 @@ abbrev pub high_of : Pt → ℕ → ℕ → Bool → Pt
 high_of p a b true = move p ((a + 3) % 12) (suc b)
 high_of p a b false = move p ((a + 4) % 12) b
 
-abbrev pub far_off : Pt → ℕ → ℕ → Bool → Bool → Spot
-far_off p a b true t = Nothing
-far_off p a b false true = Nothing
-far_off p a b false false = At (move (move p ((a + 2) % 12) b) ((a + 2) % 12) b).at
+abbrev pub far_off : Pt → ℕ → ℕ → Bool → Bool → Option Point
+far_off p a b true t = None
+far_off p a b false true = None
+far_off p a b false false = Some (move (move p ((a + 2) % 12) b) ((a + 2) % 12) b).at
 
 abbrev pub Gap : Record → ℕ → Pt → ℕ → ℕ → Bool → Bool → Type 0
 Gap r j p a b s t = Place r j (low_of p a b s).at (high_of p a b t).at (move p ((a + 2) % 12) b).at (far_off p a b s t)
@@ -253,7 +250,7 @@ module _ (p : Pt) (d k n : ℕ) (l : 3 ≤ d) (h : d ≤ 6) (dir : Dir k n) wher
         next = star-step R (next_place d j) l h nb dir.0 dir.1 ∙ (λ t. move_of p.at (e2 t) (i2 t));
         first = acute-first R j l h hj dir.0 dir.1 a
             ∙ (λ t. move_of (move_of (move_of p.at (he t) (hi t)) ((he t + 2) % 12) (hi t)) ((he t + 7) % 12) (suc (hi t)));
-        second = acute-second R j l h hj dir.0 dir.1 a ∙ (λ t. At (move_of (move_of p.at (he t) (hi t)) ((he t + 2) % 12) (hi t)));
+        second = acute-second R j l h hj dir.0 dir.1 a ∙ (λ t. Some (move_of (move_of p.at (he t) (hi t)) ((he t + 2) % 12) (hi t)));
       }
     where
       two : (s s' : ℕ) → s' ≡ (s + 2) % 12 → (k + s') % 12 ≡ ((k + s) % 12 + 2) % 12
@@ -291,4 +288,4 @@ module _ (p : Pt) (d k n : ℕ) (l : 3 ≤ d) (h : d ≤ 6) (dir : Dir k n) wher
       far : (s t : Bool) → has_second d j ≡ cond s 0 (cond t 0 1) → second_at R j ≡ far_off p a n s t
       far true t q = blunt-none R j l h hj dir.0 dir.1 ac q
       far false true q = blunt-none R j l h hj dir.0 dir.1 ac q
-      far false false q = blunt-second R j l h hj dir.0 dir.1 ac q ∙ ap (λ (g : ℕ). At (move_of (move_of p.at g n) g n)) hm
+      far false false q = blunt-second R j l h hj dir.0 dir.1 ac q ∙ ap (λ (g : ℕ). Some (move_of (move_of p.at g n) g n)) hm

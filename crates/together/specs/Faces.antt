@@ -5,11 +5,10 @@
 -- `Drawn` a table that holds the mesh of H and c · `Live`, `xw_of`, `yz_of`, `cell_face` a live cell and its face · `centre-int`, `base-gap`, `star-some`
 -- the base, and which vertices are internal.
 -- Assumes nothing.
-use Rattle.std.specs.Prelude.{◌≡◌, ◌≢◌, ◌⊎◌, cond, List, ℕ, zero, suc, ◌+◌, ◌*◌, ◌%◌, ◌/◌, ◌≤◌, ◌<◌}
+use Rattle.std.specs.Prelude.{◌≡◌, ◌≢◌, ◌⊎◌, cond, List, ℕ, zero, suc, ◌+◌, ◌*◌, ◌%◌, ◌/◌, ◌≤◌, ◌<◌, Option, Some, None}
 use Rattle.std.proofs.Math.Path.{refl, sym, ap}
 use Rattle.std.proofs.Common.{◌∙◌, subst, inl, inr, arith}
 use Rattle.std.proofs.Math.Bool.{Bool, true, false}
-use Rattle.std.proofs.Math.Option.{Option, none, some}
 use Rattle.std.proofs.Math.Decide.{ℕ_discrete}
 use Rattle.laws.specs.Each.{not-both, never}
 use Rattle.laws.specs.Choices.{is_true, of-true}
@@ -17,8 +16,6 @@ use Rattle.lattice.specs.Points.{class_of}
 use Rattle.lattice.specs.Ranks.{move_of}
 use Rattle.lattice.specs.declared.points.Point.{Point}
 use Rattle.lattice.specs.declared.records.Record.{Record}
-use Rattle.lattice.specs.declared.patterns.Spot.{Spot}
-use Rattle.lattice.specs.declared.patterns.Spot.TheVariants.{At}
 use Rattle.geometry.specs.SideLaws.{Dir}
 use Rattle.geometry.specs.RankLaws.{rank_between}
 use Rattle.growth.specs.Sheets.{given_by, hexagon_round}
@@ -32,8 +29,6 @@ use Rattle.growth.specs.Neighbours.{parent-there}
 use Rattle.table.specs.Order.{InOrder}
 use Rattle.table.specs.Entries.{look_up, is_held, holds}
 use Rattle.table.specs.MapLaws.{lookup-point}
-use Rattle.table.specs.declared.entries.Looked.{Looked}
-use Rattle.table.specs.declared.entries.Looked.TheVariants.{Absent, Held}
 use Rattle.queries.specs.Queries.{there, chosen_at}
 use Rattle.local.specs.Sheet.{as_option, sheet_of}
 use Rattle.firsts.specs.Faces.{face, turned}
@@ -218,12 +213,12 @@ module _ (t : List ℕ) (M : Mesh) (D : Drawn t M) where
   holds-is q = go (look_up t q.at) ∙ ap is_some (D.is q ∙ rec-at M.H M.c q (rank q) refl) ∙ by (pres M q) (int_at M.H q (rank q))
     where
       is_some : Option Record → Bool
-      is_some none = false
-      is_some (some r) = true
+      is_some None = false
+      is_some (Some r) = true
 
-      go : (l : Looked) → is_held l ≡ is_some (as_option l)
-      go Absent = refl
-      go (Held r) = refl
+      go : (l : Option Record) → is_held l ≡ is_some (as_option l)
+      go None = refl
+      go (Some r) = refl
 
       by : (a i : Bool) → is_some (look a i q.at (star_at M.c q (rank q))) ≡ a
       by false i = refl
@@ -231,32 +226,32 @@ module _ (t : List ℕ) (M : Mesh) (D : Drawn t M) where
       by true true = refl
 
   -- the opposite that is chosen of a first and a second
-  abbrev choice : Point → Spot → Spot
-  choice f s = cond (holds t f) (At f) (there t s)
+  abbrev choice : Point → Option Point → Option Point
+  choice f s = cond (holds t f) (Some f) (there t s)
 
-  choice-first : (q : Pt) (s : Spot) → pres M q ≡ true → choice q.at s ≡ At q.at
+  choice-first : (q : Pt) (s : Option Point) → pres M q ≡ true → choice q.at s ≡ Some q.at
   choice-first q s h = rw (holds-is q, h)
 
   -- z where y was subdivided, else y
-  choice-far : (k : Cell) → Live M k → choice (z_of k).at (At (y_of k).at) ≡ At (yz_of M k).at
+  choice-far : (k : Cell) → Live M k → choice (z_of k).at (Some (y_of k).at) ≡ Some (yz_of M k).at
   choice-far k L = go (T M.c (y_of k) k.i) refl
     where
-      go : (b : Bool) → T M.c (y_of k) k.i ≡ b → choice (z_of k).at (At (y_of k).at) ≡ At (yz_by k b).at
-      go true h = choice-first (z_of k) (At (y_of k).at) (z-is M k L ∙ h)
+      go : (b : Bool) → T M.c (y_of k) k.i ≡ b → choice (z_of k).at (Some (y_of k).at) ≡ Some (yz_by k b).at
+      go true h = choice-first (z_of k) (Some (y_of k).at) (z-is M k L ∙ h)
       go false h = rw (holds-is (z_of k), z-is M k L, h, holds-is (y_of k), y-there M k L)
 
-  place-chosen : {r : Record} {j : ℕ} {a n f : Point} {s : Spot} {o : Point} → Place r j a n f s → choice f s ≡ At o → chosen_at t r j ≡ At o
+  place-chosen : {r : Record} {j : ℕ} {a n f : Point} {s : Option Point} {o : Point} → Place r j a n f s → choice f s ≡ Some o → chosen_at t r j ≡ Some o
   unfolding chosen_at
   place-chosen P h = (λ i. choice (P.first i) (P.second i)) ∙ h
 
   -- the face of a place
-  place-face : {r : Record} {j : ℕ} {a n f : Point} {s : Spot} {p o : Point} → Place r j a n f s → r.at ≡ p → face_on r j o ≡ face p a o n
+  place-face : {r : Record} {j : ℕ} {a n f : Point} {s : Option Point} {p o : Point} → Place r j a n f s → r.at ≡ p → face_on r j o ≡ face p a o n
   place-face {o = o} P e = λ i. face (e i) (P.adjacent i) o (P.next i)
 
-  place-makes : {r : Record} {j : ℕ} {a n f : Point} {s : Spot} {p o : Point} → Place r j a n f s → choice f s ≡ At o → r.at ≡ p → Makes t r (face p a o n)
+  place-makes : {r : Record} {j : ℕ} {a n f : Point} {s : Option Point} {p o : Point} → Place r j a n f s → choice f s ≡ Some o → r.at ≡ p → Makes t r (face p a o n)
   place-makes {j = j} {o = o} P h e = record { corner = j; below = P.below; opposite = o; chosen = place-chosen P h; is = place-face P e }
 
-  point-of : (p : Pt) (r : Record) → look_up t p.at ≡ Held r → r.at ≡ p.at
+  point-of : (p : Pt) (r : Record) → look_up t p.at ≡ Some r → r.at ≡ p.at
   point-of p r h = lookup-point t D.order p.at r h
 
   -- ---- from x or w, and from u
@@ -264,11 +259,11 @@ module _ (t : List ℕ) (M : Mesh) (D : Drawn t M) where
     abbrev A : Alive M k
     A = L.alive
 
-    record_of : (p : Pt) → look_up t p.at ≡ Held r → rec M.H M.c p ≡ some r
+    record_of : (p : Pt) → look_up t p.at ≡ Some r → rec M.H M.c p ≡ Some r
     record_of p h = sym (D.is p) ∙ ap as_option h
 
     abbrev from : Pt → Type 0
-    from p = look_up t p.at ≡ Held r → Makes t r (face p.at (u_of k).at (yz_of M k).at (v_of k).at)
+    from p = look_up t p.at ≡ Some r → Makes t r (face p.at (u_of k).at (yz_of M k).at (v_of k).at)
 
     from-x : T M.c k.x k.i ≡ false → from k.x
     from-x off h = place-makes (acute-at M k.x r (record_of k.x h) n k.e k.i A off).1 (choice-far k L) (point-of k.x r h)
@@ -293,14 +288,14 @@ module _ (t : List ℕ) (M : Mesh) (D : Drawn t M) where
           adjacent = G.adjacent ∙ ap (λ (q : Pt). q.at) (w-u k d);
           next = G.next ∙ ap (λ (q : Pt). q.at) v-is;
           first = G.first ∙ ap (λ (q : Pt). q.at) z-at;
-          second = G.second ∙ (λ t. At (move (z-at t) (m-is t) i).at) ∙ ap (λ (q : Pt). At q.at) (z-y k d);
+          second = G.second ∙ (λ t. Some (move (z-at t) (m-is t) i).at) ∙ ap (λ (q : Pt). Some q.at) (z-y k d);
         })
         (choice-far k L) (point-of (w_of k) r h)
       where
         four : (e : ℕ) → (e + 11) % 12 % 4 ≡ ((e + 1) % 12 + 2) % 12 % 4
         four e = omega arith
 
-    found-near : look_up t (xw_of M k).at ≡ Held r → Makes t r (cell_face M k)
+    found-near : look_up t (xw_of M k).at ≡ Some r → Makes t r (cell_face M k)
     found-near = go (T M.c k.x k.i) refl
       where
         go : (b : Bool) → T M.c k.x k.i ≡ b → from (xw_by k b)
@@ -308,7 +303,7 @@ module _ (t : List ℕ) (M : Mesh) (D : Drawn t M) where
         go false h = from-x h
 
     -- between y and x
-    found_side : look_up t (u_of k).at ≡ Held r → Makes t r (turned (cell_face M k))
+    found_side : look_up t (u_of k).at ≡ Some r → Makes t r (turned (cell_face M k))
     found_side h =
         let d = A.dir in
         let e = k.e in
@@ -335,11 +330,11 @@ module _ (t : List ℕ) (M : Mesh) (D : Drawn t M) where
         high false q = ap (λ (q : Pt). q.at) q
 
   -- from each of its internal vertices: g is the face, read from one of them on
-  pub found : (k : Cell) → Live M k → (g : Face) → SameRound (cell_face M k) g → (r : Record) → look_up t g.at ≡ Held r → r.d ≢ 0 → Makes t r g
+  pub found : (k : Cell) → Live M k → (g : Face) → SameRound (cell_face M k) g → (r : Record) → look_up t g.at ≡ Some r → r.d ≢ 0 → Makes t r g
   found k L g s r h n = go s
     where
-      read : (f : Face) → f ≡ g → (look_up t f.at ≡ Held r → Makes t r f) → Makes t r g
-      read f e m = subst (λ (f : Face). look_up t f.at ≡ Held r → Makes t r f) e m h
+      read : (f : Face) → f ≡ g → (look_up t f.at ≡ Some r → Makes t r f) → Makes t r g
+      read f e m = subst (λ (f : Face). look_up t f.at ≡ Some r → Makes t r f) e m h
 
       go : SameRound (cell_face M k) g → Makes t r g
       go (straight e) = read (cell_face M k) e (found-near k L r n)
@@ -352,7 +347,7 @@ module _ (t : List ℕ) (M : Mesh) (D : Drawn t M) where
     pub k : Cell
     pub live : Live M k
     pub opposite : Point
-    pub chosen : chosen_at t r j ≡ At opposite
+    pub chosen : chosen_at t r j ≡ Some opposite
     pub reads : SameRound (cell_face M k) (face_on r j opposite)
 
   -- a gap, between the parents in directions a and a + 4: p is u of the cell of the second
@@ -453,13 +448,13 @@ module _ (t : List ℕ) (M : Mesh) (D : Drawn t M) where
         let z-made : pres M (z_of C) ≡ T M.c (y_of C) b = made-is M (y_of C) ((C.e + 7) % 12) b (odd-turn 7 C.e b refl dC) (y-rank C dC l) in
         let L : Live M C =
         record { alive = old-alive M C.x C.e b dC l on; unspent = λ hx hy. not-both hy (sym z-made ∙ ap (pres M) (sym z-of) ∙ gone) } in
-        let P : Place r j (u_of C).at (v_of C).at (z_of C).at (At (y_of C).at) =
+        let P : Place r j (u_of C).at (v_of C).at (z_of C).at (Some (y_of C).at) =
         record {
           below = G.below;
           adjacent = G.adjacent ∙ ap (λ (q : Pt). q.at) ((λ t. move (sym w-is t) (sym (add_turn a 1 11 ∙ whole a d.0) t) (suc b)) ∙ w-u C dC);
           next = G.next ∙ ap (λ (q : Pt). q.at) ((λ t. move (sym w-is t) (sym (add_turn a 1 3) t) (suc b)) ∙ w-v C dC);
           first = G.first ∙ ap (λ (q : Pt). q.at) z-of;
-          second = G.second ∙ ap (λ (q : Pt). At q.at) ((λ t. move (z-of t) (sym (add_turn a 1 1) t) (suc b)) ∙ z-y C dC);
+          second = G.second ∙ ap (λ (q : Pt). Some q.at) ((λ t. move (z-of t) (sym (add_turn a 1 1) t) (suc b)) ∙ z-y C dC);
         } in
         record {
           k = C;
@@ -494,10 +489,10 @@ module _ (t : List ℕ) (M : Mesh) (D : Drawn t M) where
             absurd (made (move p g (suc b)) a d (ap (λ (x : Pt). move x a (suc b)) is ∙ x-v-at p r j a (suc b) pl f d q here) l on)
         go g (inr (inr z)) l on = (subst (λ (g : ℕ). rank (move p g (suc b)) ≤ b) z l, ap (λ (g : ℕ). T M.c (move p g (suc b)) b) (sym z) ∙ on)
 
-  pub seen : (p : Pt) (r : Record) → look_up t p.at ≡ Held r → r.d ≢ 0 → (j : ℕ) → j < r.d → Shows r j
+  pub seen : (p : Pt) (r : Record) → look_up t p.at ≡ Some r → r.d ≢ 0 → (j : ℕ) → j < r.d → Shows r j
   seen p r x n j h = go (corners M p r R n j h)
     where
-      R : rec M.H M.c p ≡ some r
+      R : rec M.H M.c p ≡ Some r
       R = sym (D.is p) ∙ ap as_option x
 
       pl : r.at ≡ p.at

@@ -3,10 +3,9 @@
 -- there are such ones · `base-from`, `list-from` the base and its list, `sheet-from`, `bases-same` it holds the same whatever the list's order ·
 -- `records-from` six records for each subdivision · `history` t is the mesh of S subdivisions of the list's hexagons.
 -- Assumes nothing.
-use Rattle.std.specs.Prelude.{◌≡◌, refl, Bool, List, [], ◌∷◌, ℕ, ◌+◌, ◌*◌, ◌<◌, ℤ, length}
+use Rattle.std.specs.Prelude.{◌≡◌, refl, Bool, List, [], ◌∷◌, ℕ, ◌+◌, ◌*◌, ◌<◌, ℤ, length, Option, Some, None}
 use Rattle.std.proofs.Common.{sym, ◌∙◌, ap, subst, arith}
 use Rattle.std.proofs.Math.Path.{fun_ext}
-use Rattle.std.proofs.Math.Option.{some}
 use Rattle.lattice.specs.declared.points.Point.{Point}
 use Rattle.lattice.specs.declared.records.Record.{Record}
 use Rattle.growth.specs.Sheets.{Sheet, Step, base_sheet}
@@ -19,8 +18,6 @@ use Rattle.growth.specs.Subdivide.{record-normal}
 use Rattle.growth.specs.Link.{at, record_is, more-is}
 use Rattle.growth.specs.GrownLaws.{base-is}
 use Rattle.growth.specs.Growth.{grow-step, step-unique}
-use Rattle.table.specs.declared.entries.Looked.{Looked}
-use Rattle.table.specs.declared.entries.Looked.TheVariants.{Absent, Held}
 use Rattle.table.specs.Slots.{slots_in, slots_of}
 use Rattle.table.specs.Order.{InOrder}
 use Rattle.table.specs.Entries.{look_up, records_of}
@@ -78,9 +75,9 @@ sheet-from _ _ _ e (laid t cs z) p = base-sheet t cs z p
 sheet-from _ _ _ e (divided t cs S K a b m z) p = absurd (omega arith)
 sheet-from _ _ _ e (copied t u cs S K o same) p = ap as_option (same p) ∙ sheet-from u cs S e K p
 
-looked-one : (l m : Looked) → as_option l ≡ as_option m → l ≡ m
-looked-one l Absent e = sheet-absent l e
-looked-one l (Held r) e = sheet-held l r e
+looked-one : (l m : Option Record) → as_option l ≡ as_option m → l ≡ m
+looked-one l None e = sheet-absent l e
+looked-one l (Some r) e = sheet-held l r e
 
 -- two bases with the same hexagons, listed in whatever order, hold the same records
 pub bases-same : (a b : List ℕ) (cs ds : List ℤ) → ((p : Point) → is_listed ds p ≡ is_listed cs p) → GrownFrom a cs 0 → GrownFrom b ds 0
@@ -149,7 +146,7 @@ history _ _ _ (divided t cs S K a b m z) = go (history t cs S K)
         let H = is_listed cs in
         let s = accepted t a b m z in
         let v = s.vertex in
-        let x : mesh_of H h.c v.at ≡ some v = sym (h.is v.at) ∙ ap as_option s.held in
+        let x : mesh_of H h.c v.at ≡ Some v = sym (h.is v.at) ∙ ap as_option s.held in
         let q : Pt = record { at = v.at; normal = record-normal H h.c v.at v x } in
         let (_, full, e) = six H (at h.c) q v (sym (record_is h.c H q) ∙ x) s.six in
         let level : v.n.0 ≡ rank q + h.c v.at = ap (λ (r : Record). r.n.0) e in

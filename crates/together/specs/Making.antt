@@ -4,11 +4,10 @@
 -- `centres-from` there is one, `centres-accepted` a base of these is accepted where there is room for the plan · `base-told`, `hexagons-told`,
 -- `subdivisions-told` it holds what the plan's own base holds, and a sixth of the vertices beyond it is the number of subdivisions.
 -- Assumes nothing.
-use Rattle.std.specs.Prelude.{◌≡◌, Bool, cond, not, ◌||◌, List, ℕ, ◌%◌, ◌-◌, ◌/◌, ◌≤◌, ◌<◌, eqb, ℤ, length}
+use Rattle.std.specs.Prelude.{◌≡◌, Bool, cond, not, ◌||◌, List, ℕ, ◌%◌, ◌-◌, ◌/◌, ◌≤◌, ◌<◌, eqb, ℤ, length, Some, None}
 use Rattle.std.proofs.Math.Path.{refl, ap, fun_ext}
 use Rattle.std.proofs.Common.{sym, ◌∙◌, arith, eq-eqb, ne_eqb, eqb-true}
 use Rattle.std.proofs.Math.Bool.{true, false}
-use Rattle.std.proofs.Math.Option.{none, some}
 use Rattle.laws.specs.Each.{same_test, not-both}
 use Rattle.laws.specs.Choices.{of-true, is_true, when_true_lem}
 use Rattle.lattice.specs.Points.{class_of}
@@ -21,7 +20,6 @@ use Rattle.growth.specs.Hexagons.{centre-in}
 use Rattle.table.specs.Slots.{Table, slots_of}
 use Rattle.table.specs.Entries.{look_up, holds, records_of}
 use Rattle.table.specs.MapLaws.{lookup-point, looked-records}
-use Rattle.table.specs.declared.entries.Looked.TheVariants.{Absent, Held}
 use Rattle.base.specs.Base.{base_of, centre_at, centres_in, good_centre, listed_in, is_listed}
 use Rattle.base.specs.BaseLaws.{base-accepts}
 use Rattle.centres.specs.MarkLaws.{good-is, listed_at, listed-is}
@@ -52,7 +50,7 @@ module _ (t : List ℕ) (cs : List ℤ) (S : ℕ) (K : GrownFrom t cs S) where
       ∙ is (present_of H h.c p) _
       ∙ when_true_lem (eqb p.m.0 0) (given_by H p) _ (of-true (eq-eqb p.m.0 0 m))
     where
-      is : (a : Bool) (r : Record) → is_there (cond a (some r) none) ≡ a
+      is : (a : Bool) (r : Record) → is_there (cond a (Some r) None) ≡ a
       is true r = refl
       is false r = refl
 
@@ -163,7 +161,7 @@ module _ (t : List ℕ) (cs : List ℤ) (S : ℕ) (K : GrownFrom t cs S) (ds : L
       (sheet-from b cs 0 refl B p
       ∙ ap (λ (H : Point → Bool). base_sheet H p) (sym (fun_ext (same-listed t cs S K ds good-centres C.has)))
       ∙ sym (list-sheet ds good-centres p)
-      ∙ ap (λ (x : Bool). as_option (cond x (Held r) Absent)) e) in
+      ∙ ap (λ (x : Bool). as_option (cond x (Some r) None)) e) in
       (r, looked-records b o p r x, lookup-point b o p r x)
 
   -- a base of them is accepted in every table with a slot for each vertex of the plan

@@ -5,11 +5,10 @@
 --     degree 5: gap k, acute round k + 4, acute between the two, acute round k + 8, gap k + 8      the last two
 -- `level-is` the level that a vertex has come to.
 -- Assumes nothing.
-use Rattle.std.specs.Prelude.{◌≡◌, ◌≢◌, ◌⊎◌, Bool, ℕ, zero, suc, ◌+◌, ◌*◌, ◌%◌, ◌/◌, ◌≤◌, ◌<◌}
+use Rattle.std.specs.Prelude.{◌≡◌, ◌≢◌, ◌⊎◌, Bool, ℕ, zero, suc, ◌+◌, ◌*◌, ◌%◌, ◌/◌, ◌≤◌, ◌<◌, Some}
 use Rattle.std.proofs.Math.Path.{refl}
 use Rattle.std.proofs.Common.{sym, ◌∙◌, ap, subst, inl, inr, arith}
 use Rattle.std.proofs.Math.Bool.{true, false}
-use Rattle.std.proofs.Math.Option.{some}
 use Rattle.std.proofs.Math.Decide.{ℕ_discrete}
 use Rattle.laws.specs.Each.{not-both, never}
 use Rattle.laws.specs.Rules.{◌≡?◌, ◌&◌, rule}
@@ -216,7 +215,7 @@ module _ (M : Mesh) where
     less-corner five k L (suc (suc (suc (suc zero)))) h = corner-8 4 five k L
     less-corner five k L (suc (suc (suc (suc (suc j))))) h = absurd (omega arith)
 
-  pub corners : (p : Pt) (r : Record) → rec M.H M.c p ≡ some r → r.d ≢ 0 → (j : ℕ) → j < r.d → Corner p r j
+  pub corners : (p : Pt) (r : Record) → rec M.H M.c p ≡ Some r → r.d ≢ 0 → (j : ℕ) → j < r.d → Corner p r j
   corners p r x n j h = go (rank p) refl
     where
       with-record : (q : Record) → r ≡ q → (j < q.d → Corner p q j) → Corner p r j
@@ -231,7 +230,7 @@ module _ (M : Mesh) where
           by (less {d = d} w k L q) = with-record (vertex p.at d k b) q (less-corner p b e w k L j)
 
   -- ---- and back: each has its place
-  pub gap_at : (p : Pt) (r : Record) → rec M.H M.c p ≡ some r → r.d ≢ 0 → (a b : ℕ) → rank p ≡ suc b → Dir a b → a % 4 ≡ birth p
+  pub gap_at : (p : Pt) (r : Record) → rec M.H M.c p ≡ Some r → r.d ≢ 0 → (a b : ℕ) → rank p ≡ suc b → Dir a b → a % 4 ≡ birth p
       → (s t : Bool) → T M.c (move p a b) b ≡ s → T M.c (move p ((a + 4) % 12) b) b ≡ t → NotBoth s t → (j : ℕ) × Gap r j p a b s t
   gap_at p r x n a b f d q s t hs ht un = by (star-of M p r x n b f)
     where
@@ -352,7 +351,7 @@ module _ (M : Mesh) where
         side (right a d q h on) = by_right w k L a h on (third p b f k L a d q)
         side (left a d q h on) = by_left w k L a h on (next-on a d q h B.v-there) (third p b f k L a d q)
 
-  pub acute-at : (p : Pt) (r : Record) → rec M.H M.c p ≡ some r → r.d ≢ 0 → (e i : ℕ) → Alive M (cell p e i) → T M.c p i ≡ false
+  pub acute-at : (p : Pt) (r : Record) → rec M.H M.c p ≡ Some r → r.d ≢ 0 → (e i : ℕ) → Alive M (cell p e i) → T M.c p i ≡ false
       → (j : ℕ) × Acute r j (cell p e i)
   acute-at p r x n e i A off = go (rank p) refl
     where

@@ -1,6 +1,6 @@
 -- On a grown table every corner is plain: `plain-grown`. Its points are in the table, and every vertex with a star in its face names the face.
 -- Assumes nothing.
-use Rattle.std.specs.Prelude.{◌≡◌, refl, ◌≢◌, Bool, true, false, not, ◌&&◌, ◌||◌, List, ℕ, ◌<◌}
+use Rattle.std.specs.Prelude.{◌≡◌, refl, ◌≢◌, Bool, true, false, not, ◌&&◌, ◌||◌, List, ℕ, ◌<◌, Option, Some, None}
 use Rattle.std.proofs.Common.{sym, ◌∙◌, arith}
 use Rattle.std.proofs.Math.Path.{ap}
 use Rattle.std.proofs.Math.Bool.{or-true}
@@ -10,14 +10,10 @@ use Rattle.laws.specs.Each.{each-upto}
 use Rattle.lattice.specs.Stars.{adjacent_at}
 use Rattle.lattice.specs.declared.points.Point.{Point}
 use Rattle.lattice.specs.declared.records.Record.{Record}
-use Rattle.lattice.specs.declared.patterns.Spot.TheVariants.{At}
 use Rattle.growth.specs.Growth.{grown-neighbours}
 use Rattle.table.specs.Slots.{slots_of, slot_at}
 use Rattle.table.specs.Entries.{look_up, is_held, holds}
 use Rattle.table.specs.MapLaws.{slot-looked}
-use Rattle.table.specs.declared.slots.Slot.{Slot}
-use Rattle.table.specs.declared.slots.Slot.TheVariants.{Free, Holds}
-use Rattle.table.specs.declared.entries.Looked.TheVariants.{Held}
 use Rattle.mesh.specs.Grown.{Grown}
 use Rattle.queries.specs.Queries.{chosen_at}
 use Rattle.local.specs.Sheet.{as_option, sheet_of}
@@ -34,25 +30,25 @@ use Rattle.together.specs.Together.{face-everywhere, corner-faced}
 
 module _ (t : List ℕ) (g : Grown t) (k : ℕ) (l : k < slots_of t) where
   -- a vertex with a star that stands earlier in a face of v names it
-  names-too : (v : Record) → look_up t v.at ≡ Held v → v.d ≢ 0 → (f : Face) → Makes t v f → (h : Face) → SameRound f h
+  names-too : (v : Record) → look_up t v.at ≡ Some v → v.d ≢ 0 → (f : Face) → Makes t v f → (h : Face) → SameRound f h
       → inner_in t k (slot_in t h.at) ≡ true → face_seen t k h ≡ true
   unfolding inner_in face_in
   names-too v e n f m h r i =
       let (x, p) = yes-earlier t g.order k (omega arith) (λ u. ltb 0 u.d) h.at i in
       let u = x.rec in
-      let held : look_up t h.at ≡ Held u = ap (look_up t) (sym p) ∙ slot-looked t g.order x.slot u (omega (arith, x.below)) x.holds in
+      let held : look_up t h.at ≡ Some u = ap (look_up t) (sym p) ∙ slot-looked t g.order x.slot u (omega (arith, x.below)) x.holds in
       let star = ltb-true 0 u.d x.passes in
       let w = face-everywhere t g v e n f m h r u held (λ z. omega (arith, star, z)) in
       earlier-yes t g.order k (omega arith) (names_face t h) h.at (passes-too x (names_face t h) (makes-names t u h w)) p
 
-  corner-plain : (v : Record) → slot_at t k ≡ Holds v → (j : ℕ) → j < v.d → plain_at t k v j ≡ true
+  corner-plain : (v : Record) → slot_at t k ≡ Some v → (j : ℕ) → j < v.d → plain_at t k v j ≡ true
   unfolding plain_at
   corner-plain v here j h =
       let (_, m, c) = corner-faced t g v own inner j h in
       let chosen = ap (chosen_at t v) (sym c) ∙ m.chosen in
       ap (plain_with t k v j) chosen ∙ (λ i. there i && named m.opposite chosen i)
     where
-      own : look_up t v.at ≡ Held v
+      own : look_up t v.at ≡ Some v
       own = slot-looked t g.order k v l here
 
       inner : v.d ≢ 0
@@ -63,7 +59,7 @@ module _ (t : List ℕ) (g : Grown t) (k : ℕ) (l : k < slots_of t) where
           let (u, x) = grown-neighbours (sheet_of t) (grown-sheet t g) v (ap as_option own) inner j h in
           ap is_held (sheet-held (look_up t (adjacent_at v j)) u x)
 
-      named : (o : Point) → chosen_at t v j ≡ At o → not (inners_before t k (face_on v j o)) || face_before t k (face_on v j o) ≡ true
+      named : (o : Point) → chosen_at t v j ≡ Some o → not (inners_before t k (face_on v j o)) || face_before t k (face_on v j o) ≡ true
       named o e =
           go (inner_in t k (slot_in t f.adjacent)) (inner_in t k (slot_in t f.opposite)) (inner_in t k (slot_in t f.next)) refl refl refl
         where
@@ -94,6 +90,6 @@ pub plain-grown : (t : List ℕ) → Grown t → plain_of t ≡ true
 unfolding plain_of plain_slot
 plain-grown t g = each-upto (plain_slot t) (slots_of t) (λ k l. slot k l (slot_at t k) refl)
   where
-    slot : (k : ℕ) → k < slots_of t → (s : Slot) → slot_at t k ≡ s → plain_in t k s ≡ true
-    slot k l Free e = refl
-    slot k l (Holds v) e = each-upto (plain_at t k v) v.d (corner-plain t g k l v e)
+    slot : (k : ℕ) → k < slots_of t → (s : Option Record) → slot_at t k ≡ s → plain_in t k s ≡ true
+    slot k l None e = refl
+    slot k l (Some v) e = each-upto (plain_at t k v) v.d (corner-plain t g k l v e)

@@ -3,7 +3,7 @@
 -- any other corner the first opposite is one step of the star's own level away, in the direction `mid_of`, and the second, where there is one, as far again
 -- (`blunt-first`, `blunt-second`, `blunt-none`). One table over degree, place, orientation and the level's parity.
 -- Assumes nothing.
-use Rattle.std.specs.Prelude.{◌≡◌, refl, [], ◌∷◌, cond, ℕ, zero, suc, ◌+◌, ◌%◌, ◌/◌, ◌-◌, ◌≤◌, ◌<◌, eqb, ℤ, pos, ◌+ℤ◌, get_or}
+use Rattle.std.specs.Prelude.{◌≡◌, refl, [], ◌∷◌, cond, ℕ, zero, suc, ◌+◌, ◌%◌, ◌/◌, ◌-◌, ◌≤◌, ◌<◌, eqb, ℤ, pos, ◌+ℤ◌, get_or, Option, Some, None}
 use Rattle.std.proofs.Common.{sym, ◌∙◌, ap, arith}
 use Rattle.laws.specs.Rules.{Test, ◌≡?◌, ◌≤?◌, ◌≡ᶻ?◌, ◌&◌, ◌⇒◌, Means, run, upto, upto-at, rule2}
 use Rattle.lattice.specs.Points.{pt}
@@ -17,8 +17,6 @@ use Rattle.geometry.specs.SideLaws.{vector}
 use Rattle.geometry.specs.StarSteps.{turn_of, down_of}
 use Rattle.lattice.specs.declared.points.Point.{Point}
 use Rattle.lattice.specs.declared.records.Record.{Record}
-use Rattle.lattice.specs.declared.patterns.Spot.{Spot}
-use Rattle.lattice.specs.declared.patterns.Spot.TheVariants.{At, Nothing}
 
 -- 1 where corner j of degree d is acute: its adjacents are two directions apart
 unfoldable pub acute_of : ℕ → ℕ → ℕ
@@ -33,21 +31,21 @@ unfoldable pub has_second : ℕ → ℕ → ℕ
 has_second d j = get_or (cond (eqb d 3) (1 ∷ 1 ∷ 1 ∷ []) (cond (eqb d 4) (1 ∷ 0 ∷ 0 ∷ 0 ∷ []) [])) j 0
 
 -- ---- a spot by its parts
-abbrev is_at : Spot → ℕ
-is_at (At p) = 1
-is_at Nothing = 0
+abbrev is_at : Option Point → ℕ
+is_at (Some p) = 1
+is_at None = 0
 
-abbrev point_in : Spot → Point
-point_in (At p) = p
-point_in Nothing = pt (pos 0) (pos 0) 0
+abbrev point_in : Option Point → Point
+point_in (Some p) = p
+point_in None = pt (pos 0) (pos 0) 0
 
-spot-at : (f : Point → Point) (s : Spot) → is_at s ≡ 1 → on_spot f s ≡ At (f (point_in s))
-spot-at f (At p) e = refl
-spot-at f Nothing e = absurd (omega arith)
+spot-at : (f : Point → Point) (s : Option Point) → is_at s ≡ 1 → on_spot f s ≡ Some (f (point_in s))
+spot-at f (Some p) e = refl
+spot-at f None e = absurd (omega arith)
 
-spot-none : (f : Point → Point) (s : Spot) → is_at s ≡ 0 → on_spot f s ≡ Nothing
-spot-none f (At p) e = absurd (omega arith)
-spot-none f Nothing e = refl
+spot-none : (f : Point → Point) (s : Option Point) → is_at s ≡ 0 → on_spot f s ≡ None
+spot-none f (Some p) e = absurd (omega arith)
+spot-none f None e = refl
 
 -- ---- the table: places at depth 2, before the level scales them. b is the level's parity, o how many levels down
 abbrev across : ℕ → ℕ → ℕ → ℤ
@@ -157,8 +155,8 @@ module _ (r : Record) (j : ℕ) (l : 3 ≤ r.d) (h : r.d ≤ 6) (hj : j < r.d) (
         ((λ t. vec-wide e n o b t +ℤ vec-wide g n o b t) ∙ x.1.0 ∙ sym (pat-wide S n))
         ((λ t. vec-high e n o b t +ℤ vec-high g n o b t) ∙ x.1.1.0 ∙ sym (pat-high S n))
 
-    pub acute-second : second_at r j ≡ At (move_of (move_of r.at e (n + o)) ((e + 2) % 12) (n + o))
-    acute-second = spot-at (step_of r.at r.n) (second_opposite_of r.d r.k j) x.0 ∙ ap (λ (p : Point). At p) (sym far-is)
+    pub acute-second : second_at r j ≡ Some (move_of (move_of r.at e (n + o)) ((e + 2) % 12) (n + o))
+    acute-second = spot-at (step_of r.at r.n) (second_opposite_of r.d r.k j) x.0 ∙ ap (λ (p : Point). Some p) (sym far-is)
 
     pub acute-first : first_at r j ≡ move_of (move_of (move_of r.at e (n + o)) ((e + 2) % 12) (n + o)) ((e + 7) % 12) (suc (n + o))
     acute-first =
@@ -195,13 +193,13 @@ module _ (r : Record) (j : ℕ) (l : 3 ≤ r.d) (h : r.d ≤ 6) (hj : j < r.d) (
         sum_same r.at (scale_of (level n) F) (vector g n) (2 + n / 2) F-depth zero-depth
         (record { across = pat-wide F n ∙ sym y.1.0 ∙ sym zero-wide; up = pat-high F n ∙ sym y.1.1.0 ∙ sym zero_high })
 
-    pub blunt-second : has_second r.d j ≡ 1 → second_at r j ≡ At (move_of (move_of r.at g n) g n)
+    pub blunt-second : has_second r.d j ≡ 1 → second_at r j ≡ Some (move_of (move_of r.at g n) g n)
     blunt-second f =
         let z = y.1.1.1 f in
         spot-at (step_of r.at r.n) (second_opposite_of r.d r.k j) (y.0 ∙ f)
-        ∙ ap (λ (p : Point). At p) (sym (sum-sum r.at (vector g n) (vector g n) (scale_of (level n) S) (2 + n / 2) zero-depth zero-depth S-depth
+        ∙ ap (λ (p : Point). Some p) (sym (sum-sum r.at (vector g n) (vector g n) (scale_of (level n) S) (2 + n / 2) zero-depth zero-depth S-depth
         ((λ t. zero-wide t +ℤ zero-wide t) ∙ z.0 ∙ sym (pat-wide S n))
         ((λ t. zero_high t +ℤ zero_high t) ∙ z.1 ∙ sym (pat-high S n))))
 
-    pub blunt-none : has_second r.d j ≡ 0 → second_at r j ≡ Nothing
+    pub blunt-none : has_second r.d j ≡ 0 → second_at r j ≡ None
     blunt-none f = spot-none (step_of r.at r.n) (second_opposite_of r.d r.k j) (y.0 ∙ f)

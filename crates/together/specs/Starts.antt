@@ -2,13 +2,13 @@
 -- live cells have the same face only where they are one (`face-cell`, by ranks alone), each live cell comes from one start and each start leads to one.
 -- `StartIn` a start that is alive, `starts-add` a subdivision adds six: the cells round it at the level after · `lives`, `has-face` the faces of a table.
 -- Assumes nothing.
-use Rattle.std.specs.Prelude.{◌≡◌, refl, ◌≢◌, ◌⊎◌, Bool, true, false, ℕ, zero, suc, ◌+◌, ◌*◌, ◌%◌, ◌/◌, ◌≤◌, ◌<◌, length}
+use Rattle.lattice.specs.declared.points.Point.{Point}
+use Rattle.std.specs.Prelude.{◌≡◌, refl, ◌≢◌, ◌⊎◌, Bool, true, false, ℕ, zero, suc, ◌+◌, ◌*◌, ◌%◌, ◌/◌, ◌≤◌, ◌<◌, length, Option, Some}
 use Rattle.std.proofs.Common.{sym, ◌∙◌, ap, subst, inl, inr, arith}
 use mathlib.Core.List.{List, Memᴰ}
 use Rattle.laws.specs.Each.{not-both, at-among}
 use Rattle.laws.specs.Some.{some_of, some_at, at_some}
 use Rattle.lattice.specs.declared.records.Record.{Record}
-use Rattle.lattice.specs.declared.patterns.Spot.{Spot}
 use Rattle.geometry.specs.SideLaws.{Dir}
 use Rattle.growth.specs.Normal.{Pt, pt-eq, rank, birth, move, inj}
 use Rattle.growth.specs.Parents.{par}
@@ -17,7 +17,6 @@ use Rattle.growth.specs.Updates.{splits-some}
 use Rattle.growth.specs.Order.{Low}
 use Rattle.table.specs.Entries.{look_up, records_of}
 use Rattle.table.specs.MapLaws.{records-looked, looked-records}
-use Rattle.table.specs.declared.entries.Looked.TheVariants.{Held}
 use Rattle.queries.specs.Queries.{chosen_at}
 use Rattle.grown.specs.Steps.{sheet-held}
 use Rattle.firsts.specs.Faces.{each, face_with, faces_at, turned, same_face, faces_in}
@@ -172,7 +171,7 @@ makes-has : (t : List ℕ) (f g : Face) (u : Record) → Makes t u g → SameRou
 makes-has t f g u m r =
     some-gather (same_face f) u.d (λ j. face_with u j (chosen_at t u j))
     ∙ at-among (λ j. some_of (same_face f) (face_with u j (chosen_at t u j))) u.d m.corner m.below
-    (ap (λ (s : Spot). some_of (same_face f) (face_with u m.corner s)) m.chosen ∙ some_one (same_face f) (face_on u m.corner m.opposite)
+    (ap (λ (s : Option Point). some_of (same_face f) (face_with u m.corner s)) m.chosen ∙ some_one (same_face f) (face_on u m.corner m.opposite)
     ∙ ap (same_face f) m.is ∙ round_same f g r)
 
 module _ (t : List ℕ) (M : Mesh) (D : Drawn t M) where
@@ -199,7 +198,7 @@ module _ (t : List ℕ) (M : Mesh) (D : Drawn t M) where
           → some_of (same_face (cell_face M k)) (each (faces_at t) (records_of t)) ≡ true
       by p f on int g e s =
           let r = star_at M.c p (suc k.i) in
-          let x : look_up t p.at ≡ Held r =
+          let x : look_up t p.at ≡ Some r =
           sheet-held (look_up t p.at) r (D.is p ∙ rec-look M.H M.c p r on (ap (int_at M.H p) f ∙ int) (ap (star_at M.c p) f)) in
           let m = found t M D k L g s r (ap (look_up t) e ∙ x) (star-some p k.i) in
           some-over (same_face (cell_face M k)) (faces_at t) (records_of t)

@@ -3,13 +3,12 @@
 -- `tally`, `faces-tally`, `edges-tally` of every grown table · `ground-fit`, `hexagons-fit`, `pairs-fit`, `sides-fit` of a table with its history ·
 -- `points` the points of depth 0 that pass a test, `points-inventory`, `points-many` each once · `beside_at` which hexagons stand side by side.
 -- Assumes nothing.
-use Rattle.std.specs.Prelude.{◌≡◌, Bool, false, ◌&&◌, eqb, ℤ, pos, negsuc, ◌+ℤ◌, length}
+use Rattle.std.specs.Prelude.{◌≡◌, Bool, false, ◌&&◌, eqb, ℤ, pos, negsuc, ◌+ℤ◌, length, Option, Some, None}
 use Rattle.std.proofs.Math.Path.{refl, sym, ap}
 use Rattle.std.proofs.Common.{◌∙◌, subst, eq-eqb, eqb-true}
 use Rattle.std.proofs.Math.Bool.{true, cond}
 use mathlib.Core.List.Memᴰ
 use mathlib.Core.List.{List, [], ◌∷◌, Memᴰ}
-use Rattle.std.proofs.Math.Option.{Option, none, some}
 use Prim.Native.Nat.{ℕ, zero, suc, ◌+◌, ◌*◌, ◌-◌, ◌%◌, ◌<◌}
 use native.Mathlib.Omega.{arith}
 use Rattle.laws.specs.Each.{not-both, never, both_left, both_right, same_test}
@@ -31,10 +30,6 @@ use Rattle.table.specs.Search.{same_point}
 use Rattle.table.specs.Order.{InOrder}
 use Rattle.table.specs.Entries.{look_up, holds, is_held, listed, records_below, records_of}
 use Rattle.table.specs.MapLaws.{lookup-point, records-looked, looked-records, records-apart, Apart, same_refl, same_true}
-use Rattle.table.specs.declared.slots.Slot.{Slot}
-use Rattle.table.specs.declared.slots.Slot.TheVariants.{Free, Holds}
-use Rattle.table.specs.declared.entries.Looked.{Looked}
-use Rattle.table.specs.declared.entries.Looked.TheVariants.{Absent, Held}
 use Rattle.base.specs.Base.{centre_at, centres_in, is_listed}
 use Rattle.centres.specs.MarkLaws.{good-is, listed_at, listed-is}
 use Rattle.centres.specs.Centres.{GoodList}
@@ -55,10 +50,10 @@ use Rattle.together.specs.Making.{ground-held, centre-held}
 use Rattle.together.specs.Tally.{tallied, on_ground, is_centre, beside_of, besides_at, hexagons_in, ground_in, pairs_in}
 
 -- ---- slots and records
-over-slot : (f : Record → ℕ) (s : Slot) → slot_sum f s ≡ over f (listed s)
+over-slot : (f : Record → ℕ) (s : Option Record) → slot_sum f s ≡ over f (listed s)
 unfolding over
-over-slot f Free = refl
-over-slot f (Holds v) = omega arith
+over-slot f None = refl
+over-slot f (Some v) = omega arith
 
 over_below : (f : Record → ℕ) (t : List ℕ) (n : ℕ) → sum_below (λ k. slot_sum f (slot_at t k)) n ≡ over f (records_below t n)
 unfolding sum_below records_below over
@@ -116,7 +111,7 @@ module _ (t : List ℕ) (o : InOrder t) (Q : Point → Bool) (low : (p : Point) 
       omega (arith, a, b, c)
 
   -- a record that passes, and its point
-  passed : (r : Record) → Memᴰ r (kept (λ r. Q r.at) (records_of t)) → (look_up t r.at ≡ Held r) × (Q r.at ≡ true) × ((ground r.at).at ≡ r.at)
+  passed : (r : Record) → Memᴰ r (kept (λ r. Q r.at) (records_of t)) → (look_up t r.at ≡ Some r) × (Q r.at ≡ true) × ((ground r.at).at ≡ r.at)
   passed r m =
       let (n, q) = kept_in (λ r. Q r.at) (records_of t) r m in
       (records-looked t o r n, q, ground-at r.at (low r.at q))
@@ -128,7 +123,7 @@ module _ (t : List ℕ) (o : InOrder t) (Q : Point → Bool) (low : (p : Point) 
       apart [] a = nothing
       apart (r ∷ rs) a = more (λ m. a.0 r m refl) (apart rs a.1)
 
-      held : (r s : Record) → Held r ≡ Held s → r ≡ s
+      held : (r s : Record) → Some r ≡ Some s → r ≡ s
       held r s e = cc
 
       distinct : Distinct (points Q (records_of t))
@@ -148,9 +143,9 @@ module _ (t : List ℕ) (o : InOrder t) (Q : Point → Bool) (low : (p : Point) 
           let is : q.at ≡ r.at = ap (λ (q : Pt). q.at) (Memᴰ.eq_of_singleton k) ∙ e in
           (ap (holds t) is ∙ ap is_held x, ap Q is ∙ y)
 
-      full : (q : Pt) → Q q.at ≡ true → (l : Looked) → look_up t q.at ≡ l → is_held (look_up t q.at) ≡ true → Memᴰ q (points Q (records_of t))
-      full q k Absent e h = absurd (not-both h (ap is_held e))
-      full q k (Held r) e h =
+      full : (q : Pt) → Q q.at ≡ true → (l : Option Record) → look_up t q.at ≡ l → is_held (look_up t q.at) ≡ true → Memᴰ q (points Q (records_of t))
+      full q k None e h = absurd (not-both h (ap is_held e))
+      full q k (Some r) e h =
           let is = lookup-point t o q.at r e in
           let p = ap Q is ∙ k in
           in-each (λ r. ground r.at ∷ []) (kept (λ r. Q r.at) (records_of t)) r q
@@ -207,7 +202,7 @@ base-low b cs B r m =
     go (on_ground r.at) (given_by (is_listed cs) r.at) _
     (sym (sheet-from b cs 0 refl B r.at) ∙ ap as_option (records-looked b (from-grown b cs 0 B).order r m))
   where
-    go : (x y : Bool) (v : Record) → ◌≡◌ {A = Option Record} (cond (x && y) (some v) none) (some r) → x ≡ true
+    go : (x y : Bool) (v : Record) → ◌≡◌ {A = Option Record} (cond (x && y) (Some v) None) (Some r) → x ≡ true
     go true y v e = refl
     go false y v e = absurd (never (ap is_there e))
 

@@ -2,7 +2,7 @@
 -- `Bytes` all are below 256, as lent bytes are · `put-again` the record that a slot holds, written there again, changes nothing · `put-put` of two
 -- writes of a slot the last counts · `replace-back` · `put-bytes`, `replace-bytes` a table of bytes stays one.
 -- Assumes nothing.
-use Rattle.std.specs.Prelude.{◌≡◌, Bool, true, false, cond, List}
+use Rattle.std.specs.Prelude.{◌≡◌, Bool, true, false, cond, List, Some, None}
 use Rattle.std.proofs.Math.Path.{refl, sym, ap}
 use Rattle.std.proofs.Common.{◌∙◌, subst, ext_get_or, to_z, of_z}
 use Prim.Native.Nat.{ℕ, zero, suc, ◌+◌, ◌-◌, ◌*◌, ◌/◌, ◌%◌, ◌≤◌, ◌<◌}
@@ -25,8 +25,6 @@ use Rattle.table.specs.Search.{find_of}
 use Rattle.table.specs.Order.{InOrder}
 use Rattle.table.specs.Entries.{look_up, replace_of}
 use Rattle.table.specs.MapLaws.{find-held, put-replace, replace-find, at_room}
-use Rattle.table.specs.declared.slots.Slot.TheVariants.{Free, Holds}
-use Rattle.table.specs.declared.entries.Looked.TheVariants.{Held}
 use Rattle.table.specs.declared.probe.Found.TheVariants as found
 
 -- every byte is below 256
@@ -111,16 +109,16 @@ record-byte t p (suc (suc (suc (suc (suc (suc (suc (suc (suc (suc zero))))))))))
 record-byte t p (suc (suc (suc (suc (suc (suc (suc (suc (suc (suc (suc zero))))))))))) b h = refl
 record-byte t p (suc (suc (suc (suc (suc (suc (suc (suc (suc (suc (suc (suc c)))))))))))) b h = absurd (omega arith)
 
-slot-record : (t : List ℕ) (i : ℕ) (r : Record) → slot_at t i ≡ Holds r → record_at t (slot_width * i) ≡ r
+slot-record : (t : List ℕ) (i : ℕ) (r : Record) → slot_at t i ≡ Some r → record_at t (slot_width * i) ≡ r
 unfolding slot_at
 slot-record t i r e = go (free_at t (slot_width * i)) refl
   where
     go : (b : Bool) → free_at t (slot_width * i) ≡ b → record_at t (slot_width * i) ≡ r
     go true x =
-        let y : Free ≡ Holds r = sym (ap (λ (b : Bool). cond b Free (Holds (record_at t (slot_width * i)))) x) ∙ e in
+        let y : None ≡ Some r = sym (ap (λ (b : Bool). cond b None (Some (record_at t (slot_width * i)))) x) ∙ e in
         absurd (let z : ◌≡◌ {A = ℕ} 0 1 = cc in omega arith)
     go false x =
-        let y : Holds (record_at t (slot_width * i)) ≡ Holds r = sym (ap (λ (b : Bool). cond b Free (Holds (record_at t (slot_width * i)))) x) ∙ e in
+        let y : Some (record_at t (slot_width * i)) ≡ Some r = sym (ap (λ (b : Bool). cond b None (Some (record_at t (slot_width * i)))) x) ∙ e in
         cc
 
 -- twelve bytes stored at p: below, in, above
@@ -144,7 +142,7 @@ unfolding record_bytes
 bytes-twelve r = refl
 
 module _ (t : List ℕ) (i : ℕ) (r : Record) (room : slot_width * i + slot_width ≤ length t) where
-  pub put-again : slot_at t i ≡ Holds r → Bytes t → put_slot t i r ≡ t
+  pub put-again : slot_at t i ≡ Some r → Bytes t → put_slot t i r ≡ t
   unfolding put_slot
   put-again e b =
       stored t (record_bytes r) (slot_width * i) (bytes-twelve r) room t refl (λ x l. refl) (λ x l. refl)
@@ -164,7 +162,7 @@ module _ (t : List ℕ) (i : ℕ) (r : Record) (room : slot_width * i + slot_wid
       (λ x l. get_d-sets-above ys t p x (omega arith) ∙ sym (get_d-sets-above xs t p x (omega arith)))
       (λ c l. get_d-sets-in ys t p c (omega arith) (omega arith))
 
-pub replace-back : (t : List ℕ) → InOrder t → Bytes t → (r q : Record) → look_up t r.at ≡ Held r → q.at ≡ r.at → valid_of q ≡ true
+pub replace-back : (t : List ℕ) → InOrder t → Bytes t → (r q : Record) → look_up t r.at ≡ Some r → q.at ≡ r.at → valid_of q ≡ true
     → replace_of (replace_of t q) r ≡ t
 replace-back t o b r q h same ok =
     let f = find-held t o.fits r.at r h in
@@ -218,7 +216,7 @@ module _ (r : Record) (ok : valid_of r ≡ true) where
           subst (λ (y : ℕ). get_or (sets t p (record_bytes r)) y 0 < 256) e (rw (get_d-sets-in (record_bytes r) t p (x - p) h k) (record-small (x - p)))
       go (no l) (no m) = let w = bytes-twelve r in let h : p + length (record_bytes r) ≤ x = omega arith in rw (get_d-sets-above (record_bytes r) t p x h) (b x)
 
-  pub replace-bytes : (t : List ℕ) → InOrder t → (q : Record) → look_up t r.at ≡ Held q → Bytes t → Bytes (replace_of t r)
+  pub replace-bytes : (t : List ℕ) → InOrder t → (q : Record) → look_up t r.at ≡ Some q → Bytes t → Bytes (replace_of t r)
   replace-bytes t o q h b =
       let f = find-held t o.fits r.at q h in
       subst Bytes (put-replace t r f.0 f.1) (put-bytes t f.0 (at_room t (slots_of t) o.fits r.at f.0 f.1) b)

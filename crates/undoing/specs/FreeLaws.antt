@@ -1,6 +1,6 @@
 -- The bytes of a slot freed: `freed-put` a free slot written and freed has its bytes again · `freed-length` · `free-next` one byte more, for the loop.
 -- Assumes nothing.
-use Rattle.std.specs.Prelude.{◌≡◌, refl, Bool, true, false, cond, List, [], ◌∷◌, ℕ, ◌+◌, ◌-◌, ◌*◌, ◌≤◌, ◌<◌, eqb, length, get_or, set}
+use Rattle.std.specs.Prelude.{◌≡◌, refl, Bool, true, false, cond, List, [], ◌∷◌, ℕ, ◌+◌, ◌-◌, ◌*◌, ◌≤◌, ◌<◌, eqb, length, get_or, set, Some, None}
 use Rattle.std.proofs.Common.{sym, ap, ◌∙◌, arith, eqb-true, ext_get_or}
 use Rattle.std.proofs.Math.Decide.{dec_lt}
 use Rattle.std.proofs.lemmas.List.{length-replicate, replicate-append-replicate}
@@ -12,7 +12,6 @@ use Rattle.laws.specs.Each.{upto-each}
 use Rattle.lattice.specs.declared.records.Record.{Record}
 use Rattle.table.specs.Slots.{slot_width, free_at, record_at, slot_at, record_bytes, put_slot}
 use Rattle.table.specs.SlotLaws.{put-length}
-use Rattle.table.specs.declared.slots.Slot.TheVariants.{Free, Holds}
 use Rattle.undoing.specs.Undo.{ones, freed}
 
 -- ---- a slot freed
@@ -31,14 +30,14 @@ module _ (t : List ℕ) (i : ℕ) (room : slot_width * i + slot_width ≤ length
       get_d-sets-in (ones slot_width) t (slot_width * i) c (omega arith) (omega arith) ∙ get_or-replicate slot_width c 255 0 l
 
 -- ---- a free slot written and freed
-free-byte : (t : List ℕ) (i c : ℕ) → slot_at t i ≡ Free → c < slot_width → ◌≡◌ {A = ℕ} (get_or t (slot_width * i + c) 0) 255
+free-byte : (t : List ℕ) (i c : ℕ) → slot_at t i ≡ None → c < slot_width → ◌≡◌ {A = ℕ} (get_or t (slot_width * i + c) 0) 255
 unfolding slot_at free_at
 free-byte t i c e l = go (free_at t (slot_width * i)) refl
   where
     go : (b : Bool) → free_at t (slot_width * i) ≡ b → ◌≡◌ {A = ℕ} (get_or t (slot_width * i + c) 0) 255
     go true x = eqb-true (get_or t (slot_width * i + c) 0) 255 (upto-each (λ k. eqb (get_or t (slot_width * i + k) 0) 255) slot_width c x l)
     go false x =
-        let y : Holds (record_at t (slot_width * i)) ≡ Free = sym (ap (λ (b : Bool). cond b Free (Holds (record_at t (slot_width * i)))) x) ∙ e in
+        let y : Some (record_at t (slot_width * i)) ≡ None = sym (ap (λ (b : Bool). cond b None (Some (record_at t (slot_width * i)))) x) ∙ e in
         absurd (let z : ◌≡◌ {A = ℕ} 0 1 = cc in omega arith)
 
 freed-below : (t : List ℕ) (i x : ℕ) → x < slot_width * i → get_or (freed t i) x 0 ≡ get_or t x 0
@@ -57,7 +56,7 @@ put-above : (t : List ℕ) (i : ℕ) (r : Record) (x : ℕ) → slot_width * i +
 unfolding put_slot record_bytes
 put-above t i r x l = get_d-sets-above (record_bytes r) t (slot_width * i) x (omega arith)
 
-pub freed-put : (t : List ℕ) (i : ℕ) (r : Record) → slot_width * i + slot_width ≤ length t → slot_at t i ≡ Free → freed (put_slot t i r) i ≡ t
+pub freed-put : (t : List ℕ) (i : ℕ) (r : Record) → slot_width * i + slot_width ≤ length t → slot_at t i ≡ None → freed (put_slot t i r) i ≡ t
 freed-put t i r room e =
     ext_get_or 0 (freed (put_slot t i r) i) t (freed-length (put_slot t i r) i ∙ put-length t i r)
     (λ x l. go x (dec_lt x (slot_width * i)) (dec_lt x (slot_width * i + slot_width)))

@@ -2,9 +2,9 @@
 -- Write by write: what entered last leaves first, and leaves every byte as it was (`enter-unenter`): its slot was free, so it is on no record's way; each
 -- record replaced is told by what replaced it (`earlier-update`), and put back (`replace-back`).
 -- `subdivided-bytes` a table of bytes stays one · `unentered-more`, `restored-more` .. as the loops go · `earlier_slot`, `restore-at` a vertex by its slot ·
--- `former-inner`, `undone-is`, `replaced-at`.
+-- `undone-is`, `replaced-at`.
 -- Assumes nothing.
-use Rattle.std.specs.Prelude.{◌≡◌, true, ℕ, zero, suc, ◌+◌, ◌*◌, ◌-◌, ◌%◌, ◌≤◌, ◌<◌, length}
+use Rattle.std.specs.Prelude.{◌≡◌, true, ℕ, zero, suc, ◌+◌, ◌*◌, ◌-◌, ◌≤◌, ◌<◌, length, Option, Some, None}
 use Rattle.std.proofs.Math.Path.{refl, ap}
 use Rattle.std.proofs.Common.{sym, ◌∙◌, subst}
 use mathlib.Core.List.{List}
@@ -12,7 +12,7 @@ use native.Mathlib.Omega.{arith}
 use Rattle.laws.specs.Choices.{is_true, of-true}
 use Rattle.lattice.specs.Stars.{adjacent_at}
 use Rattle.lattice.specs.Records.{valid_of}
-use Rattle.lattice.specs.RecordLaws.{Inner, inner}
+use Rattle.lattice.specs.RecordLaws.{inner}
 use Rattle.lattice.specs.Subdivision.{centre_of, new_of, back_of, update_of}
 use Rattle.lattice.specs.declared.points.Point.{Point}
 use Rattle.lattice.specs.declared.records.Record.{Record}
@@ -25,12 +25,8 @@ use Rattle.table.specs.Order.{InOrder}
 use Rattle.table.specs.Entries.{look_up, replace_at, replace_of, enter_of}
 use Rattle.table.specs.MapLaws.{lookup-point, lookup-valid, find-free, find-held, at-free, at_held, put-enter, put-replace}
 use Rattle.table.specs.MapLaws.{enter-order, enter-finds, enter-length, replace-table, table_same}
-use Rattle.table.specs.declared.slots.Slot.{Slot}
-use Rattle.table.specs.declared.slots.Slot.TheVariants.{Free, Holds}
 use Rattle.table.specs.declared.probe.Found.{Found}
 use Rattle.table.specs.declared.probe.Found.TheVariants as found
-use Rattle.table.specs.declared.entries.Looked.{Looked}
-use Rattle.table.specs.declared.entries.Looked.TheVariants.{Absent, Held}
 use Rattle.mesh.specs.Subdivide.{renew_at, renewed_to, entered_to, subdivided}
 use Rattle.mesh.specs.SubdivideLaws.{Intact, renewed, entered, old, renewal, centre-good, new-good, vertex-valid}
 use Rattle.undoing.specs.FreeLaws.{freed-put, freed-length}
@@ -40,7 +36,7 @@ use Rattle.undoing.specs.EarlierLaws.{former-centre, earlier-update, earlier-at}
 use Rattle.undoing.specs.Undo.{freed, unenter_at, unenter_of, unentered_to, restore_at, restore_of, restored_to, undone}
 
 -- ---- a record entered and, at once, taken out again: its slot was free, so every byte is as it was
-pub enter-unenter : (t : List ℕ) → InOrder t → (r : Record) → valid_of r ≡ true → look_up t r.at ≡ Absent → 0 < free_slots t
+pub enter-unenter : (t : List ℕ) → InOrder t → (r : Record) → valid_of r ≡ true → look_up t r.at ≡ None → 0 < free_slots t
     → unenter_of (enter_of t r) r.at ≡ t
 enter-unenter t o r ok h f =
     let x = find-free t o.fits r.at h f in
@@ -49,7 +45,7 @@ enter-unenter t o r ok h f =
     let free = (at-free t o.fits r.at i x.1).free in
     let space : slot_width * i + slot_width ≤ length t = omega (arith, x.2, o.fits.long) in
     let order : InOrder (enter_of t r) = enter-order t o r ok in
-    let there : slot_at (enter_of t r) i ≡ Holds r = ap (λ (u : List ℕ). slot_at u i) (sym put) ∙ put_same t i r space (inside-fits r.at (valid-inside r ok)) in
+    let there : slot_at (enter_of t r) i ≡ Some r = ap (λ (u : List ℕ). slot_at u i) (sym put) ∙ put_same t i r space (inside-fits r.at (valid-inside r ok)) in
     let long : slots_of (enter_of t r) ≡ slots_of t = ap slots_in (enter-length t r) in
     let y = find-held (enter_of t r) order.fits r.at r (enter-finds t o r ok h f) in
     let z = at_held (enter_of t r) order.fits r.at y.0 y.1 in
@@ -113,7 +109,7 @@ module _ (t : List ℕ) (v : Record) (w : Intact t v) where
   renewal-at j h = update-at (back_of v.k j) (old t v w j h).0
 
   -- before its turn it is as it was
-  before : (j : ℕ) (h : j < 6) → look_up (renewed_to t₁ v j) (old t v w j h).0.at ≡ Held (old t v w j h).0
+  before : (j : ℕ) (h : j < 6) → look_up (renewed_to t₁ v j) (old t v w j h).0.at ≡ Some (old t v w j h).0
   before j h = let n : j ≤ j = omega arith in ap (look_up (renewed_to t₁ v j)) (old-point j h) ∙ (renewed t v w j (omega arith)).later j n h ∙ (old t v w j h).1
 
   renew-put : (j : ℕ) (h : j < 6) → renewed_to t₁ v (suc j) ≡ replace_of (renewed_to t₁ v j) (renewal t v w j h)
@@ -124,10 +120,10 @@ module _ (t : List ℕ) (v : Record) (w : Intact t v) where
   unfolding renewed_to
   renew-none = refl
 
-  restore-next : (u : List ℕ) (j : ℕ) (r : Record) → look_up u (adjacent_at v j) ≡ Held r
+  restore-next : (u : List ℕ) (j : ℕ) (r : Record) → look_up u (adjacent_at v j) ≡ Some r
       → restored_to u v (suc j) ≡ restored_to (replace_of u (earlier_of (back_of v.k j) r)) v j
   unfolding restored_to
-  restore-next u j r e = ap (λ (x : Looked). restored_to (restore_at u v j x) v j) e
+  restore-next u j r e = ap (λ (x : Option Record). restored_to (restore_at u v j x) v j) e
 
   restore-none : (u : List ℕ) → restored_to u v 0 ≡ u
   unfolding restored_to
@@ -171,7 +167,7 @@ module _ (t : List ℕ) (v : Record) (w : Intact t v) where
         let u = (old t v w j h).0 in
         let r = renewed t v w j (omega arith) in
         let small : k' < 12 = omega arith in
-        let done : look_up (renewed_to t₁ v (suc j)) (adjacent_at v j) ≡ Held (update_of k' u) =
+        let done : look_up (renewed_to t₁ v (suc j)) (adjacent_at v j) ≡ Some (update_of k' u) =
         (renewed t v w (suc j) l).done j (omega arith) u (old t v w j h).1 in
         let back : earlier_of k' (update_of k' u) ≡ u = earlier-update k' v.n.0 u small (of-true (old-valid j h)) (of-true (old t v w j h).2) in
         restore-next (renewed_to t₁ v (suc j)) j (update_of k' u) done
@@ -225,14 +221,14 @@ restored-none t v j e = rw e
 pub restore-table : (t : List ℕ) (v : Record) (j n : ℕ) → Table t n → Table (restore_of t v j) n
 restore-table t v j n w = go (look_up t (adjacent_at v j))
   where
-    go : (l : Looked) → Table (restore_at t v j l) n
-    go Absent = w
-    go (Held r) = replace-table t (earlier_of (back_of v.k j) r) n w
+    go : (l : Option Record) → Table (restore_at t v j l) n
+    go None = w
+    go (Some r) = replace-table t (earlier_of (back_of v.k j) r) n w
 
 -- by the slot where its search ended
-abbrev pub earlier_held : List ℕ → ℕ → ℕ → Slot → List ℕ
-earlier_held t i k' Free = t
-earlier_held t i k' (Holds w) = put_slot t i (earlier_of k' w)
+abbrev pub earlier_held : List ℕ → ℕ → ℕ → Option Record → List ℕ
+earlier_held t i k' None = t
+earlier_held t i k' (Some w) = put_slot t i (earlier_of k' w)
 
 abbrev pub earlier_slot : List ℕ → ℕ → ℕ → List ℕ
 earlier_slot t i k' = earlier_held t i k' (slot_at t i)
@@ -246,28 +242,8 @@ module _ (t : List ℕ) (w : Table t (slots_of t)) (v : Record) (j : ℕ) where
       ∙ put-replace t (earlier_of k' x.rec) i (ap (find_of t) (earlier-at k' x.rec ∙ x.point) ∙ e)
       ∙ ap (restore_at t v j) (sym x.looked)
 
-  pub restore-absent : look_up t (adjacent_at v j) ≡ Absent → t ≡ restore_of t v j
+  pub restore-absent : look_up t (adjacent_at v j) ≡ None → t ≡ restore_of t v j
   restore-absent e = ap (restore_at t v j) (sym e)
-
--- v before, as the code asks it
-pub former-inner : (c : Record) → Inner c → c.d ≡ 6 → 0 < c.n.0 → Inner (former_of c)
-former-inner c i six up =
-    let p = i.parity in
-    let l = i.level in
-    record {
-      normal = i.normal;
-      depth = i.depth;
-      wide = i.wide;
-      high = i.high;
-      low = i.low;
-      top = i.top;
-      turn = rw six (omega arith);
-      level = omega arith;
-      parity = other c.k c.n.0 up p;
-    }
-  where
-    other : (k n : ℕ) → 0 < n → k % 2 ≡ n % 2 → (k + 1) % 2 % 2 ≡ (n - 1) % 2
-    other k n l h = omega arith
 
 pub undone-is : (t : List ℕ) (c : Record) → replace_of (restored_to (unentered_to t c 6) (former_of c) 6) (former_of c) ≡ undone t c
 unfolding undone

@@ -3,7 +3,8 @@
 -- `least-round` turned, and not more · `Least`, `least_first_lem` the smallest first · `corners-rise` they rise strictly · `corners-once` the file has them each
 -- as often as the mesh · `corners-many` as many as the census counts.
 -- Assumes nothing.
-use Rattle.std.specs.Prelude.{◌≡◌, ◌⊎◌, Bool, cond, not, ◌&&◌, ◌||◌, ℕ, ◌+◌, ◌≤◌, ◌<◌, leb}
+use Rattle.lattice.specs.declared.points.Point.{Point}
+use Rattle.std.specs.Prelude.{◌≡◌, ◌⊎◌, Bool, cond, not, ◌&&◌, ◌||◌, ℕ, ◌+◌, ◌≤◌, ◌<◌, leb, Option, Some, None}
 use Rattle.std.proofs.Math.Path.{refl}
 use Rattle.std.proofs.Common.{sym, ap, ◌∙◌, subst, inl, inr, arith, ltb-true, ltb-false, lt-ltb, leb-true, le-leb}
 use Rattle.std.proofs.Math.Bool.{true, false, or-false, or-true}
@@ -15,8 +16,6 @@ use Rattle.std.proofs.lemmas.List.{length-map}
 use Rattle.laws.specs.Each.{not-both, both_left, both_right}
 use Rattle.laws.specs.Some.{some_of, some-append}
 use Rattle.lattice.specs.declared.records.Record.{Record}
-use Rattle.lattice.specs.declared.patterns.Spot.{Spot}
-use Rattle.lattice.specs.declared.patterns.Spot.TheVariants.{At, Nothing}
 use Rattle.table.specs.Order.{InOrder}
 use Rattle.table.specs.Entries.{records_of}
 use Rattle.table.specs.MapLaws.{records-looked, lookup-stands}
@@ -179,9 +178,9 @@ module _ (t : List ℕ) where
       let (j, l, k) = gather-mem v.d (λ i. face_with v i (chosen_at t v i)) f mf in
       at v mv j l (chosen_at t v j) refl k
     where
-      at : (v : Record) → Memᴰ v (records_of t) → (j : ℕ) → j < v.d → (s : Spot) → chosen_at t v j ≡ s → Memᴰ f (face_with v j s) → Four t f
-      at v mv j l Nothing e k = absurd (Memᴰ.not-nil k)
-      at v mv j l (At p) e k =
+      at : (v : Record) → Memᴰ v (records_of t) → (j : ℕ) → j < v.d → (s : Option Point) → chosen_at t v j ≡ s → Memᴰ f (face_with v j s) → Four t f
+      at v mv j l None e k = absurd (Memᴰ.not-nil k)
+      at v mv j l (Some p) e k =
           let s = lookup-stands t o v.at v (records-looked t o v mv) in
           subst (Four t) (sym (Memᴰ.eq_of_singleton k)) (corner-four t o untorn s.slot v s.below s.holds j l p e)
 

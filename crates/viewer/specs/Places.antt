@@ -1,7 +1,7 @@
 -- "Numbers run from 0 in full-file order": a vertex's number is how many records stand before it in the full file.
 -- `Placed`, `number-place` · `number-one` no two vertices have one number.
 -- Assumes nothing.
-use Rattle.std.specs.Prelude.{◌≡◌, ◌⊎◌, Bool, true, false, ℕ, ◌+◌, length, get_or}
+use Rattle.std.specs.Prelude.{◌≡◌, ◌⊎◌, Bool, true, false, ℕ, length, get_or, Option, Some, None}
 use Rattle.std.proofs.Math.Path.{refl, ap}
 use Rattle.std.proofs.Common.{sym, ◌∙◌, subst, inl, inr, ltb-true, le-ltb}
 use mathlib.Core.List.Memᴰ
@@ -13,8 +13,6 @@ use Rattle.lattice.specs.declared.records.Record.{Record}
 use Rattle.table.specs.Order.{InOrder}
 use Rattle.table.specs.Entries.{look_up, is_held, holds, records_of}
 use Rattle.table.specs.MapLaws.{records-looked, looked-records, lookup-valid, lookup-point}
-use Rattle.table.specs.declared.entries.Looked.{Looked}
-use Rattle.table.specs.declared.entries.Looked.TheVariants.{Absent, Held}
 use Rattle.firsts.specs.Faces.{bit}
 use Rattle.text.specs.LineOrder.{order_of, Close, close, earlier, order-earlier}
 use Rattle.sorting.specs.SortLaws.{Rising}
@@ -117,9 +115,9 @@ module _ (t : List ℕ) (o : InOrder t) where
   vertex : (p : Point) → holds t p ≡ true → (r : Record) × Memᴰ r (records_of t) × (r.at ≡ p)
   vertex p h = go (look_up t p) refl h
     where
-      go : (l : Looked) → look_up t p ≡ l → is_held l ≡ true → (r : Record) × Memᴰ r (records_of t) × (r.at ≡ p)
-      go Absent e k = absurd (never k)
-      go (Held r) e k = (r, looked-records t o p r e, lookup-point t o p r e)
+      go : (l : Option Record) → look_up t p ≡ l → is_held l ≡ true → (r : Record) × Memᴰ r (records_of t) × (r.at ≡ p)
+      go None e k = absurd (never k)
+      go (Some r) e k = (r, looked-records t o p r e, lookup-point t o p r e)
 
   pub number-one : (p q : Point) → holds t p ≡ true → holds t q ≡ true → number_of t p ≡ number_of t q → p ≡ q
   number-one p q h k e =

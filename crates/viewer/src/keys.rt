@@ -1,10 +1,9 @@
 // The faces' keys, stored after those of the vertices.
-ghost use Rattle.std.specs.Prelude.{◌≡◌, true, false, List, ℕ, ◌+◌, ◌*◌, ◌≤◌, ◌<◌, length};
+ghost use Rattle.std.specs.Prelude.{◌≡◌, true, false, List, ℕ, ◌+◌, ◌*◌, ◌≤◌, ◌<◌, length, Some};
 ghost use Rattle.lattice.specs.RecordLaws.{Inner};
 ghost use Rattle.lattice.specs.Stars.{adjacent_at};
 ghost use Rattle.table.specs.Slots.{slots_of, slot_at};
 ghost use Rattle.table.specs.Order.{InOrder};
-ghost use Rattle.table.specs.declared.slots.Slot.TheVariants.{Holds};
 ghost use Rattle.firsts.specs.Faces.{next_place};
 ghost use Rattle.firsts.specs.Earlier.{placed_of, plain_at, plain_of};
 ghost use Rattle.firsts.specs.declared.faces.Face.{Face};
@@ -17,10 +16,10 @@ ghost use Rattle.viewer.specs.BodyLaws.{FacesIn};
 
 use firsts::{Face, Placed, next_placed, with_slot};
 use lattice::{ANSWER_NUMBERS, Record, point_at, ring};
-use mesh_faces::{Fresh, fresh_between};
+use mesh_faces::fresh_between;
 use numbering::{guess, number_near};
 use sorting::put_key;
-use table::{Slot, read_slot};
+use table::read_slot;
 use viewer_lines::{Corners, least_first, pack};
 
 // The key of a face, by the k sorted keys of the vertices and the guesses for its slots.
@@ -61,7 +60,7 @@ fn put_corner(
 ) -> usize
     requires in_order { InOrder t.now × ((n ≡ slots_of t.now) × (torn_of t.now ≡ false)) }
     requires stand { Stand t.now out.old vertices }
-    requires k_lt_n { (k < n) × (slot_at t.now k ≡ Holds v) }
+    requires k_lt_n { (k < n) × (slot_at t.now k ≡ Some v) }
     requires inner { Inner v × (j < v.d) }
     requires vertices_le_at { (vertices ≤ at) × (key_width * (at + length (fresh_at t.now k v j)) ≤ length out.old) }
     requires a_value { (a ≡ placed_of t.now (adjacent_at v j)) × (b ≡ placed_of t.now (adjacent_at v (next_place v.d j))) }
@@ -69,9 +68,18 @@ fn put_corner(
     ensures { FacesIn t.now out.old at (fresh_at t.now k v j) out.new result }
 {
     match fresh_between(t, v, j, a, b, k, n, plain) {
-        Fresh::Not => at,
-        Fresh::Is(f, o) => {
-            let x = face_key(out, vertices, f, base, k, a.slot, o, b.slot);
+        None => at,
+        Some(fresh) => {
+            let x = face_key(
+                out,
+                vertices,
+                fresh.face,
+                base,
+                k,
+                a.slot,
+                fresh.opposite,
+                b.slot,
+            );
             put_key(out, at, x);
             at + 1
         }
@@ -92,13 +100,12 @@ fn put_star(
 ) -> usize
     requires in_order { InOrder t.now × ((n ≡ slots_of t.now) × (torn_of t.now ≡ false)) }
     requires stand { Stand t.now out.old vertices }
-    requires k_lt_n { (k < n) × (slot_at t.now k ≡ Holds v) }
+    requires k_lt_n { (k < n) × (slot_at t.now k ≡ Some v) }
     requires vertices_le_from { (vertices ≤ from) × (key_width * (from + length (fresh_star t.now k v)) ≤ length out.old) }
     requires t_value { plain ≡ true → plain_of t.now ≡ true }
     ensures { FacesIn t.now out.old from (fresh_star t.now k v) out.new result }
 {
-    let d = v.d;
-    if d == 0 {
+    if v.d == 0 {
         return from;
     }
     let mut at = from;
@@ -106,12 +113,10 @@ fn put_star(
     ring(&mut row, v);
     let first = with_slot(t, point_at(&row, v, 0), n);
     let mut a = first;
-    let mut j = 0;
-    while j < d {
+    for j in 0..v.d {
         let b = next_placed(t, &row, v, j, first, n);
         at = put_corner(t, v, j, a, b, k, n, plain, out, vertices, base, at);
         a = b;
-        j += 1;
     }
     at
 }
@@ -135,8 +140,8 @@ fn put_slot_faces(
     ensures { FacesIn t.now out.old at (fresh_slot t.now k) out.new result }
 {
     match read_slot(t, k) {
-        Slot::Free => at,
-        Slot::Holds(v) => put_star(t, v, k, n, plain, out, vertices, base, at),
+        None => at,
+        Some(v) => put_star(t, v, k, n, plain, out, vertices, base, at),
     }
 }
 
@@ -156,10 +161,8 @@ pub fn put_faces(
     ensures { FacesIn t.now out.old vertices (fresh_below t.now n) out.new result }
 {
     let mut at = vertices;
-    let mut k = 0;
-    while k < n {
+    for k in 0..n {
         at = put_slot_faces(t, k, n, plain, out, vertices, base, at);
-        k += 1;
     }
     at
 }

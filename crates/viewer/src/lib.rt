@@ -6,13 +6,14 @@
 #![tactic(auto)]
 
 ghost use Rattle.std.specs.Prelude.{◌≡◌, true, false, List, ◌++◌, ℕ, ◌+◌, ◌≤◌, ltb, length, drop};
+ghost use Rattle.lattice.specs.Refusals.{number_told};
 ghost use Rattle.table.specs.Slots.{slots_of};
 ghost use Rattle.table.specs.Order.{InOrder};
 ghost use Rattle.firsts.specs.Faces.{faces_in};
 ghost use Rattle.firsts.specs.Earlier.{plain_of};
 ghost use Rattle.counts.specs.Counts.{counts_of};
 ghost use Rattle.sorting.specs.Sorting.{sort_by};
-ghost use Rattle.writers.specs.Files.{output_after, put_of};
+ghost use Rattle.writers.specs.Files.{output_after, put_of, bytes_told};
 ghost use Rattle.mesh_faces.specs.MeshFaces.{torn_of};
 ghost use Rattle.viewer_lines.specs.ViewerLines.{texts};
 ghost use Rattle.viewer.specs.Viewer.{viewer_file, view_of, write_off_of, write_obj_of};
@@ -23,7 +24,7 @@ mod keys;
 
 use crate::keys::put_faces;
 use counts::Counts;
-use lattice::{DONE, NOT_IN_ORDER, SHORT, TORN};
+use lattice::Refusal;
 use mesh_faces::any_torn;
 use numbering::{KEY_WIDTH, base_of, put_guesses, widths_of};
 use sorting::sort;
@@ -34,21 +35,22 @@ use viewer_lines::{
     write_head, write_vertices,
 };
 
+const OFF: Style = Style {
+    head: true,
+    marked: false,
+    face: b'4',
+    first: 0,
+};
+
+const OBJ: Style = Style {
+    head: false,
+    marked: true,
+    face: b'f',
+    first: 1,
+};
+
 // The bytes of the longest line of a face.
 const FACE_MOST: usize = 26;
-
-// The number that document 02 gives, and the bytes written, 0 if refused.
-#[derive(Clone, Copy)]
-pub struct Viewed {
-    pub number: u8,
-    pub bytes: u64,
-}
-
-fn answer(number: u8, bytes: u64) -> Viewed
-    ensures { (result.number ≡ number) × (result.bytes ≡ bytes) }
-{
-    Viewed { number, bytes }
-}
 
 // Sorts k keys of faces and writes their lines from a position on, and gives the position past them.
 fn write_sorted(out: &mut [u8], k: usize, start: usize, s: Style) -> usize
@@ -112,70 +114,55 @@ fn is_short(t: &[u8], n: usize, s: Style, faces: u32, start: usize, len: usize) 
 }
 
 // Writes the file of an untorn table.
-fn write_file(t: &[u8], n: usize, s: Style, c: Counts, plain: bool, out: &mut [u8]) -> Viewed
+fn write_file(
+    t: &[u8],
+    n: usize,
+    s: Style,
+    c: Counts,
+    plain: bool,
+    out: &mut [u8],
+) -> Result<u64, Refusal>
     requires in_order { InOrder t.now × (n ≡ slots_of t.now) }
     requires t_value { (torn_of t.now ≡ false) × (s.first ≤ 1) }
     requires c_value { (c ≡ counts_of t.now) × (plain ≡ true → plain_of t.now ≡ true) }
-    ensures { output_after result.number result.bytes out.new ≡ put_of (viewer_file s t.now) out.old }
+    ensures { output_after (number_told result) (bytes_told result) out.new ≡ put_of (viewer_file s t.now) out.old }
 {
     let start = head_length(s, c) + vertices_length(t, n, s);
     if is_short(t, n, s, c.faces, start, out.len()) {
-        return answer(SHORT, 0);
+        return Err(Refusal::Short);
     }
     let total = write_body(t, n, s, plain, out, start, c.faces);
     write_head(out, s, c);
-    answer(DONE, total as u64)
+    Ok(total as u64)
 }
 
-// Writes the file in a style: 1, 7 or 13, or 0 and its bytes. Where all corners are plain nothing is torn.
-fn write(t: &[u8], s: Style, out: &mut [u8]) -> Viewed
+// Writes the file in a style, and tells its bytes. Where all corners are plain nothing is torn.
+fn write(t: &[u8], s: Style, out: &mut [u8]) -> Result<u64, Refusal>
     requires { s.first ≤ 1 }
-    ensures { output_after result.number result.bytes out.new ≡ view_of s t.now out.old }
+    ensures { output_after (number_told result) (bytes_told result) out.new ≡ view_of s t.now out.old }
 {
     if !in_order(t) {
-        return answer(NOT_IN_ORDER, 0);
+        return Err(Refusal::NotInOrder);
     }
     let n = slots_of(t);
     let found = surveyed(t, n);
-    let c = found.counts;
-    if found.plain {
-        return write_file(t, n, s, c, true, out);
+    if !found.plain && any_torn(t, n) {
+        return Err(Refusal::Torn);
     }
-    if any_torn(t, n) {
-        return answer(TORN, 0);
-    }
-    write_file(t, n, s, c, false, out)
+    write_file(t, n, s, found.counts, found.plain, out)
 }
 
-// Writes the OFF file of a table. Refused with 1, 7 or 13, no byte is changed; bytes past the file never are. In time n log n for n slots, as long as the
-// searches are short, with no memory but the output and a little stack.
-pub fn write_off(table: &[u8], out: &mut [u8]) -> Viewed
-    ensures { output_after result.number result.bytes out.new ≡ write_off_of table.now out.old }
+// Writes the OFF file of a table, and tells its bytes. Refused as not in order, torn or short, no byte is changed; bytes past the file never are.
+// In time n log n for n slots, as long as the searches are short, with no memory but the output and a little stack.
+pub fn write_off(table: &[u8], out: &mut [u8]) -> Result<u64, Refusal>
+    ensures { output_after (number_told result) (bytes_told result) out.new ≡ write_off_of table.now out.old }
 {
-    write(
-        table,
-        Style {
-            head: true,
-            marked: false,
-            face: b'4',
-            first: 0,
-        },
-        out,
-    )
+    write(table, OFF, out)
 }
 
 // Writes the OBJ file of a table, as `write_off` in all else.
-pub fn write_obj(table: &[u8], out: &mut [u8]) -> Viewed
-    ensures { output_after result.number result.bytes out.new ≡ write_obj_of table.now out.old }
+pub fn write_obj(table: &[u8], out: &mut [u8]) -> Result<u64, Refusal>
+    ensures { output_after (number_told result) (bytes_told result) out.new ≡ write_obj_of table.now out.old }
 {
-    write(
-        table,
-        Style {
-            head: false,
-            marked: true,
-            face: b'f',
-            first: 1,
-        },
-        out,
-    )
+    write(table, OBJ, out)
 }

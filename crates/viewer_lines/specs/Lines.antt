@@ -3,7 +3,7 @@
 -- `head-long`, `head-none`, `stored-first` bytes stored at the beginning · `vertices-start`, `vertices-more` slot by slot · `ordered-inside`,
 -- `keyed-close` the record of a key · `faces-sorted`, `vertices-sorted` the lines of sorted keys are the file's.
 -- Assumes nothing.
-use Rattle.std.specs.Prelude.{◌≡◌, refl, ◌⊎◌, Bool, true, false, ℕ, zero, suc, ◌+◌, ◌*◌, ◌%◌, ◌≤◌, ◌<◌, ltb, drop}
+use Rattle.std.specs.Prelude.{◌≡◌, refl, ◌⊎◌, Bool, true, false, ℕ, ◌+◌, ◌*◌, ◌%◌, ◌≤◌, ◌<◌, ltb, drop, Option, Some, None}
 use Rattle.std.proofs.Common.{sym, ◌∙◌, subst, inl, inr, arith, length-append}
 use Rattle.std.proofs.Math.Path.{ap}
 use Rattle.std.proofs.Math.Bool.{cond}
@@ -16,9 +16,7 @@ use Rattle.laws.specs.Stores.{Wrote}
 use Rattle.lattice.specs.declared.records.Record.{Record}
 use Rattle.table.specs.Slots.{slot_width, slots_of, slot_at}
 use Rattle.table.specs.Order.{InOrder}
-use Rattle.table.specs.declared.slots.Slot.{Slot}
-use Rattle.table.specs.declared.slots.Slot.TheVariants.{Free, Holds}
-use Rattle.table.specs.Entries.{listed, records_of}
+use Rattle.table.specs.Entries.{listed}
 use Rattle.counts.specs.declared.Counts.{Counts}
 use Rattle.firsts.specs.declared.faces.Face.{Face}
 use Rattle.text.specs.Decimal.{digits, ended, feed}
@@ -33,7 +31,6 @@ use Rattle.writers.specs.KeptLaws.{standing-more}
 use Rattle.coordinates.specs.Coordinates.{blank, position_text}
 use Rattle.coordinates.specs.TextLaws.{position-least}
 use Rattle.mesh_faces.specs.MeshFaces.{mesh_faces}
-use Rattle.numbering.specs.Numbering.{number_of}
 use Rattle.viewer_lines.specs.ViewerLines.{corners_of, next_first, is_least, least_first, least_of, rises, face_corners}
 use Rattle.viewer_lines.specs.ViewerLines.{letter_v, head_text, vertex_mark, vertex_text, face_text, texts}
 use Rattle.viewer_lines.specs.Packed.{packed, unpacked, Small, pack-rises, unpack-all}
@@ -41,7 +38,7 @@ use Rattle.numbering.specs.Keyed.{record_in, record_keyed, keys-inside, keys-sor
 use Rattle.numbering.specs.Ranks.{keys_of, ordered, held_number}
 use Rattle.numbering.specs.Guesses.{face_least, vertex_least}
 use Rattle.firsts.specs.Faces.{gather}
-use Rattle.mesh_faces.specs.Once.{Four, fresh_at, fresh_star, fresh_in, fresh_slot, fresh_below, fresh-more, gather-more}
+use Rattle.mesh_faces.specs.Once.{Four, fresh_star, fresh_in, fresh_slot, fresh_below, fresh-more, gather-more}
 use Rattle.viewer_lines.specs.Backward.{texts-map, texts-none, texts-one, texts-long}
 use Rattle.viewer_lines.specs.declared.styles.Style.{Style}
 use Rattle.viewer_lines.specs.declared.corners.Corners.{Corners}
@@ -60,9 +57,9 @@ abbrev pub vertex_line : Style → List ℕ → ℕ → List ℕ
 vertex_line s t v = vertex_text s (record_keyed t v)
 
 -- what is written of a slot
-abbrev pub slot_line : Style → Slot → List ℕ
-slot_line s Free = []
-slot_line s (Holds r) = vertex_text s r
+abbrev pub slot_line : Style → Option Record → List ℕ
+slot_line s None = []
+slot_line s (Some r) = vertex_text s r
 
 -- the keys ks of faces stand at the beginning of o, and there is room for their lines before `end`
 pub record Queue (s : Style) (ks o : List ℕ) (k end : ℕ) : Type 0 where
@@ -220,7 +217,7 @@ stored-first o xs o' p h w =
 
 -- ---- the vertices' lines, slot by slot
 
-module _ (s : Style) (f : ℕ → Slot) where
+module _ (s : Style) (f : ℕ → Option Record) where
   pub vertices-start : 0 ≡ length (texts (vertex_text s) (standing f 0))
   unfolding standing
   vertices-start = ap length (sym (texts-none (vertex_text s)))
@@ -231,9 +228,9 @@ module _ (s : Style) (f : ℕ → Slot) where
       ∙ texts-long (vertex_text s) (standing f i) (listed (f i))
       ∙ ap (λ (k : ℕ). length (texts (vertex_text s) (standing f i)) + k) (one (f i))
     where
-      one : (x : Slot) → length (texts (vertex_text s) (listed x)) ≡ length (slot_line s x)
-      one Free = ap length (texts-none (vertex_text s))
-      one (Holds r) = ap length (texts-one (vertex_text s) r)
+      one : (x : Option Record) → length (texts (vertex_text s) (listed x)) ≡ length (slot_line s x)
+      one None = ap length (texts-none (vertex_text s))
+      one (Some r) = ap length (texts-one (vertex_text s) r)
 
 -- ---- the record of a key
 
@@ -246,9 +243,9 @@ module _ (t : List ℕ) (o : InOrder t) where
   pub keyed-close : (v : ℕ) → slot_width * (v % places) + slot_width ≤ length t → Close (record_keyed t v).at
   keyed-close v h = go (slot_at t (v % places)) refl
     where
-      go : (x : Slot) → slot_at t (v % places) ≡ x → Close (record_in x).at
-      go Free e = record { a = omega arith; b = omega arith; m = omega arith }
-      go (Holds r) e = close r (o.valid (v % places) r (omega (arith, o.fits.long)) e)
+      go : (x : Option Record) → slot_at t (v % places) ≡ x → Close (record_in x).at
+      go None e = record { a = omega arith; b = omega arith; m = omega arith }
+      go (Some r) e = close r (o.valid (v % places) r (omega (arith, o.fits.long)) e)
 
 -- ---- the lines of sorted keys
 
@@ -344,13 +341,13 @@ module _ (s : Style) (t : List ℕ) where
   pub slots-more : (k : ℕ) → long (fresh_below t (k + 1)) ≡ long (fresh_below t k) + long (fresh_slot t k)
   slots-more k = ap long (fresh-more t k) ∙ texts-long (face_line s t) (fresh_below t k) (fresh_slot t k)
 
-  pub slot-free : (k : ℕ) → slot_at t k ≡ Free → 0 ≡ long (fresh_slot t k)
+  pub slot-free : (k : ℕ) → slot_at t k ≡ None → 0 ≡ long (fresh_slot t k)
   unfolding fresh_slot
-  slot-free k e = long-none ∙ ap (λ (x : Slot). long (fresh_in t k x)) (sym e)
+  slot-free k e = long-none ∙ ap (λ (x : Option Record). long (fresh_in t k x)) (sym e)
 
-  pub slot-holds : (k : ℕ) (v : Record) → slot_at t k ≡ Holds v → long (fresh_star t k v) ≡ long (fresh_slot t k)
+  pub slot-holds : (k : ℕ) (v : Record) → slot_at t k ≡ Some v → long (fresh_star t k v) ≡ long (fresh_slot t k)
   unfolding fresh_slot
-  slot-holds k v e = ap (λ (x : Slot). long (fresh_in t k x)) (sym e)
+  slot-holds k v e = ap (λ (x : Option Record). long (fresh_in t k x)) (sym e)
 
 -- keys of faces, one list after the other
 pub keys-append : (t : List ℕ) (fs gs : List Face) → map (face_key t) (fs ++ gs) ≡ map (face_key t) fs ++ map (face_key t) gs

@@ -5,7 +5,7 @@ ghost use Rattle.viewer_lines.specs.Packed.{packed, unpacked, Small};
 
 use numbering::PLACES;
 
-// The numbers of a face's vertices, in their order round.
+// The numbers of a face's vertices, in their order round; no array, since the definitions (`corners`, `rises`, `least_first`) name the four.
 #[derive(Clone, Copy)]
 pub struct Corners {
     pub a: u64,
@@ -23,7 +23,7 @@ const PLACES_3: u64 = 281474976710656;
 fn is_least(q: Corners) -> bool
     ensures { result ≡ is_least q }
 {
-    (q.a <= q.b) & ((q.a <= q.c) & (q.a <= q.d))
+    q.a <= q.b && q.a <= q.c && q.a <= q.d
 }
 
 // The same from the next one on.

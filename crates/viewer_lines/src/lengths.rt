@@ -1,9 +1,8 @@
 // How long the faces' lines are, before any is written.
-ghost use Rattle.std.specs.Prelude.{◌≡◌, false, List, ℕ, ◌+◌, ◌*◌, ◌≤◌, ◌<◌, length};
+ghost use Rattle.std.specs.Prelude.{◌≡◌, false, List, ℕ, ◌+◌, ◌*◌, ◌≤◌, ◌<◌, length, Some};
 ghost use Rattle.lattice.specs.RecordLaws.{Inner};
 ghost use Rattle.table.specs.Slots.{slots_of, slot_at};
 ghost use Rattle.table.specs.Order.{InOrder};
-ghost use Rattle.table.specs.declared.slots.Slot.TheVariants.{Holds};
 ghost use Rattle.firsts.specs.declared.faces.Face.{Face};
 ghost use Rattle.writers.specs.Kept.{places};
 ghost use Rattle.mesh_faces.specs.MeshFaces.{torn_of};
@@ -15,9 +14,9 @@ ghost use Rattle.viewer_lines.specs.Lines.{face_line, face_most, star_most};
 use crate::styles::Style;
 use firsts::Face;
 use lattice::Record;
-use mesh_faces::{Fresh, fresh_at};
+use mesh_faces::fresh_at;
 use numbering::{Widths, number_width};
-use table::{Slot, read_slot};
+use table::read_slot;
 
 // The bytes of a face's line that are no digits of its numbers.
 pub const FACE_WIDTH: usize = 6;
@@ -39,13 +38,13 @@ fn face_length(s: Style, w: Widths, f: Face) -> usize
 fn corner_length(t: &[u8], v: Record, j: u8, k: usize, n: usize, s: Style, w: Widths) -> usize
     requires in_order { InOrder t.now × ((n ≡ slots_of t.now) × (torn_of t.now ≡ false)) }
     requires cuts { Cuts t.now s.first w × (s.first ≤ 1) }
-    requires k_lt_n { (k < n) × (slot_at t.now k ≡ Holds v) }
+    requires k_lt_n { (k < n) × (slot_at t.now k ≡ Some v) }
     requires inner { Inner v × (j < v.d) }
     ensures { (result ≡ length (texts (face_line s t.now) (fresh_at t.now k v j))) × (result ≤ face_most) }
 {
     match fresh_at(t, v, j, k, n) {
-        Fresh::Not => 0,
-        Fresh::Is(f, _) => face_length(s, w, f),
+        None => 0,
+        Some(fresh) => face_length(s, w, fresh.face),
     }
 }
 
@@ -53,15 +52,12 @@ fn corner_length(t: &[u8], v: Record, j: u8, k: usize, n: usize, s: Style, w: Wi
 fn star_length(t: &[u8], v: Record, k: usize, n: usize, s: Style, w: Widths) -> usize
     requires in_order { InOrder t.now × ((n ≡ slots_of t.now) × (torn_of t.now ≡ false)) }
     requires cuts { Cuts t.now s.first w × (s.first ≤ 1) }
-    requires k_lt_n { (k < n) × (slot_at t.now k ≡ Holds v) }
+    requires k_lt_n { (k < n) × (slot_at t.now k ≡ Some v) }
     ensures { (result ≡ length (texts (face_line s t.now) (fresh_star t.now k v))) × (result ≤ star_most) }
 {
-    let d = v.d;
     let mut total = 0;
-    let mut j = 0;
-    while j < d {
+    for j in 0..v.d {
         total += corner_length(t, v, j, k, n, s, w);
-        j += 1;
     }
     total
 }
@@ -74,8 +70,8 @@ fn slot_length(t: &[u8], k: usize, n: usize, s: Style, w: Widths) -> usize
     ensures { (result ≡ length (texts (face_line s t.now) (fresh_slot t.now k))) × (result ≤ star_most) }
 {
     match read_slot(t, k) {
-        Slot::Free => 0,
-        Slot::Holds(v) => star_length(t, v, k, n, s, w),
+        None => 0,
+        Some(v) => star_length(t, v, k, n, s, w),
     }
 }
 
@@ -86,10 +82,8 @@ pub fn faces_length(t: &[u8], n: usize, s: Style, w: Widths) -> usize
     ensures { (result ≡ length (texts (face_line s t.now) (fresh_below t.now n))) × (result ≤ star_most * places) }
 {
     let mut total = 0;
-    let mut k = 0;
-    while k < n {
+    for k in 0..n {
         total += slot_length(t, k, n, s, w);
-        k += 1;
     }
     total
 }

@@ -20,7 +20,7 @@ use counts::Counts;
 use lattice::{Record, blank};
 use numbering::PLACES;
 use sorting::{key, put_key};
-use table::{Slot, read_slot};
+use table::read_slot;
 use text::{FEED, number_back, order, width, write_bytes, write_number};
 
 // The bytes of `v`, or of what stands before a face, and its blank.
@@ -46,8 +46,8 @@ fn slot_vertex_length(t: &[u8], i: usize, s: Style) -> usize
     ensures { (result ≡ length (slot_line s (slot_at t.now i))) × (result ≤ vertex_most) }
 {
     match read_slot(t, i) {
-        Slot::Free => 0,
-        Slot::Holds(r) => vertex_length(s, r),
+        None => 0,
+        Some(r) => vertex_length(s, r),
     }
 }
 
@@ -57,10 +57,8 @@ pub fn vertices_length(t: &[u8], n: usize, s: Style) -> usize
     ensures { (result ≡ length (texts (vertex_text s) (standing (slot_at t.now) n))) × (result ≤ vertex_most * places) }
 {
     let mut total = 0;
-    let mut i = 0;
-    while i < n {
+    for i in 0..n {
         total += slot_vertex_length(t, i, s);
-        i += 1;
     }
     total
 }
@@ -72,8 +70,8 @@ fn put_vertex(t: &[u8], i: usize, out: &mut [u8], k: usize) -> usize
     ensures { Added out.old k (keyed i (slot_at t.now i)) out.new result }
 {
     match read_slot(t, i) {
-        Slot::Free => k,
-        Slot::Holds(r) => {
+        None => k,
+        Some(r) => {
             put_key(out, k, order(r.at) * PLACES + i as u64);
             k + 1
         }
@@ -86,11 +84,9 @@ pub fn put_vertices(t: &[u8], n: usize, out: &mut [u8]) -> usize
     requires n_in_bounds { key_width * length (keys_below (slot_at t.now) n) ≤ length out.old }
     ensures { Filled out.old (keys_below (slot_at t.now) n) out.new result }
 {
-    let mut i = 0;
     let mut k = 0;
-    while i < n {
+    for i in 0..n {
         k = put_vertex(t, i, out, k);
-        i += 1;
     }
     k
 }
@@ -117,8 +113,8 @@ fn record_keyed(t: &[u8], v: u64) -> Record
 {
     let i = (v % PLACES) as usize;
     match read_slot(t, i) {
-        Slot::Free => blank(),
-        Slot::Holds(r) => r,
+        None => blank(),
+        Some(r) => r,
     }
 }
 
@@ -130,11 +126,9 @@ pub fn write_vertices(t: &[u8], out: &mut [u8], k: usize, end: usize, s: Style)
         → drop from out.new ≡ texts (vertex_line s t.now) (ordered t.now) ++ drop end out.old }
     ensures out_len_unchanged { length out.new ≡ length out.old }
 {
-    let mut left = k;
     let mut at = end;
-    while 0 < left {
-        left -= 1;
-        let r = record_keyed(t, key(out, left));
+    for i in (0..k).rev() {
+        let r = record_keyed(t, key(out, i));
         at = vertex_back(out, at, s, r);
     }
 }
@@ -179,10 +173,8 @@ pub fn keys_length(out: &[u8], k: usize, s: Style) -> usize
     ensures { result ≡ length (texts (key_line s) (keys_in out.now k)) }
 {
     let mut total = 0;
-    let mut i = 0;
-    while i < k {
+    for i in 0..k {
         total += key_length(s, key(out, i));
-        i += 1;
     }
     total
 }
@@ -194,12 +186,9 @@ pub fn write_faces(out: &mut [u8], k: usize, end: usize, s: Style)
         → drop from out.new ≡ texts (key_line s) ks ++ drop end out.old }
     ensures out_len_unchanged { length out.new ≡ length out.old }
 {
-    let mut left = k;
     let mut at = end;
-    while 0 < left {
-        left -= 1;
-        let v = key(out, left);
-        at = face_back(out, at, s, v);
+    for i in (0..k).rev() {
+        at = face_back(out, at, s, key(out, i));
     }
 }
 

@@ -1,6 +1,7 @@
--- The calls' cases: `write-disorder`, `write-order` refused with 1 or not · `standing-all`, `unmarked-file` with nothing marked all stands, and the file is the full one.
+-- The calls' cases: `write-disorder`, `write-order` refused as not in order, or not · `standing-all`, `unmarked-file` with nothing marked all stands, and the
+-- file is the full one.
 -- Assumes nothing.
-use Rattle.std.specs.Prelude.{◌≡◌, refl, Bool, true, false, ◌&&◌, List, ◌++◌, ℕ, zero, suc, eqb, replicate}
+use Rattle.std.specs.Prelude.{◌≡◌, refl, Bool, true, false, ◌&&◌, List, ◌++◌, ℕ, zero, suc, eqb, replicate, Option, Some, None}
 use Rattle.std.proofs.Common.{sym}
 use Rattle.std.proofs.Math.Path.{ap}
 use Rattle.std.proofs.Math.Bool.{cond}
@@ -8,8 +9,6 @@ use Rattle.lattice.specs.declared.records.Record.{Record}
 use Rattle.table.specs.Slots.{slots_of, slot_at}
 use Rattle.table.specs.Order.{in_order_of}
 use Rattle.table.specs.Entries.{listed, records_below}
-use Rattle.table.specs.declared.slots.Slot.{Slot}
-use Rattle.table.specs.declared.slots.Slot.TheVariants.{Free, Holds}
 use Rattle.text.specs.Line.{lines}
 use Rattle.marks.specs.Marks.{marked_at, marked-none}
 use Rattle.writers.specs.Files.{sorted, full_file, output_after, put_of, write_of}
@@ -34,9 +33,9 @@ kept-all : (t m : List ℕ) (i : ℕ) → marked_at m i ≡ false → kept_at t 
 unfolding kept_at
 kept-all t m i e = go (slot_at t i) (marked_at m i) e
   where
-    go : (s : Slot) (b : Bool) → b ≡ false → kept_of b s ≡ s
-    go Free b e = refl
-    go (Holds r) b e = ap (λ (x : Bool). cond (x && eqb r.d 3) Free (Holds r)) e
+    go : (s : Option Record) (b : Bool) → b ≡ false → kept_of b s ≡ s
+    go None b e = refl
+    go (Some r) b e = ap (λ (x : Bool). cond (x && eqb r.d 3) None (Some r)) e
 
 pub standing-all : (t m : List ℕ) (k : ℕ) → ((i : ℕ) → marked_at m i ≡ false) → standing (kept_at t m) k ≡ records_below t k
 unfolding standing records_below

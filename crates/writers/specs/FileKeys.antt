@@ -2,7 +2,7 @@
 -- `key_back` the record of a record's key · `file-records` the records of the sorted keys · `filled_next` the keys in the output, slot by slot ·
 -- `standing-none`, `standing-room`.
 -- Assumes nothing.
-use Rattle.std.specs.Prelude.{◌≡◌, refl, ◌⊎◌, ℕ, zero, suc, ◌+◌, ◌*◌, ◌/◌, ◌%◌, ◌≤◌, ◌<◌, ltb, length}
+use Rattle.std.specs.Prelude.{◌≡◌, refl, ◌⊎◌, ℕ, zero, suc, ◌+◌, ◌*◌, ◌/◌, ◌%◌, ◌≤◌, ◌<◌, ltb, length, Option, Some, None}
 use Rattle.std.proofs.Common.{sym, ap, ◌∙◌, subst, inl, inr, arith, length-append}
 use mathlib.Core.List.Memᴰ
 use mathlib.Core.List.{List, [], ◌∷◌, ◌++◌, map, map-append, Memᴰ}
@@ -10,8 +10,6 @@ use Rattle.lattice.specs.declared.records.Record.{Record}
 use Rattle.table.specs.Slots.{slots_of, slot_at}
 use Rattle.table.specs.Order.{InOrder}
 use Rattle.table.specs.Entries.{listed}
-use Rattle.table.specs.declared.slots.Slot.{Slot}
-use Rattle.table.specs.declared.slots.Slot.TheVariants.{Free, Holds}
 use Rattle.text.specs.LineOrder.{order_of, Close, order-earlier, order-one, point_of, order-back}
 use Rattle.text.specs.Near.{Near, valid-near}
 use Rattle.sorting.specs.Sorting.{sort_by}
@@ -39,28 +37,28 @@ keys-back : (rs : List Record) → ((r : Record) → Memᴰ r rs → Near r) →
 keys-back [] h = refl
 keys-back (r ∷ rs) h = λ i. key_back r (h r (Memᴰ.head refl)) i ∷ keys-back rs (λ s m. h s (Memᴰ.tail m)) i
 
-holds-eq : (a b : Record) → Holds a ≡ Holds b → a ≡ b
+holds-eq : (a b : Record) → Some a ≡ Some b → a ≡ b
 holds-eq a b e = cc
 
 -- a record that stands, and its slot
-record Stands (f : ℕ → Slot) (n : ℕ) (r : Record) : Type 0 where
+record Stands (f : ℕ → Option Record) (n : ℕ) (r : Record) : Type 0 where
   pub slot : ℕ
   pub below : slot < n
-  pub holds : f slot ≡ Holds r
+  pub holds : f slot ≡ Some r
 
-stands : (f : ℕ → Slot) (n : ℕ) (r : Record) → Memᴰ r (standing f n) → Stands f n r
+stands : (f : ℕ → Option Record) (n : ℕ) (r : Record) → Memᴰ r (standing f n) → Stands f n r
 unfolding standing
 stands f zero r m = absurd (Memᴰ.not-nil m)
 stands f (suc n) r m = go (f n) refl (Memᴰ.append_cases (standing f n) m) (λ k. stands f n r k)
   where
-    go : (s : Slot) → f n ≡ s → Memᴰ r (standing f n) ⊎ Memᴰ r (listed (f n)) → (Memᴰ r (standing f n) → Stands f n r) → Stands f (suc n) r
+    go : (s : Option Record) → f n ≡ s → Memᴰ r (standing f n) ⊎ Memᴰ r (listed (f n)) → (Memᴰ r (standing f n) → Stands f n r) → Stands f (suc n) r
     go s e (inl k) ih = let x = ih k in record { slot = x.slot; below = omega (arith, x.below); holds = x.holds }
-    go Free e (inr k) ih = absurd (Memᴰ.not-nil (subst (λ (s : Slot). Memᴰ r (listed s)) e k))
-    go (Holds q) e (inr k) ih =
-        let same : r ≡ q = Memᴰ.eq_of_singleton (subst (λ (s : Slot). Memᴰ r (listed s)) e k) in
-        record { slot = n; below = omega arith; holds = e ∙ ap Holds (sym same) }
+    go None e (inr k) ih = absurd (Memᴰ.not-nil (subst (λ (s : Option Record). Memᴰ r (listed s)) e k))
+    go (Some q) e (inr k) ih =
+        let same : r ≡ q = Memᴰ.eq_of_singleton (subst (λ (s : Option Record). Memᴰ r (listed s)) e k) in
+        record { slot = n; below = omega arith; holds = e ∙ ap Some (sym same) }
 
-module _ (t : List ℕ) (o : InOrder t) (f : ℕ → Slot) (part : (i : ℕ) (r : Record) → f i ≡ Holds r → slot_at t i ≡ Holds r) where
+module _ (t : List ℕ) (o : InOrder t) (f : ℕ → Option Record) (part : (i : ℕ) (r : Record) → f i ≡ Some r → slot_at t i ≡ Some r) where
   abbrev all : List Record
   all = standing f (slots_of t)
 
@@ -98,23 +96,23 @@ module _ (t : List ℕ) (o : InOrder t) (f : ℕ → Slot) (part : (i : ℕ) (r 
 
 -- ---- the keys in the output
 -- one slot more, where each record has its own key
-pub filled_next : (f : ℕ → Slot) (i : ℕ) (o o₁ o₂ : List ℕ) (k k₂ : ℕ) → Filled o (map key_for (standing f i)) o₁ k
+pub filled_next : (f : ℕ → Option Record) (i : ℕ) (o o₁ o₂ : List ℕ) (k k₂ : ℕ) → Filled o (map key_for (standing f i)) o₁ k
     → Added o₁ k (map key_for (listed (f i))) o₂ k₂ → Filled o (map key_for (standing f (i + 1))) o₂ k₂
 filled_next f i o o₁ o₂ k k₂ w a =
     subst (λ (ks : List ℕ). Filled o ks o₂ k₂) (sym (ap (map key_for) (standing-more f i) ∙ map-append key_for (standing f i) (listed (f i)))) (go (f i) a)
   where
-    go : (s : Slot) → Added o₁ k (map key_for (listed s)) o₂ k₂ → Filled o (map key_for (standing f i) ++ map key_for (listed s)) o₂ k₂
-    go Free b = filled-same o (map key_for (standing f i)) o₁ o₂ k k₂ w b
-    go (Holds r) b =
+    go : (s : Option Record) → Added o₁ k (map key_for (listed s)) o₂ k₂ → Filled o (map key_for (standing f i) ++ map key_for (listed s)) o₂ k₂
+    go None b = filled-same o (map key_for (standing f i)) o₁ o₂ k k₂ w b
+    go (Some r) b =
         subst (Filled o (map key_for (standing f i) ++ key_for r ∷ []) o₂) (sym b.1) (filled_put o (map key_for (standing f i)) o₁ o₂ k (key_for r) w b.0)
 
-pub standing-room : (f : ℕ → Slot) (i n : ℕ) → i < n → length (standing f i) + length (listed (f i)) ≤ length (standing f n)
+pub standing-room : (f : ℕ → Option Record) (i n : ℕ) → i < n → length (standing f i) + length (listed (f i)) ≤ length (standing f n)
 standing-room f i n h =
     let a = standing-grow f (i + 1) n (omega arith) in
     let b = ap length (standing-more f i) in
     let c = length-append (standing f i) (listed (f i)) in
     omega arith
 
-pub standing-none : (f : ℕ → Slot) → map key_for (standing f 0) ≡ []
+pub standing-none : (f : ℕ → Option Record) → map key_for (standing f 0) ≡ []
 unfolding standing
 standing-none f = refl

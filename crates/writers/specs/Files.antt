@@ -1,14 +1,15 @@
 -- Document 01, "Files": the full and the reduced file of a table, and what the writers do. What the promises cite: `write_full_of`, `write_reduced_of`.
 -- `before` the order of lines, `sorted` records in it · `full_file` · `redundant` the records that the reduced file leaves out, `reduced_file` ·
--- `OutputAfter`, `write_of` a file written, or refused.
+-- `OutputAfter`, `write_of` a file written, or refused, `bytes_told`.
 -- Assumes nothing.
-use Rattle.std.specs.Prelude.{Bool, cond, ◌&&◌, ◌||◌, List, [], ◌∷◌, ◌++◌, ℕ, eqb, ltb, length, drop}
+use Rattle.std.specs.Prelude.{Bool, cond, ◌&&◌, List, [], ◌∷◌, ◌++◌, ℕ, eqb, ltb, length, drop, Result, Ok, Err}
 use Rattle.laws.specs.Choices.{unless}
 use Rattle.laws.specs.Rules.{among}
 use Rattle.laws.specs.Some.{some_of}
 use Rattle.lattice.specs.Stars.{adjacent_at}
 use Rattle.lattice.specs.declared.points.Point.{Point}
 use Rattle.lattice.specs.declared.records.Record.{Record}
+use Rattle.lattice.specs.declared.refusals.Refusal.{Refusal}
 use Rattle.table.specs.Search.{same_point}
 use Rattle.table.specs.Order.{in_order_of}
 use Rattle.table.specs.Entries.{records_of}
@@ -55,6 +56,11 @@ pub record OutputAfter : Type 0 where
 
 abbrev pub output_after : ℕ → ℕ → List ℕ → OutputAfter
 output_after n b o = record { number = n; bytes = b; out = o }
+
+-- the bytes written, as a writer tells them
+abbrev pub bytes_told : Result ℕ Refusal → ℕ
+bytes_told (Ok bytes) = bytes
+bytes_told (Err why) = 0
 
 -- "output shorter than the file"; "Writers leave output past the file as found."
 unfoldable pub put_of : List ℕ → List ℕ → OutputAfter

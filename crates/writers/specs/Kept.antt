@@ -1,12 +1,10 @@
 -- What the code writes of a table, slot by slot: the records that are not marked to be left out, and their keys.
 -- `kept_at` what is written of a slot · `standing` the records of the first slots · `key_for` the key of a record, `record_for` the record of a key.
 -- Assumes nothing.
-use Rattle.std.specs.Prelude.{◌≡◌, Bool, cond, ◌&&◌, List, [], ◌∷◌, ◌++◌, ℕ, zero, suc, ◌+◌, ◌*◌, ◌/◌, ◌%◌, eqb}
+use Rattle.std.specs.Prelude.{◌≡◌, Bool, cond, ◌&&◌, List, [], ◌∷◌, ◌++◌, ℕ, zero, suc, ◌+◌, ◌*◌, ◌/◌, ◌%◌, eqb, Option, Some, None}
 use Rattle.lattice.specs.declared.records.Record.{Record}
 use Rattle.table.specs.Slots.{slot_at}
 use Rattle.table.specs.Entries.{listed}
-use Rattle.table.specs.declared.slots.Slot.{Slot}
-use Rattle.table.specs.declared.slots.Slot.TheVariants.{Free, Holds}
 use Rattle.marks.specs.Marks.{marked_at}
 use Rattle.text.specs.LineOrder.{order_of, point_of}
 use Rattle.sorting.specs.Keys.{Put}
@@ -20,16 +18,16 @@ abbrev pub mark_bytes : ℕ
 mark_bytes = 8192
 
 -- nothing of a free slot, nor of a record of degree 3 that is marked
-abbrev pub kept_of : Bool → Slot → Slot
-kept_of b Free = Free
-kept_of b (Holds r) = cond (b && eqb r.d 3) Free (Holds r)
+abbrev pub kept_of : Bool → Option Record → Option Record
+kept_of b None = None
+kept_of b (Some r) = cond (b && eqb r.d 3) None (Some r)
 
-unfoldable pub kept_at : List ℕ → List ℕ → ℕ → Slot
+unfoldable pub kept_at : List ℕ → List ℕ → ℕ → Option Record
 unfolding marked_at
 kept_at t m i = kept_of (marked_at m i) (slot_at t i)
 
 -- the records of the first slots, where slot i is f i
-unfoldable pub standing : (ℕ → Slot) → ℕ → List Record
+unfoldable pub standing : (ℕ → Option Record) → ℕ → List Record
 standing f zero = []
 standing f (suc i) = standing f i ++ listed (f i)
 

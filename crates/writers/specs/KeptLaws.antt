@@ -3,7 +3,7 @@
 -- `Filled` the keys in the output: `filled_none`, `filled-same`, `filled_put` · `kept-part`, `kept-valid`, `kept_near` what is kept stands in the table
 -- and is valid · `standing-most` the longest line for each record suffices.
 -- Assumes nothing.
-use Rattle.std.specs.Prelude.{◌≡◌, refl, Bool, true, false, cond, ◌&&◌, List, [], ◌∷◌, ◌++◌, eqb, ltb, drop}
+use Rattle.std.specs.Prelude.{◌≡◌, refl, Bool, true, false, cond, ◌&&◌, List, [], ◌∷◌, ◌++◌, eqb, ltb, drop, Option, Some, None}
 use Rattle.std.proofs.Math.Path.{sym}
 use Rattle.std.proofs.Common.{ap, ◌∙◌, subst, append-nil, lt-ltb, le-ltb, length-append}
 use Prim.Native.Nat.{ℕ, zero, suc, ◌+◌, ◌*◌, ◌≤◌, ◌<◌}
@@ -13,11 +13,9 @@ use Rattle.std.proofs.Math.ListN.{length}
 use Rattle.std.proofs.Math.Seq.{get_or-append_seam}
 use Rattle.lattice.specs.Records.{valid_of}
 use Rattle.lattice.specs.declared.records.Record.{Record}
-use Rattle.table.specs.Slots.{slot_width, slots_of, slot_at, is_free, free_below}
+use Rattle.table.specs.Slots.{slots_of, slot_at, is_free, free_below}
 use Rattle.table.specs.Order.{InOrder}
 use Rattle.table.specs.Entries.{listed}
-use Rattle.table.specs.declared.slots.Slot.{Slot}
-use Rattle.table.specs.declared.slots.Slot.TheVariants.{Free, Holds}
 use Rattle.text.specs.Line.{line_of, lines}
 use Rattle.text.specs.LineLaws.{lines_join}
 use Rattle.text.specs.LineLengths.{longest, line-most}
@@ -30,11 +28,11 @@ use Rattle.writers.specs.Kept.{places, kept_of, kept_at, standing}
 
 -- ---- slot by slot
 
-pub standing-more : (f : ℕ → Slot) (i : ℕ) → standing f (i + 1) ≡ standing f i ++ listed (f i)
+pub standing-more : (f : ℕ → Option Record) (i : ℕ) → standing f (i + 1) ≡ standing f i ++ listed (f i)
 unfolding standing
 standing-more f i = let e : i + 1 ≡ suc i = omega arith in ap (standing f) e
 
-pub standing-grow : (f : ℕ → Slot) (i n : ℕ) → i ≤ n → length (standing f i) ≤ length (standing f n)
+pub standing-grow : (f : ℕ → Option Record) (i n : ℕ) → i ≤ n → length (standing f i) ≤ length (standing f n)
 unfolding standing
 standing-grow f i zero h = let e : i ≡ 0 = omega arith in subst (λ (k : ℕ). length (standing f k) ≤ 0) (sym e) (omega arith)
 standing-grow f i (suc n) h = go (dec_le i n) (λ l. standing-grow f i n l)
@@ -115,73 +113,70 @@ filled-same o ks o₁ o₂ k k₂ w e =
 
 -- ---- what the code's steps say
 
-pub kept-at : (t m : List ℕ) (i : ℕ) (s : Slot) → slot_at t i ≡ s → kept_of (marked_at m i) s ≡ kept_at t m i
+pub kept-at : (t m : List ℕ) (i : ℕ) (s : Option Record) → slot_at t i ≡ s → kept_of (marked_at m i) s ≡ kept_at t m i
 unfolding kept_at
 kept-at t m i s e = ap (kept_of (marked_at m i)) (sym e)
 
-pub kept-gone : (t m : List ℕ) (i : ℕ) (r : Record) (b : Bool) → slot_at t i ≡ Holds r → b ≡ marked_at m i → b && eqb r.d 3 ≡ true → Free ≡ kept_at t m i
-kept-gone t m i r b e f h = sym (ap (λ (x : Bool). cond x Free (Holds r)) (ap (λ (x : Bool). x && eqb r.d 3) (sym f) ∙ h)) ∙ kept-at t m i (Holds r) e
+pub kept-gone : (t m : List ℕ) (i : ℕ) (r : Record) (b : Bool) → slot_at t i ≡ Some r → b ≡ marked_at m i → b && eqb r.d 3 ≡ true → None ≡ kept_at t m i
+kept-gone t m i r b e f h = sym (ap (λ (x : Bool). cond x None (Some r)) (ap (λ (x : Bool). x && eqb r.d 3) (sym f) ∙ h)) ∙ kept-at t m i (Some r) e
 
-pub kept-stays : (t m : List ℕ) (i : ℕ) (r : Record) (b : Bool) → slot_at t i ≡ Holds r → b ≡ marked_at m i → b && eqb r.d 3 ≡ false → Holds r ≡ kept_at t m i
-kept-stays t m i r b e f h = sym (ap (λ (x : Bool). cond x Free (Holds r)) (ap (λ (x : Bool). x && eqb r.d 3) (sym f) ∙ h)) ∙ kept-at t m i (Holds r) e
+pub kept-stays : (t m : List ℕ) (i : ℕ) (r : Record) (b : Bool) → slot_at t i ≡ Some r → b ≡ marked_at m i → b && eqb r.d 3 ≡ false → Some r ≡ kept_at t m i
+kept-stays t m i r b e f h = sym (ap (λ (x : Bool). cond x None (Some r)) (ap (λ (x : Bool). x && eqb r.d 3) (sym f) ∙ h)) ∙ kept-at t m i (Some r) e
 
 -- what is kept stands in the table
-pub kept-part : (t m : List ℕ) (i : ℕ) (r : Record) → kept_at t m i ≡ Holds r → slot_at t i ≡ Holds r
+pub kept-part : (t m : List ℕ) (i : ℕ) (r : Record) → kept_at t m i ≡ Some r → slot_at t i ≡ Some r
 unfolding kept_at
 kept-part t m i r = go (slot_at t i) (marked_at m i)
   where
-    free : Free ≡ Holds r → ⊥
+    free : None ≡ Some r → ⊥
     free e = let z : ◌≡◌ {A = ℕ} 0 1 = cc in omega arith
 
-    held : (q : Record) (b : Bool) → cond b Free (Holds q) ≡ Holds r → Holds q ≡ Holds r
+    held : (q : Record) (b : Bool) → cond b None (Some q) ≡ Some r → Some q ≡ Some r
     held q true e = absurd (free e)
     held q false e = e
 
-    go : (s : Slot) (b : Bool) → kept_of b s ≡ Holds r → s ≡ Holds r
-    go Free b e = absurd (free e)
-    go (Holds q) b e = held q (b && eqb q.d 3) e
+    go : (s : Option Record) (b : Bool) → kept_of b s ≡ Some r → s ≡ Some r
+    go None b e = absurd (free e)
+    go (Some q) b e = held q (b && eqb q.d 3) e
 
-pub kept-valid : (t : List ℕ) → InOrder t → (m : List ℕ) (i : ℕ) (r : Record) → i < slots_of t → kept_at t m i ≡ Holds r → valid_of r ≡ true
+pub kept-valid : (t : List ℕ) → InOrder t → (m : List ℕ) (i : ℕ) (r : Record) → i < slots_of t → kept_at t m i ≡ Some r → valid_of r ≡ true
 kept-valid t o m i r l e = o.valid i r l (kept-part t m i r e)
 
-pub kept_near : (t : List ℕ) → InOrder t → (m : List ℕ) (i : ℕ) (r : Record) → i < slots_of t → kept_at t m i ≡ Holds r → Near r
+pub kept_near : (t : List ℕ) → InOrder t → (m : List ℕ) (i : ℕ) (r : Record) → i < slots_of t → kept_at t m i ≡ Some r → Near r
 kept_near t o m i r l e = valid-near r (kept-valid t o m i r l e)
 
-pub slot-room : (t : List ℕ) → InOrder t → (i : ℕ) → i < slots_of t → (slot_width * i + slot_width ≤ length t) × (i < places)
-slot-room t o i l = (omega (arith, o.fits.long), omega (arith, o.fits.most))
-
-pub written_none : (s : Slot) → s ≡ Free → 0 ≡ length (lines (listed s))
+pub written_none : (s : Option Record) → s ≡ None → 0 ≡ length (lines (listed s))
 unfolding lines
-written_none s e = ap (λ (x : Slot). length (lines (listed x))) (sym e)
+written_none s e = ap (λ (x : Option Record). length (lines (listed x))) (sym e)
 
-pub written_one : (s : Slot) (r : Record) → s ≡ Holds r → length (line_of r) ≡ length (lines (listed s))
+pub written_one : (s : Option Record) (r : Record) → s ≡ Some r → length (line_of r) ≡ length (lines (listed s))
 unfolding lines
 written_one s r e =
     let a = length-append (line_of r) [] in let b : length (line_of r) ≡ length (line_of r ++ []) = omega arith in b
-    ∙ ap (λ (x : Slot). length (lines (listed x))) (sym e)
+    ∙ ap (λ (x : Option Record). length (lines (listed x))) (sym e)
 
-pub standing-start : (f : ℕ → Slot) → 0 ≡ length (lines (standing f 0))
+pub standing-start : (f : ℕ → Option Record) → 0 ≡ length (lines (standing f 0))
 unfolding standing lines
 standing-start f = refl
 
-pub standing-length : (f : ℕ → Slot) (i : ℕ) → length (lines (standing f (i + 1))) ≡ length (lines (standing f i)) + length (lines (listed (f i)))
+pub standing-length : (f : ℕ → Option Record) (i : ℕ) → length (lines (standing f (i + 1))) ≡ length (lines (standing f i)) + length (lines (listed (f i)))
 standing-length f i =
     ap (λ (x : List Record). length (lines x)) (standing-more f i) ∙ ap length (lines_join (standing f i) (listed (f i)))
     ∙ length-append (lines (standing f i)) (lines (listed (f i)))
 
 -- ---- the longest line for each record suffices
 
-free-most : (s : Slot) → is_free s ≤ 1
-free-most Free = omega arith
-free-most (Holds r) = omega arith
+free-most : (s : Option Record) → is_free s ≤ 1
+free-most None = omega arith
+free-most (Some r) = omega arith
 
 module _ (t : List ℕ) (o : InOrder t) (m : List ℕ) where
   slot-most : (i : ℕ) → i < slots_of t → length (lines (listed (kept_at t m i))) + longest * is_free (slot_at t i) ≤ longest
   slot-most i l = go (kept_at t m i) refl
     where
-      go : (s : Slot) → kept_at t m i ≡ s → length (lines (listed (kept_at t m i))) + longest * is_free (slot_at t i) ≤ longest
-      go Free e = let none = written_none (kept_at t m i) e in omega (arith, free-most (slot_at t i))
-      go (Holds r) e =
+      go : (s : Option Record) → kept_at t m i ≡ s → length (lines (listed (kept_at t m i))) + longest * is_free (slot_at t i) ≤ longest
+      go None e = let none = written_none (kept_at t m i) e in omega (arith, free-most (slot_at t i))
+      go (Some r) e =
           let one = written_one (kept_at t m i) r e in
           let taken = ap is_free (kept-part t m i r e) in
           omega (arith, line-most r (kept-valid t o m i r l e))

@@ -1,7 +1,7 @@
 -- Why the marked records are the redundant ones: a search ends at a record's slot exactly where it is for that record's point.
 -- `found-same` · `finds-redundant` a record's slot is named exactly where the record is named · `marked-file` with these marked the file is the reduced one.
 -- Assumes nothing.
-use Rattle.std.specs.Prelude.{◌≡◌, Bool, ◌&&◌, ◌||◌, replicate}
+use Rattle.std.specs.Prelude.{◌≡◌, Bool, ◌&&◌, ◌||◌, replicate, Option, Some, None}
 use Rattle.std.proofs.Math.Path.{refl, sym, ap}
 use Rattle.std.proofs.Common.{◌∙◌, arith, eq-eqb, eqb-true}
 use Rattle.std.proofs.Math.Bool.{true, false, cond, or_comm}
@@ -19,8 +19,6 @@ use Rattle.table.specs.Search.{same_point, find_of}
 use Rattle.table.specs.Order.{InOrder, is_at}
 use Rattle.table.specs.Entries.{listed, records_below, records_of}
 use Rattle.table.specs.MapLaws.{same_refl, same_true, at_held, find-held, slot-looked}
-use Rattle.table.specs.declared.slots.Slot.{Slot}
-use Rattle.table.specs.declared.slots.Slot.TheVariants.{Free, Holds}
 use Rattle.table.specs.declared.probe.Found.{Found}
 use Rattle.table.specs.declared.probe.Found.TheVariants as found
 use Rattle.text.specs.Line.{lines}
@@ -30,7 +28,7 @@ use Rattle.writers.specs.Kept.{mark_bytes, kept_of, kept_at, standing}
 use Rattle.writers.specs.Named.{slot_finds, table_finds}
 use Rattle.writers.specs.LeftLaws.{file_of}
 
-holds-eq : (a b : Record) → Holds a ≡ Holds b → a ≡ b
+holds-eq : (a b : Record) → Some a ≡ Some b → a ≡ b
 holds-eq a b e = cc
 
 at-is : (f : Found) (k : ℕ) → is_at f k ≡ true → f ≡ found.At k
@@ -55,7 +53,7 @@ leave-append f (r ∷ rs) qs = go (f r) (leave-append f rs qs)
     go true e = e
     go false e = ap (λ (l : List Record). r ∷ l) e
 
-module _ (t : List ℕ) (o : InOrder t) (k : ℕ) (in_table : k < slots_of t) (r : Record) (held : slot_at t k ≡ Holds r) where
+module _ (t : List ℕ) (o : InOrder t) (k : ℕ) (in_table : k < slots_of t) (r : Record) (held : slot_at t k ≡ Some r) where
   -- a search ends at a record's slot exactly where it is for that record's point
   pub found-same : (p : Point) → is_at (find_of t p) k ≡ same_point p r.at
   found-same p = same_test (is_at (find_of t p) k) (same_point p r.at) there back
@@ -75,9 +73,9 @@ module _ (t : List ℕ) (o : InOrder t) (k : ℕ) (in_table : k < slots_of t) (r
           let s : w.0 ≡ k = o.once w.0 k r r b.below in_table w.2 held refl in
           ap (λ (x : Point). is_at (find_of t x) k) q ∙ ap (λ (f : Found). is_at f k) w.1 ∙ eq-eqb w.0 k s
 
-  slot-names : (s : Slot) → slot_finds t s k ≡ some_of (six_names r.at) (listed s)
-  slot-names Free = refl
-  slot-names (Holds v) =
+  slot-names : (s : Option Record) → slot_finds t s k ≡ some_of (six_names r.at) (listed s)
+  slot-names None = refl
+  slot-names (Some v) =
       ap (λ (b : Bool). eqb v.d 6 && b) (among_same 6 (λ j. is_at (find_of t (adjacent_at v j)) k) (λ j. same_point (adjacent_at v j) r.at)
       (λ j. found-same (adjacent_at v j))) ∙ or-none (six_names r.at v)
     where
@@ -106,13 +104,13 @@ module _ (t : List ℕ) (o : InOrder t) (m : List ℕ) (are : (i : ℕ) → mark
   unfolding kept_at leave_out
   kept-left k l = go (slot_at t k) refl
     where
-      one : (r : Record) (b : Bool) → listed (cond b Free (Holds r)) ≡ cond b [] (r ∷ [])
+      one : (r : Record) (b : Bool) → listed (cond b None (Some r)) ≡ cond b [] (r ∷ [])
       one r true = refl
       one r false = refl
 
-      go : (s : Slot) → slot_at t k ≡ s → listed (kept_of (marked_at m k) s) ≡ leave_out (redundant t) (listed s)
-      go Free e = refl
-      go (Holds r) e =
+      go : (s : Option Record) → slot_at t k ≡ s → listed (kept_of (marked_at m k) s) ≡ leave_out (redundant t) (listed s)
+      go None e = refl
+      go (Some r) e =
           one r (marked_at m k && eqb r.d 3)
           ∙ ap (λ (b : Bool). cond b [] (r ∷ [])) (ap (λ (b : Bool). b && eqb r.d 3) (are k) ∙ finds-redundant t o k l r e)
 
@@ -126,7 +124,8 @@ module _ (t : List ℕ) (o : InOrder t) (m : List ℕ) (are : (i : ℕ) → mark
   marked-file = ap (λ (rs : List Record). lines (sorted rs)) (standing-left (slots_of t) (omega arith))
 
 -- the marks made in bytes that mark nothing
-pub marks-are : (t m : List ℕ) (n : ℕ) → n ≡ slots_of t → Marks (replicate mark_bytes 0) (table_finds t n) m → (i : ℕ) → marked_at m i ≡ table_finds t (slots_of t) i
+pub marks-are : (t m : List ℕ) (n : ℕ) → n ≡ slots_of t → Marks (replicate mark_bytes 0) (table_finds t n) m
+    → (i : ℕ) → marked_at m i ≡ table_finds t (slots_of t) i
 marks-are t m n e w i =
     w.reads i ∙ ap (λ (b : Bool). table_finds t n i || b) (marked-none mark_bytes i) ∙ or-false (table_finds t n i) ∙ ap (λ (x : ℕ). table_finds t x i) e
   where

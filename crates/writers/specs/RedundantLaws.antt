@@ -1,11 +1,11 @@
 -- What it is that a record is redundant: `Redundant`, `redundant-is`, `is-redundant` · `six-kept` none of degree 6 is.
 -- Assumes nothing.
-use Rattle.std.specs.Prelude.{◌≡◌, refl, ◌⊎◌, Bool, true, false, ◌&&◌, ◌||◌, ℕ, ◌<◌, eqb}
-use Rattle.std.proofs.Common.{sym, ap, ◌∙◌, inl, inr, arith, eqb-true, eq-eqb}
-use mathlib.Core.List.{List, [], ◌∷◌, Memᴰ}
+use Rattle.std.specs.Prelude.{◌≡◌, refl, Bool, true, false, ◌&&◌, ℕ, ◌<◌, eqb}
+use Rattle.std.proofs.Common.{sym, ap, ◌∙◌, arith, eqb-true, eq-eqb}
+use mathlib.Core.List.{List, Memᴰ}
 use Rattle.laws.specs.Rules.{among}
 use Rattle.laws.specs.Some.{some_of, some_at, at_some}
-use Rattle.laws.specs.Each.{not-both, both_left, both_right, among-at, at-among}
+use Rattle.laws.specs.Each.{both_left, both_right, among-at, at-among}
 use Rattle.lattice.specs.Stars.{adjacent_at}
 use Rattle.lattice.specs.declared.records.Record.{Record}
 use Rattle.table.specs.Search.{same_point}

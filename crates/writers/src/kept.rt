@@ -11,23 +11,20 @@ ghost use Rattle.writers.specs.KeptLaws.{Filled};
 
 use crate::keys::pack;
 use crate::named::MARK_BYTES;
+use lattice::Record;
 use marks::marked;
 use sorting::put_key;
-use table::{Slot, read_slot};
+use table::read_slot;
 use text::line_length;
 
 // What is written of slot i.
-fn kept(table: &[u8], marks: &[u8; MARK_BYTES], i: usize) -> Slot
+fn kept(table: &[u8], marks: &[u8; MARK_BYTES], i: usize) -> Option<Record>
     requires { (slot_width * i + slot_width ≤ length table.now) × (i < places) }
     ensures { result ≡ kept_at table.now marks.now i }
 {
-    let s = read_slot(table, i);
-    match s {
-        Slot::Free => Slot::Free,
-        Slot::Holds(r) => {
-            let gone = marked(marks, i) & (r.d == 3);
-            if gone { Slot::Free } else { Slot::Holds(r) }
-        }
+    match read_slot(table, i) {
+        Some(r) if marked(marks, i) && r.d == 3 => None,
+        slot => slot,
     }
 }
 
@@ -37,8 +34,8 @@ fn length_at(table: &[u8], marks: &[u8; MARK_BYTES], i: usize) -> usize
     ensures { (result ≡ length (lines (listed (kept_at table.now marks.now i)))) × (result ≤ longest) }
 {
     match kept(table, marks, i) {
-        Slot::Free => 0,
-        Slot::Holds(r) => line_length(r),
+        None => 0,
+        Some(r) => line_length(r),
     }
 }
 
@@ -47,11 +44,9 @@ pub fn file_length(table: &[u8], marks: &[u8; MARK_BYTES], n: usize) -> usize
     requires { InOrder table.now × (n ≡ slots_of table.now) }
     ensures { result ≡ length (lines (standing (kept_at table.now marks.now) n)) }
 {
-    let mut i = 0;
     let mut total = 0;
-    while i < n {
+    for i in 0..n {
         total += length_at(table, marks, i);
-        i += 1;
     }
     total
 }
@@ -63,35 +58,6 @@ pub struct Amount {
     pub bytes: usize,
 }
 
-// Stores the key of slot i as key k, if the slot is written, and counts it and its line.
-fn put_kept(
-    table: &[u8],
-    marks: &[u8; MARK_BYTES],
-    i: usize,
-    out: &mut [u8],
-    k: usize,
-    total: usize,
-) -> Amount
-    requires in_order { InOrder table.now × ((i < slots_of table.now) × (total ≤ longest * i)) }
-    requires i_in_bounds { key_width * (k + length (listed (kept_at table.now marks.now i))) ≤ length out.old }
-    ensures added { Added out.old k (map key_for (listed (kept_at table.now marks.now i))) out.new result.keys }
-    ensures bytes_value { result.bytes ≡ total + length (lines (listed (kept_at table.now marks.now i))) }
-{
-    match kept(table, marks, i) {
-        Slot::Free => Amount {
-            keys: k,
-            bytes: total,
-        },
-        Slot::Holds(r) => {
-            put_key(out, k, pack(r));
-            Amount {
-                keys: k + 1,
-                bytes: total + line_length(r),
-            }
-        }
-    }
-}
-
 // Stores the keys of all that is written, and counts them and their lines.
 pub fn put_keys(table: &[u8], marks: &[u8; MARK_BYTES], n: usize, out: &mut [u8]) -> Amount
     requires in_order { InOrder table.now × (n ≡ slots_of table.now) }
@@ -99,17 +65,13 @@ pub fn put_keys(table: &[u8], marks: &[u8; MARK_BYTES], n: usize, out: &mut [u8]
     ensures filled { Filled out.old (map key_for (standing (kept_at table.now marks.now) n)) out.new result.keys }
     ensures bytes_value { result.bytes ≡ length (lines (standing (kept_at table.now marks.now) n)) }
 {
-    let mut i = 0;
-    let mut k = 0;
-    let mut total = 0;
-    while i < n {
-        let put = put_kept(table, marks, i, out, k, total);
-        k = put.keys;
-        total = put.bytes;
-        i += 1;
+    let mut put = Amount { keys: 0, bytes: 0 };
+    for i in 0..n {
+        if let Some(r) = kept(table, marks, i) {
+            put_key(out, put.keys, pack(r));
+            put.keys += 1;
+            put.bytes += line_length(r);
+        }
     }
-    Amount {
-        keys: k,
-        bytes: total,
-    }
+    put
 }

@@ -11,10 +11,8 @@ pub fn write_lines(out: &mut [u8], k: usize, total: usize)
     requires { (K : List ℕ) × Keyed K out.old k total }
     ensures { (K : List ℕ) → Keyed K out.old k total → out.new ≡ lines_of K ++ drop total out.old }
 {
-    let mut left = k;
     let mut at = total;
-    while 0 < left {
-        left -= 1;
+    for left in (0..k).rev() {
         let r = unpack(key(out, left));
         at = write_line_back(out, at, r);
     }

@@ -9,7 +9,7 @@ ghost use Rattle.writers.specs.Named.{star_finds, slot_finds, table_finds};
 
 use lattice::{ANSWER_NUMBERS, Point, Record, point_at, ring};
 use marks::mark;
-use table::{Found, Slot, find, read_slot};
+use table::{Found, find, read_slot};
 
 // The bytes that hold a mark for each slot of the greatest table.
 pub const MARK_BYTES: usize = 8192;
@@ -19,10 +19,8 @@ fn mark_point(table: &[u8], p: Point, n: usize, marks: &mut [u8; MARK_BYTES])
     requires { Table table.now n }
     ensures { Marks marks.old (is_at (find_of table.now p)) marks.new }
 {
-    match find(table, p, n) {
-        Found::At(i) => mark(marks, i),
-        Found::Free(_) => {}
-        Found::Full => {}
+    if let Found::At(i) = find(table, p, n) {
+        mark(marks, i);
     }
 }
 
@@ -34,10 +32,8 @@ fn mark_star(table: &[u8], v: Record, n: usize, marks: &mut [u8; MARK_BYTES])
 {
     let mut row = [0; ANSWER_NUMBERS];
     ring(&mut row, v);
-    let mut j: u8 = 0;
-    while j < 6 {
+    for j in 0..6 {
         mark_point(table, point_at(&row, v, j), n, marks);
-        j += 1;
     }
 }
 
@@ -46,11 +42,9 @@ fn mark_slot(table: &[u8], i: usize, n: usize, marks: &mut [u8; MARK_BYTES])
     requires { InOrder table.now × ((n ≡ slots_of table.now) × (i < n)) }
     ensures { Marks marks.old (slot_finds table.now (slot_at table.now i)) marks.new }
 {
-    if let Slot::Holds(v) = read_slot(table, i) {
-        let d = v.d;
-        if d == 6 {
-            mark_star(table, v, n, marks);
-        }
+    match read_slot(table, i) {
+        Some(v) if v.d == 6 => mark_star(table, v, n, marks),
+        _ => {}
     }
 }
 
@@ -59,9 +53,7 @@ pub fn mark_all(table: &[u8], n: usize, marks: &mut [u8; MARK_BYTES])
     requires { InOrder table.now × (n ≡ slots_of table.now) }
     ensures { Marks marks.old (table_finds table.now n) marks.new }
 {
-    let mut i = 0;
-    while i < n {
+    for i in 0..n {
         mark_slot(table, i, n, marks);
-        i += 1;
     }
 }

@@ -1,4 +1,4 @@
--- `marks::with_bit` meets its promise: by the bit. Assumes nothing.
+-- `marks::with_bit` meets its promise: by the bit. A walk, which the wrong program `unfit_sum_named` does not fit. Assumes nothing.
 use borrow.Author.Rules.{rules}
 use mathlib.Core.Path.{◌≡◌, sym, ◌∙◌, ap}
 use mathlib.Core.Bool.{Bool, cond}

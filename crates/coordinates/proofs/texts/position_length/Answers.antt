@@ -1,0 +1,14 @@
+-- `coordinates::texts::position_length` meets its promise. Assumes nothing.
+use Rattle.std.proofs.Common.{arith, rules}
+use Rattle.std.proofs.lemmas.Int.{to_z-of_z}
+use mir.Syntax.{w32}
+use mir.Val.{SFits}
+use Rattle.coordinates.specs.TextLaws.{position-long}
+use Rattle.coordinates.proofs.texts.position_length.Goals as goal
+
+pub returns : goal.returns
+returns c =
+    let p = c.args.p in
+    let fa : SFits w32 p.a = search rules in
+    let fb : SFits w32 p.b = search rules in
+    (omega (arith, simp to_z-of_z at c.x_length.ensures.0, simp to_z-of_z at c.y_length.ensures.0, position-long p), omega arith)

@@ -1,0 +1,21 @@
+-- `lattice::patterns::farther` meets its promise. Assumes nothing.
+use Rattle.std.proofs.Common.{sym, ap, subst, ◌∙◌, ◌/◌, ◌%◌}
+use Rattle.lattice.specs.Patterns.{pattern_of}
+use Rattle.lattice.specs.PatternLaws.{second-close}
+use Rattle.lattice.specs.Points.{turns}
+use Rattle.lattice.specs.Bounds.{Hex}
+use Rattle.lattice.specs.RowLaws.{held-hex, held-turned}
+use Rattle.lattice.proofs.patterns.farther.Goals as goal
+
+pub turned-requires : goal.turned-requires
+turned-requires c =
+    let r = c.requires in
+    subst (Hex 10) (sym c.pattern.ensures)
+    (held-hex (c.args.k % 2) (pattern_of c.args.d c.args.j).second (second-close c.args.d c.args.j r.0 r.1.0 r.1.1))
+
+pub returns : goal.returns
+returns c =
+    c.point.ensures
+    ∙ c.turned.ensures
+    ∙ ap (turns (c.args.k / 2)) c.pattern.ensures
+    ∙ held-turned c.args.k (pattern_of c.args.d c.args.j).second
