@@ -4,7 +4,7 @@
 // returned and every lent byte and number afterwards, by the definition that the call's own promise cites; no call has a `requires`.
 // The header is the manual. points.rt has the calls that give points, meshes.rt those that make and
 // change a table, files.rt those that write one, read one, count one or salvage one, vertices.rt those without any table; numbers.rt puts points and
-// records in a row.
+// records in a row, outcomes.rt makes a number of what a call came to.
 #![tactic(auto)]
 
 mod files;
