@@ -1,6 +1,6 @@
 -- "each lies within half of a ten-thousandth of its exact value, shown by comparing whole-number squares". There is never a tie: half of a ten-thousandth
 -- over would make an odd number even.
--- `InsideX`, `InsideY` n ten-thousandths are so near, `x-inside`, `y-inside` what is written is, `x-one`, `y-one` and no other whole number ·
+-- `InsideX`, `InsideY` n ten-thousandths are so near, `x_below` then n is small, `x-inside`, `y-inside` what is written is, `x-one`, `y-one` and no other whole number ·
 -- `x-zero`, `y-zero` down to depth 6 what is written as zero is zero.
 -- Assumes nothing.
 use Rattle.std.specs.Prelude.{◌≡◌, refl, ℕ, zero, suc, ◌+◌, ◌*◌, ◌/◌, ◌%◌, ◌^◌, ◌-◌, ◌≤◌, ◌<◌}
@@ -59,6 +59,22 @@ module _ (s m : ℕ) where
       let c = mul_assoc 2 P (near_x s m) in
       let o = odd_power m in
       record { low = omega arith; high = omega arith }
+
+  pub x_below : (n : ℕ) → InsideX s m n → 2 * n < 10000 * s + 2
+  x_below n i =
+      let h = power-some m in
+      let k = mul-le-mul_right n h in
+      let e = one-mul n in
+      go n refl i
+    where
+      go : (k : ℕ) → k ≡ n → InsideX s m k → 2 * n < 10000 * s + 2
+      go zero e i = omega arith
+      go (suc k) e i =
+          let h = power-some m in
+          let a : P * suc k ≡ P * k + P = mul-suc P k in
+          let b = mul-le-mul_right k h in
+          let c = one-mul k in
+          omega (arith, i.low)
 
   pub x-one : (n n' : ℕ) → InsideX s m n → InsideX s m n' → n ≡ n'
   x-one n n' i j = go (dec_lt n n') (dec_lt n' n)

@@ -1,7 +1,8 @@
 -- What a corner with the strides of a face says (`told`), at each of the three other vertices of a corner's face: `round-told`. It has the face's
 -- points; one of its opposites being in the table it has a face, so its two sides are in one; and where that is the first opposite it is the one chosen,
--- and names this face. `near-earlier`, `face-earlier` what holds of all slots holds of those before slot k · `told-before` the face was
+-- and names this face. `near-earlier`, `face-earlier` what holds of all slots holds of those before slot k · `told-nothing` · `told-before` the face was
 -- counted before · `before-ended`, `after-ended` an end has a side across.
+-- `fit-renamed` the same strides by other names.
 -- Assumes nothing.
 use Rattle.std.specs.Prelude.{◌≡◌, ◌⊎◌, ◌&&◌, ◌||◌, List, Option, Some, None}
 use Rattle.std.proofs.Math.Path.{refl, sym, ap}
@@ -29,12 +30,25 @@ use Rattle.firsts.specs.Earlier.{face_before, face_on}
 use Rattle.firsts.specs.EarlierLaws.{holds-slot, earlier-held, valid-inner}
 use Rattle.firsts.specs.FaceLaws.{makes-names, next-below}
 use Rattle.firsts.specs.NearFarLaws.{one_of, left-of, right_of, prev-next, near-has}
-use Rattle.firsts.specs.Strides.{walk_of, back_of, opposite_by, FitIn, FitsBy, Told, ToldOf, told_earlier}
+use Rattle.firsts.specs.Strides.{walk_of, back_of, opposite_by, FitIn, FitThere, FitsBy, Told, ToldOf, told_earlier}
 use Rattle.firsts.specs.StrideLaws.{to_adjacent, adjacent-some, adjacent-walk, back_some, back-walk, to_opposite, from_next, side-walk, other-walk}
 use Rattle.firsts.specs.StrideLaws.{stride-turn, some-opposite}
 use Rattle.firsts.specs.declared.earlier.Placed.{Placed}
 use Rattle.firsts.specs.declared.faces.Face.{Face}
 use Rattle.firsts.specs.declared.fits.Fits.{Fits}
+
+-- ---- with other names of the same numbers
+pub fit-renamed : (t : List ℕ) (s d r : ℕ) {n m x x' y y' z z' : ℕ} → n ≡ m → x ≡ x' → y ≡ y' → z ≡ z' → FitThere t s (ltb d n) x y z r
+    → FitThere t s (ltb d m) x' y' z' r
+fit-renamed t s d r {n} {m} {x} {x'} {y} {y'} {z} {z'} en ex ey ez f =
+    subst (λ (w : ℕ). FitThere t s (ltb d m) x' y' w r) ez
+    (subst (λ (w : ℕ). FitThere t s (ltb d m) x' w z r) ey
+    (subst (λ (w : ℕ). FitThere t s (ltb d m) w y z r) ex (subst (λ (w : ℕ). FitThere t s (ltb d w) x y z r) en f)))
+
+pub fit-renamed-true : (t : List ℕ) (s r : ℕ) {x x' y y' z z' : ℕ} → x ≡ x' → y ≡ y' → z ≡ z' → FitThere t s true x y z r → FitThere t s true x' y' z' r
+fit-renamed-true t s r {x} {x'} {y} {y'} {z} {z'} ex ey ez f =
+    subst (λ (w : ℕ). FitThere t s true x' y' w r) ez
+    (subst (λ (w : ℕ). FitThere t s true x' w z r) ey (subst (λ (w : ℕ). FitThere t s true w y z r) ex f))
 
 -- ---- what stands in a slot
 
@@ -240,6 +254,9 @@ module _ (t : List ℕ) (o : InOrder t) where
         held-slot p s es g = holds-slot t o.fits p ∙ ap (λ (u : ℕ). ltb u (slots_of t)) (sym es) ∙ g
 
 -- ---- what is told of a face
+
+pub told-nothing : (t : List ℕ) (s : ℕ) (f : Face) → Told t s f 0
+told-nothing t s f = record { adjacent = λ h. absurd (omega arith); next = λ h. absurd (omega arith); face = λ h. absurd (omega arith) }
 
 module _ (t : List ℕ) (k : ℕ) (l : k ≤ slots_of t) (f : Face) (a o b : ℕ) (r : Fits) (told : ToldOf t f a o b r) where
   pub told-before : a ≡ slot_in t f.adjacent → o ≡ slot_in t f.opposite → b ≡ slot_in t f.next → told_earlier r a o b k ≡ true → face_before t k f ≡ true

@@ -22,6 +22,6 @@ pub use points::{Depth, Point, Terms, added, both3, normalise, power, same_point
 pub use ranks::{birth, class, moved, parent, rank};
 pub use records::{Level, Record, blank, size, valid};
 pub use refusals::{DONE, Fault, Refusal, Stopped, number_told};
-pub use rows::{ANSWER_NUMBERS, point_at, put_point, refuse_row};
+pub use rows::{ANSWER_NUMBERS, point_at, put_point, refuse_answer, refuse_row};
 pub use stars::{Answer, adjacent_of, first_of, ring, second_of, star};
 pub use updates::{accepts, back, born, centre, updated};

@@ -43,11 +43,20 @@ pub fn point_at(row: &[i32; ANSWER_NUMBERS], v: Record, j: u8) -> Point
     }
 }
 
-// A refusal: count 0 and all zeros.
-pub fn refuse_row(out: &mut [i32; ANSWER_NUMBERS], why: Refusal) -> Result<(), Refusal>
+// A refusal by any number: count 0 and all zeros.
+pub fn refuse_row(out: &mut [i32; ANSWER_NUMBERS], number: u8) -> u8
+    ensures value { result ≡ number }
+    ensures out_after { out.new ≡ answer_numbers (refused number) }
+{
+    *out = [0; ANSWER_NUMBERS];
+    number
+}
+
+// The same by why it is refused.
+pub fn refuse_answer(out: &mut [i32; ANSWER_NUMBERS], why: Refusal) -> Result<(), Refusal>
     ensures value { result ≡ Err why }
     ensures out_after { out.new ≡ answer_numbers (refused (number_of why)) }
 {
-    *out = [0; ANSWER_NUMBERS];
+    refuse_row(out, why.number());
     Err(why)
 }

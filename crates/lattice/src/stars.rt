@@ -14,7 +14,7 @@ use crate::patterns::{adjacent, first_opposite, second_opposite};
 use crate::points::{Depth, Point, added, sum};
 use crate::records::{Level, Record, valid};
 use crate::refusals::Refusal;
-use crate::rows::{ANSWER_NUMBERS, put_point, refuse_row};
+use crate::rows::{ANSWER_NUMBERS, put_point, refuse_answer};
 
 // What the star call and the queries answer: document 01's number, the count, and six points of which the unused are [0, 0, 0]. It is no Result: `star_of`
 // and `query_of`, which promises cite, give it, and no code makes one.
@@ -143,11 +143,11 @@ pub fn star(out: &mut [i32; ANSWER_NUMBERS], r: Record) -> Result<(), Refusal>
     ensures out_after { out.new ≡ answer_numbers (star_of r) }
 {
     if !valid(r) {
-        return refuse_row(out, Refusal::NotValid);
+        return refuse_answer(out, Refusal::NotValid);
     }
     let d = r.d;
     if d == 0 {
-        return refuse_row(out, Refusal::Boundary);
+        return refuse_answer(out, Refusal::Boundary);
     }
     ring(out, r);
     Ok(())

@@ -12,7 +12,7 @@ ghost use Rattle.lattice.specs.AnswerRows.{answer_numbers};
 use crate::opposites::{adjacents_there, chosen, opposite_by};
 use lattice::{
     ANSWER_NUMBERS, Record, Refusal, added, far_arm, first_arm, near_arm, next_arm, put_point,
-    refuse_row, regular, ring,
+    refuse_answer, regular, ring,
 };
 use table::{held_in, in_order, slot_by_guess, slots_of, stands};
 
@@ -122,7 +122,7 @@ fn answer_at(
     ensures out_after { out.new ≡ answer_numbers (answer_at q t.now v) }
 {
     if !star_there(t, v, n, out) {
-        return refuse_row(out, Refusal::Torn);
+        return refuse_answer(out, Refusal::Torn);
     }
     match q {
         Query::Neighbours => Ok(()),
@@ -130,7 +130,7 @@ fn answer_at(
             if put_opposites(t, v, n, out) {
                 return Ok(());
             }
-            refuse_row(out, Refusal::Torn)
+            refuse_answer(out, Refusal::Torn)
         }
     }
 }
@@ -149,13 +149,13 @@ pub fn answer_in_slot(
     ensures out_after { out.new ≡ answer_numbers (slot_answer q t.now n i) }
 {
     if n <= i {
-        return refuse_row(out, Refusal::NoRecord);
+        return refuse_answer(out, Refusal::NoRecord);
     }
     match held_in(t, i) {
-        None => refuse_row(out, Refusal::NoRecord),
+        None => refuse_answer(out, Refusal::NoRecord),
         Some(v) => {
             if v.d == 0 {
-                return refuse_row(out, Refusal::Boundary);
+                return refuse_answer(out, Refusal::Boundary);
             }
             answer_at(q, t, v, n, out)
         }
@@ -175,7 +175,7 @@ fn answer(
     ensures out_after { out.new ≡ answer_numbers (query_of (answer_at q t.now) t.now a b m) }
 {
     if !in_order(t) {
-        return refuse_row(out, Refusal::NotInOrder);
+        return refuse_answer(out, Refusal::NotInOrder);
     }
     let n = slots_of(t);
     let i = slot_by_guess(t, a, b, m, n, n);

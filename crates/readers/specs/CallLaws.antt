@@ -1,5 +1,5 @@
 -- How the readers end, by cases: `full-judged` what `read_full` answers past the lines · `Closes` how a call ends past the lines of a reduced file:
--- `restored-order`, `restored-slots`, `restored-kept` what restoring leaves, `end-judged`, `mended-closes` · `lined-again` and `reduced-refused`,
+-- `restored-order`, `restored-slots`, `restored-kept` what restoring leaves, `end-stopped`, `end-judged`, `mended-closes` · `lined-again` and `reduced-refused`,
 -- `reduced-read`: what `read_reduced` answers then.
 -- Assumes nothing.
 use Rattle.std.specs.Prelude.{◌≡◌, refl, Bool, cond, List, ℕ, eqb}
@@ -11,7 +11,7 @@ use Rattle.table.specs.Order.{InOrder}
 use Rattle.writers.specs.Files.{redundant}
 use Rattle.local.specs.Sheet.{passes_all}
 use Rattle.grown.specs.Grown.{grown-passes}
-use Rattle.readers.specs.Readers.{Read, TablesAfter, refused, accepted, read_full_of, Restored, With, restore_all, end_restored, read_reduced_of}
+use Rattle.readers.specs.Readers.{Read, TablesAfter, refused, accepted, read_full_of, Restored, With, Stopped, restore_all, end_restored, read_reduced_of}
 use Rattle.readers.specs.Additions.{Adds, adds-as, adds-slots}
 use Rattle.readers.specs.ReadLaws.{Lined}
 use Rattle.readers.specs.RestoreLaws.{RestoredOf, restore-all}
@@ -55,6 +55,9 @@ module _ (f : List ℕ) (n : ℕ) (rs : List Record) (t u : List ℕ) (w : Lined
   restored-kept = keeps-redundant f n rs t u w adds
 
 module _ (t s : List ℕ) (rs : List Record) (x : Restored) where
+  pub end-stopped : (number : ℕ) (u : List ℕ) → (number ≡ 0 → ⊥) → x ≡ Stopped number → closed_by t s number u ≡ end_restored t s rs x
+  end-stopped number u z e = ap (λ (b : Bool). cond b (accepted u s) (refused number 0 t s)) (ne_eqb number 0 z) ∙ ap (end_restored t s rs) (sym e)
+
   pub end-judged : (u : List ℕ) → x ≡ With u → InOrder u → (g k : Bool) → passes_all u ≡ g → some_of (redundant u) rs ≡ k
       → cond g (cond k (refused 12 0 t s) (accepted u s)) (refused 11 0 t s) ≡ end_restored t s rs x
   end-judged u e o g k h i =

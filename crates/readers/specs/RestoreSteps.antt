@@ -1,8 +1,8 @@
 -- What a reduced file leaves out, step by step as the code enters it.
--- `restored_by` a number and a table as what restoring has come to · `restore-there`, `restore-entered` one record · `Mends` a
--- step, and whether it met a record that should not be there: `mends_there`, `mends-entered`, `mends-stopped` ·
--- `to_none`, `to-more`, `to-stopped` one star, `Rounding` so far · `star-six` · `file_records` the records of a file, read again:
--- `read-records` · `Restoring` so far: `restoring-start`, `restoring-over`, `restoring-more`, `restoring-stopped`.
+-- `restored_by` a number and a table as what restoring has come to · `restore-there`, `restore-entered`, `restore-invalid`,
+-- `restore-full`, `restore-neither` one record · `Mends` a step, and whether it met a record that should not be there: `mends_there`, `mends-entered`,
+-- `mends-stopped` · `to_none`, `to-more`, `to-stopped` one star, `Rounding` so far · `star-six`, `star-other` · `file_records` the records of a file, read again:
+-- `read-records` · `Restoring` so far: `restoring-start`, `restoring-end`, `restoring-bad`, `restoring-over`, `restoring-more`, `restoring-stopped`.
 -- Assumes nothing.
 use Rattle.std.specs.Prelude.{◌≡◌, Bool, true, false, cond, ◌||◌, eqb, length, Result, Ok, Err, Option, Some, None}
 use Rattle.std.proofs.Math.Path.{refl, sym, ap}
@@ -55,6 +55,16 @@ module _ (t : List ℕ) (r : Record) where
 
   pub restore-entered : (i : ℕ) → find_of t r.at ≡ found.Free i → valid_of r ≡ true → With (put_slot t i r) ≡ restore (With t) r
   restore-entered i e v = ap With (put-enter t r i e) ∙ ap (λ (b : Bool). cond b (With (enter_of t r)) (Stopped 11)) (sym v) ∙ restore-by (found.Free i) e
+
+  pub restore-invalid : (i : ℕ) → find_of t r.at ≡ found.Free i → valid_of r ≡ false → Stopped 11 ≡ restore (With t) r
+  restore-invalid i e v = ap (λ (b : Bool). cond b (With (enter_of t r)) (Stopped 11)) (sym v) ∙ restore-by (found.Free i) e
+
+  pub restore-full : find_of t r.at ≡ found.Full → valid_of r ≡ true → Stopped 8 ≡ restore (With t) r
+  restore-full e v = ap (λ (b : Bool). Stopped (cond b 8 11)) (sym v) ∙ restore-by found.Full e
+
+  -- neither valid nor a slot: 11
+  pub restore-neither : find_of t r.at ≡ found.Full → valid_of r ≡ false → Stopped 11 ≡ restore (With t) r
+  restore-neither e v = ap (λ (b : Bool). Stopped (cond b 8 11)) (sym v) ∙ restore-by found.Full e
 
 -- whether a record was met that should have been left out
 abbrev pub kept_told : Result Bool Refusal → Bool
@@ -116,6 +126,9 @@ module _ (v : Record) (x : Restored) where
 
   pub star-six : v.d ≡ 6 → restore_to v 6 x ≡ restore_star v x
   star-six e = ap (λ (b : Bool). cond b (restore_to v 6 x) x) (sym (eq-eqb v.d 6 e))
+
+  pub star-other : (v.d ≡ 6 → ⊥) → x ≡ restore_star v x
+  star-other e = ap (λ (b : Bool). cond b (restore_to v 6 x) x) (sym (ne_eqb v.d 6 e))
 
 -- the first j adjacent points of v restored in t to u
 pub record Rounding (t₀ t : List ℕ) (v : Record) (j : ℕ) (u : List ℕ) (kept : Bool) : Type 0 where
@@ -253,6 +266,12 @@ module _ {f t₀ t₁ : List ℕ} {p : ℕ} {t : List ℕ} {kept : Bool} (w : Re
         since = λ o z. w.since;
         keeps = λ o z. sym (w.keeps ∙ ap (λ (rs : List Record). kept || keeps rs) e ∙ or-false kept);
       }
+
+  pub restoring-end : line_at f p ≡ End → Mends t₀ t₁ all (keeps (file_records f)) 0 kept t
+  restoring-end e = ended (step End e)
+
+  pub restoring-bad : line_at f p ≡ Bad → Mends t₀ t₁ all (keeps (file_records f)) 0 kept t
+  restoring-bad e = ended (step Bad e)
 
   pub restoring-over : ((v : Record) (next : ℕ) → line_at f p ≡ Good v next → ⊥) → Mends t₀ t₁ all (keeps (file_records f)) 0 kept t
   restoring-over other = go (line_at f p) refl

@@ -1,9 +1,9 @@
 -- What the written numbers obey: the digits of a number are those of its tens and its last, so every law goes by tens.
 -- `digits-small`, `digits_more` the two cases · `by-tens` induction · `Digits` bytes that are digits, `digits_are` · `digits_value` what the digits
 -- count, `value-digits` the number that digits without a leading zero write · `digits-plain` no leading zero · `width_above`, `width-below`,
--- `digits-some`, `width-log` how many there are · `numeral-minus` the sign.
+-- `digits-some`, `width-tens`, `width-log` how many there are · `numeral-minus`, `numeral-plus` the sign.
 -- Assumes nothing.
-use Rattle.std.specs.Prelude.{◌≡◌, refl, Bool, true, cond, List, [], ◌∷◌, ◌++◌, ℕ, zero, suc, ◌+◌, ◌*◌, ◌%◌, ◌/◌, ◌≤◌, ◌<◌, ◌-◌, ◌^◌, max, eqb, ltb, leb, ℤ, pos, negsuc, nat_abs, length, get_or}
+use Rattle.std.specs.Prelude.{◌≡◌, refl, Bool, true, false, cond, List, [], ◌∷◌, ◌++◌, ℕ, zero, suc, ◌+◌, ◌*◌, ◌%◌, ◌/◌, ◌≤◌, ◌<◌, ◌-◌, ◌^◌, max, eqb, ltb, leb, ℤ, pos, negsuc, nat_abs, length, get_or}
 use Rattle.std.proofs.Common.{sym, ◌∙◌, subst, ap, append-nil, append_assoc, arith, lt-ltb, le-ltb, le-leb, eq-eqb, ne_eqb, leb-true, ltb-true, length-append}
 use Rattle.std.proofs.Math.Decide.{dec_lt, ℕ_discrete}
 use Rattle.std.proofs.Math.Nat.{pow-succ', one-le-pow}
@@ -193,6 +193,82 @@ width-below (suc (suc w)) n z h = go (λ l. width-below (suc w) (n / 10) (omega 
         let tens : n / 10 < 10 ^ suc w = omega arith in
         omega (arith, r tens, more-length n (omega arith))
 
+-- the same below a million, by how many of the numbers before a power of ten it is past
+abbrev pub over : ℕ → ℕ → ℕ
+over most n = cond (ltb most n) 1 0
+
+is-over : (most n : ℕ) → most < n → over most n ≡ 1
+is-over most n h = rw (lt-ltb most n h)
+
+not-over : (most n : ℕ) → n ≤ most → over most n ≡ 0
+not-over most n h = rw (le-ltb most n h)
+
+pub width-tens : (n : ℕ) → n < 1000000 → 1 + over 9 n + over 99 n + over 999 n + over 9999 n + over 99999 n ≡ length (digits n)
+width-tens n top = go (dec_lt 9 n) (dec_lt 99 n) (dec_lt 999 n) (dec_lt 9999 n) (dec_lt 99999 n)
+  where
+    go : Dec (9 < n) → Dec (99 < n) → Dec (999 < n) → Dec (9999 < n) → Dec (99999 < n)
+        → 1 + over 9 n + over 99 n + over 999 n + over 9999 n + over 99999 n ≡ length (digits n)
+    go (no h) b c d e = omega (
+      arith,
+      not-over 9 n (omega arith),
+      not-over 99 n (omega arith),
+      not-over 999 n (omega arith),
+      not-over 9999 n (omega arith),
+      not-over 99999 n (omega arith),
+      digits-some n,
+      width-below 1 n (omega arith) (omega arith),
+    )
+    go (yes h) (no i) c d e = omega (
+      arith,
+      is-over 9 n h,
+      not-over 99 n (omega arith),
+      not-over 999 n (omega arith),
+      not-over 9999 n (omega arith),
+      not-over 99999 n (omega arith),
+      width_above 1 n (omega arith),
+      width-below 2 n (omega arith) (omega arith),
+    )
+    go (yes h) (yes i) (no j) d e = omega (
+      arith,
+      is-over 9 n h,
+      is-over 99 n i,
+      not-over 999 n (omega arith),
+      not-over 9999 n (omega arith),
+      not-over 99999 n (omega arith),
+      width_above 2 n (omega arith),
+      width-below 3 n (omega arith) (omega arith),
+    )
+    go (yes h) (yes i) (yes j) (no k) e = omega (
+      arith,
+      is-over 9 n h,
+      is-over 99 n i,
+      is-over 999 n j,
+      not-over 9999 n (omega arith),
+      not-over 99999 n (omega arith),
+      width_above 3 n (omega arith),
+      width-below 4 n (omega arith) (omega arith),
+    )
+    go (yes h) (yes i) (yes j) (yes k) (no l) = omega (
+      arith,
+      is-over 9 n h,
+      is-over 99 n i,
+      is-over 999 n j,
+      is-over 9999 n k,
+      not-over 99999 n (omega arith),
+      width_above 4 n (omega arith),
+      width-below 5 n (omega arith) (omega arith),
+    )
+    go (yes h) (yes i) (yes j) (yes k) (yes l) = omega (
+      arith,
+      is-over 9 n h,
+      is-over 99 n i,
+      is-over 999 n j,
+      is-over 9999 n k,
+      is-over 99999 n l,
+      width_above 5 n (omega arith),
+      width-below 6 n (omega arith) (omega arith),
+    )
+
 -- one more than the whole part of the logarithm, which 0 takes from 1
 pub width-log : (w n : ℕ) → 10 ^ w ≤ max n 1 → max n 1 < 10 * 10 ^ w → w + 1 ≡ length (digits n)
 width-log w zero h k = go w h
@@ -206,7 +282,11 @@ width-log w (suc n) h k =
 
 -- ---- signs
 
--- a number's text by its size n, where a test of its sign was taken
+-- a number's text by its size n, where a test of its sign was taken, or left
 pub numeral-minus : (z : ℤ) (n : ℕ) → lt_z z (pos 0) ≡ true → n ≡ nat_abs z → numeral z ≡ minus ∷ digits n
 numeral-minus (pos m) n h e = absurd (omega (arith, ltb-true m 0 h))
 numeral-minus (negsuc m) n h e = ap (λ (k : ℕ). minus ∷ digits k) (sym e)
+
+pub numeral-plus : (z : ℤ) (n : ℕ) → lt_z z (pos 0) ≡ false → n ≡ nat_abs z → numeral z ≡ digits n
+numeral-plus (pos m) n h e = ap digits (sym e)
+numeral-plus (negsuc m) n h e = absurd (never (sym h))

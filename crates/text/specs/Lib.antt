@@ -11,6 +11,7 @@ pub mod ReadingLaws
 pub mod Near
 pub mod LineLengths
 pub mod Back
+pub mod Copy
 pub mod Shorter
 pub mod LineOrder
 pub mod LineCount

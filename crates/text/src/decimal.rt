@@ -62,12 +62,24 @@ pub fn read_signed(t: &[u8], at: usize, most: u32, stop: u8) -> Option<(i32, usi
     }
 }
 
-// How many digits a number has.
+// Every numerator of a record is below it.
+const MILLION: u32 = 1000000;
+
+// How many digits a number has. No branch on which: how long the next number is cannot be foreseen.
 pub fn width(n: u32) -> usize
     ensures value { result ≡ length (digits n) }
     ensures lower_bound { (1 ≤ result) × (result ≤ 10) }
 {
-    n.max(1).ilog10() as usize + 1
+    if n < MILLION {
+        let two = usize::from(9 < n);
+        let three = usize::from(99 < n);
+        let four = usize::from(999 < n);
+        let five = usize::from(9999 < n);
+        let six = usize::from(99999 < n);
+        1 + two + three + four + five + six
+    } else {
+        n.ilog10() as usize + 1
+    }
 }
 
 // Writes a number's digits, the last before a position, from the last back, and gives the position of the first.

@@ -2,9 +2,9 @@
 -- Write by write: what entered last leaves first, and leaves every byte as it was (`enter-unenter`): its slot was free, so it is on no record's way; each
 -- record replaced is told by what replaced it (`earlier-update`), and put back (`replace-back`).
 -- `subdivided-bytes` a table of bytes stays one · `unentered-more`, `restored-more` .. as the loops go · `earlier_slot`, `restore-at` a vertex by its slot ·
--- `undone-is`, `replaced-at`.
+-- `former-inner`, `undone-is`, `replaced-at`.
 -- Assumes nothing.
-use Rattle.std.specs.Prelude.{◌≡◌, true, ℕ, zero, suc, ◌+◌, ◌*◌, ◌-◌, ◌≤◌, ◌<◌, length, Option, Some, None}
+use Rattle.std.specs.Prelude.{◌≡◌, true, ℕ, zero, suc, ◌+◌, ◌*◌, ◌-◌, ◌%◌, ◌≤◌, ◌<◌, length, Option, Some, None}
 use Rattle.std.proofs.Math.Path.{refl, ap}
 use Rattle.std.proofs.Common.{sym, ◌∙◌, subst}
 use mathlib.Core.List.{List}
@@ -12,7 +12,7 @@ use native.Mathlib.Omega.{arith}
 use Rattle.laws.specs.Choices.{is_true, of-true}
 use Rattle.lattice.specs.Stars.{adjacent_at}
 use Rattle.lattice.specs.Records.{valid_of}
-use Rattle.lattice.specs.RecordLaws.{inner}
+use Rattle.lattice.specs.RecordLaws.{Inner, inner}
 use Rattle.lattice.specs.Subdivision.{centre_of, new_of, back_of, update_of}
 use Rattle.lattice.specs.declared.points.Point.{Point}
 use Rattle.lattice.specs.declared.records.Record.{Record}
@@ -244,6 +244,26 @@ module _ (t : List ℕ) (w : Table t (slots_of t)) (v : Record) (j : ℕ) where
 
   pub restore-absent : look_up t (adjacent_at v j) ≡ None → t ≡ restore_of t v j
   restore-absent e = ap (restore_at t v j) (sym e)
+
+-- v before, as the code asks it
+pub former-inner : (c : Record) → Inner c → c.d ≡ 6 → 0 < c.n.0 → Inner (former_of c)
+former-inner c i six up =
+    let p = i.parity in
+    let l = i.level in
+    record {
+      normal = i.normal;
+      depth = i.depth;
+      wide = i.wide;
+      high = i.high;
+      low = i.low;
+      top = i.top;
+      turn = rw six (omega arith);
+      level = omega arith;
+      parity = other c.k c.n.0 up p;
+    }
+  where
+    other : (k n : ℕ) → 0 < n → k % 2 ≡ n % 2 → (k + 1) % 2 % 2 ≡ (n - 1) % 2
+    other k n l h = omega arith
 
 pub undone-is : (t : List ℕ) (c : Record) → replace_of (restored_to (unentered_to t c 6) (former_of c) 6) (former_of c) ≡ undone t c
 unfolding undone

@@ -13,7 +13,7 @@ use Rattle.std.proofs.Math.ListN.{length}
 use Rattle.std.proofs.Math.Seq.{get_or-append_seam}
 use Rattle.lattice.specs.Records.{valid_of}
 use Rattle.lattice.specs.declared.records.Record.{Record}
-use Rattle.table.specs.Slots.{slots_of, slot_at, is_free, free_below}
+use Rattle.table.specs.Slots.{slot_width, slots_of, slot_at, is_free, free_below}
 use Rattle.table.specs.Order.{InOrder}
 use Rattle.table.specs.Entries.{listed}
 use Rattle.text.specs.Line.{line_of, lines}
@@ -144,6 +144,9 @@ kept-valid t o m i r l e = o.valid i r l (kept-part t m i r e)
 
 pub kept_near : (t : List ℕ) → InOrder t → (m : List ℕ) (i : ℕ) (r : Record) → i < slots_of t → kept_at t m i ≡ Some r → Near r
 kept_near t o m i r l e = valid-near r (kept-valid t o m i r l e)
+
+pub slot-room : (t : List ℕ) → InOrder t → (i : ℕ) → i < slots_of t → (slot_width * i + slot_width ≤ length t) × (i < places)
+slot-room t o i l = (omega (arith, o.fits.long), omega (arith, o.fits.most))
 
 pub written_none : (s : Option Record) → s ≡ None → 0 ≡ length (lines (listed s))
 unfolding lines

@@ -1,7 +1,6 @@
 -- `lattice::rows::refuse_row` meets its promise: all zeros. Assumes nothing.
 use Rattle.lattice.specs.AnswerRowLaws.{row-zeros}
-use Rattle.lattice.specs.Refusals.{number_of}
 use Rattle.lattice.proofs.rows.refuse_row.Goals as goal
 
 pub returns-clause-out_after : goal.returns-clause-out_after
-returns-clause-out_after c = row-zeros (number_of c.args.why)
+returns-clause-out_after c = row-zeros c.args.number

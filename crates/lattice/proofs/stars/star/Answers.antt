@@ -9,20 +9,20 @@ use Rattle.lattice.proofs.stars.star.Goals as goal
 
 pub returns-then-not-valid-clause-value : goal.returns-then-not-valid-clause-value
 returns-then-not-valid-clause-value c =
-    ap number_told c.refuse_row.ensures.value ∙ (answer-parts (star-invalid c.args.r (sym c.valid.ensures ∙ c.if-not-valid.true))).0
+    ap number_told c.refuse_answer.ensures.value ∙ (answer-parts (star-invalid c.args.r (sym c.valid.ensures ∙ c.if-not-valid.true))).0
 
 pub returns-then-not-valid-clause-out_after : goal.returns-then-not-valid-clause-out_after
 returns-then-not-valid-clause-out_after c =
-    c.refuse_row.ensures.out_after ∙ (answer-parts (star-invalid c.args.r (sym c.valid.ensures ∙ c.if-not-valid.true))).1
+    c.refuse_answer.ensures.out_after ∙ (answer-parts (star-invalid c.args.r (sym c.valid.ensures ∙ c.if-not-valid.true))).1
 
 pub returns-then-d-eq0-clause-value : goal.returns-then-d-eq0-clause-value
 returns-then-d-eq0-clause-value c =
-    ap number_told c.refuse_row-then-d-eq0.ensures.value
+    ap number_told c.refuse_answer-then-d-eq0.ensures.value
     ∙ (answer-parts (star-boundary c.args.r (sym c.valid.ensures ∙ c.if-not-valid.false) c.if-d-eq0.true)).0
 
 pub returns-then-d-eq0-clause-out_after : goal.returns-then-d-eq0-clause-out_after
 returns-then-d-eq0-clause-out_after c =
-    c.refuse_row-then-d-eq0.ensures.out_after
+    c.refuse_answer-then-d-eq0.ensures.out_after
     ∙ (answer-parts (star-boundary c.args.r (sym c.valid.ensures ∙ c.if-not-valid.false) c.if-d-eq0.true)).1
 
 -- past both tests the record is valid, and inside

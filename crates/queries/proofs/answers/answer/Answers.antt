@@ -15,7 +15,7 @@ pub returns-then-not-in_order : goal.returns-then-not-in_order
 returns-then-not-in_order c =
     let a = c.args in
     let p = answer-parts (query-refused (answer_at a.q a.t.now) a.t.now a.a a.b a.m (sym c.in_order.ensures ∙ c.if-not-in_order.true)) in
-    record { value = ap number_told c.refuse_row.ensures.value ∙ p.0; out_after = c.refuse_row.ensures.out_after ∙ p.1 }
+    record { value = ap number_told c.refuse_answer.ensures.value ∙ p.0; out_after = c.refuse_answer.ensures.out_after ∙ p.1 }
 
 pub slot_by_guess-i-requires : goal.slot_by_guess-i-requires
 slot_by_guess-i-requires c =

@@ -15,7 +15,7 @@ put false e a = absurd (cc)
 pub returns-then-not-star_there : goal.returns-then-not-star_there
 returns-then-not-star_there c =
     let p = answer-parts (answer-torn c.args.q c.args.t.now c.args.v (sym c.star_there.ensures.value ∙ c.if-not-star_there.true)) in
-    record { value = ap number_told c.refuse_row.ensures.value ∙ p.0; out_after = c.refuse_row.ensures.out_after ∙ p.1 }
+    record { value = ap number_told c.refuse_answer.ensures.value ∙ p.0; out_after = c.refuse_answer.ensures.out_after ∙ p.1 }
 
 pub put_opposites-requires : goal.put_opposites-requires
 put_opposites-requires c = record { asked = c.requires; out_value = put c.star_there.result c.if-not-star_there.false c.star_there.ensures.when_true }
@@ -44,4 +44,4 @@ returns-else-put_opposites c =
     let here = sym c.star_there.ensures.value ∙ c.if-not-star_there.false in
     let e = faces-cornered t v here false (sym c.if-put_opposites.false ∙ c.put_opposites.ensures.value) in
     let p = answer-parts (e ∙ ap (λ (q : Query). answer_at q t v) (sym c.in-Faces.is)) in
-    record { value = ap number_told c.refuse_row-in-Faces.ensures.value ∙ p.0; out_after = c.refuse_row-in-Faces.ensures.out_after ∙ p.1 }
+    record { value = ap number_told c.refuse_answer-in-Faces.ensures.value ∙ p.0; out_after = c.refuse_answer-in-Faces.ensures.out_after ∙ p.1 }

@@ -33,19 +33,19 @@ pub returns-then-n-i : goal.returns-then-n-i
 unfolding by
 returns-then-n-i c =
     let p = answer-parts (ap (by c.args.q c.args.t.now c.args.n c.args.i) (sym (le-ltb c.args.i c.args.n (omega arith)))) in
-    record { value = ap number_told c.refuse_row.ensures.value ∙ p.0; out_after = c.refuse_row.ensures.out_after ∙ p.1 }
+    record { value = ap number_told c.refuse_answer.ensures.value ∙ p.0; out_after = c.refuse_answer.ensures.out_after ∙ p.1 }
 
 pub returns-in-None : goal.returns-in-None
 returns-in-None c =
     let p = answer-parts (looked c.args.q c.args.t.now c.args.n c.args.i (omega arith) None (sym c.in-None.is ∙ c.held_in.ensures)) in
-    record { value = ap number_told c.refuse_row-in-None.ensures.value ∙ p.0; out_after = c.refuse_row-in-None.ensures.out_after ∙ p.1 }
+    record { value = ap number_told c.refuse_answer-in-None.ensures.value ∙ p.0; out_after = c.refuse_answer-in-None.ensures.out_after ∙ p.1 }
 
 pub returns-then-v-eq0 : goal.returns-then-v-eq0
 returns-then-v-eq0 c =
     let here = sym c.in-Some.is ∙ c.held_in.ensures in
     let e = at-degree c.args.q c.args.t.now c.args.n c.args.i (omega arith) c.in-Some.v here _ (eq-eqb _ _ c.if-v-eq0.true) in
     let p = answer-parts e in
-    record { value = ap number_told c.refuse_row-then-v-eq0.ensures.value ∙ p.0; out_after = c.refuse_row-then-v-eq0.ensures.out_after ∙ p.1 }
+    record { value = ap number_told c.refuse_answer-then-v-eq0.ensures.value ∙ p.0; out_after = c.refuse_answer-then-v-eq0.ensures.out_after ∙ p.1 }
 
 pub answer_at-requires : goal.answer_at-requires
 answer_at-requires c =
